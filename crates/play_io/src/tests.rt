@@ -1,0 +1,83 @@
+use super::*;
+use std::alloc::AllocError;
+use std::io;
+use std::io::{Read, Write};
+use std::test::Fail;
+
+// A device that fails each time.
+#[derive(Drop)]
+struct Broken;
+
+impl Read for Broken {
+    fn read(&mut self, _buf: &mut [u8]) -> io::Result<usize> {
+        Err(io::Error::from(AllocError))
+    }
+}
+
+impl Write for Broken {
+    fn write(&mut self, _buf: &[u8]) -> io::Result<usize> {
+        Err(io::Error::from(AllocError))
+    }
+
+    fn flush(&mut self) -> io::Result<()> {
+        Err(io::Error::from(AllocError))
+    }
+}
+
+// A writer that takes nothing.
+#[derive(Drop)]
+struct Stuck;
+
+impl Write for Stuck {
+    fn write(&mut self, _buf: &[u8]) -> io::Result<usize> {
+        Ok(0)
+    }
+
+    fn flush(&mut self) -> io::Result<()> {
+        Ok(())
+    }
+}
+
+#[test]
+fn an_honest_source_hands_out_at_most_so_many_bytes(rt: HostRuntime) -> Result<(), Fail> {
+    let mut source = HonestSource::new(rt.alloc(), b"abc", 2)?;
+    let mut into = [0u8; 4];
+    let mut none = [0u8; 0];
+    assert_eq!(rt; source.read(&mut none), Ok(0));
+    assert_eq!(rt; source.read(&mut into), Ok(2));
+    assert_eq!(rt; into, [b'a', b'b', 0, 0]);
+    assert_eq!(rt; source.read(&mut into), Ok(1));
+    assert_eq!(rt; into, [b'c', b'b', 0, 0]);
+    assert_eq!(rt; source.read(&mut into), Ok(0));
+    Ok(())
+}
+
+#[test]
+fn an_honest_sink_takes_at_most_so_many_bytes(rt: HostRuntime) -> Result<(), Fail> {
+    let mut sink = HonestSink::new(rt.alloc(), 2);
+    assert_eq!(rt; sink.write(b"abc"), Ok(2));
+    assert_eq!(rt; sink.write(b"c"), Ok(1));
+    assert_eq!(rt; sink.flush(), Ok(()));
+    assert_eq!(rt; sink.bytes(), b"abc".as_slice());
+    Ok(())
+}
+
+#[test]
+fn files_pass_on_bytes_and_faults(rt: HostRuntime) -> Result<(), Fail> {
+    let mut into = [0u8; 2];
+    let mut source = FileSource::new(b"abc".as_slice());
+    assert_eq!(rt; source.read(&mut into), Ok(2));
+    assert_eq!(rt; into, *b"ab");
+    assert_eq!(rt; source.read(&mut into), Ok(1));
+    assert_eq!(rt; source.read(&mut into), Ok(0));
+    assert_eq!(rt; FileSource::new(Broken).read(&mut into), Err(Failed));
+
+    let mut sink = FileSink::new(Vec::new(rt.alloc()));
+    assert_eq!(rt; sink.write(b"abc"), Ok(3));
+    assert_eq!(rt; sink.write(b""), Ok(0));
+    assert_eq!(rt; sink.flush(), Ok(()));
+    assert_eq!(rt; FileSink::new(Broken).write(b"abc"), Err(SinkFault::Failed));
+    assert_eq!(rt; FileSink::new(Broken).flush(), Err(SinkFault::Failed));
+    assert_eq!(rt; FileSink::new(Stuck).write(b"abc"), Err(SinkFault::Failed));
+    Ok(())
+}
