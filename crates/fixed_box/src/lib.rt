@@ -2,14 +2,12 @@
 #![tactic(auto)]
 
 mod fbox;
+mod no_memory;
 mod point;
 
 pub use fbox::FBox;
+pub use no_memory::NoMemory;
 pub use point::Point;
 
 /// A coordinate in raw units: `raw` stands for `raw / 65,536`.
 pub type Fix = i32;
-
-/// Memory ran out. Each crate of the suite answers want of memory by this one type.
-#[derive(Clone, Copy, Debug, PartialEq, Eq)]
-pub struct NoMemory;

@@ -1,0 +1,131 @@
+ghost use Rattle.std.specs.Prelude.{◌≡◌, ◌≤◌, ◌++◌, false, T, IfOk, OnOk, OnErr, length, take, insert, vec_len};
+ghost use Rattle.std.specs.Ordering.{nat_cmp};
+ghost use Rattle.std.specs.FinMap as map;
+ghost use Rattle.fixed_box.specs.Bounds.{Bounds};
+ghost use Rattle.broad_index.specs.Index.{bodies_of};
+ghost use Rattle.broad_index.specs.Near.{near_of, partners};
+
+use crate::{BroadPhase, Pair};
+use fixed_box::{FBox, NoMemory};
+use std::alloc::Global;
+use std::marker::Model;
+
+type Entry = (u32, FBox);
+
+/// The boxes in a list in order of their slots. It tests each pair.
+#[derive(Drop)]
+pub struct PlainIndex {
+    entries: Vec<Entry>,
+    spent: bool,
+}
+
+impl Model for PlainIndex {
+    ghost use Rattle.std.specs.Prelude.{T};
+    ghost use Rattle.std.specs.Ordering.{nat_cmp};
+    ghost use Rattle.std.specs.FinMap.{is_sorted};
+    ghost use Rattle.broad_index.specs.Index.{Indexed, coded_index, bodies_of};
+
+    ghost Value = { Indexed };
+
+    ghost coded = { coded_index };
+
+    ghost view = { λ i. record { bodies = bodies_of i.entries.items; spent = i.spent } };
+
+    ghost invariant = { λ i. T (is_sorted nat_cmp i.entries.items) };
+}
+
+impl PlainIndex {
+    /// An index with no box.
+    pub fn new(alloc: Global) -> Result<PlainIndex, NoMemory>
+        ensures empty { IfOk result (λ index. index.bodies ≡ map.empty) }
+        ensures sound { IfOk result (λ index. index.spent ≡ false) }
+    {
+        Ok(PlainIndex {
+            entries: Vec::new(alloc),
+            spent: false,
+        })
+    }
+}
+
+impl BroadPhase for PlainIndex {
+    ghost bodies = { λ index. index.bodies };
+
+    ghost spent = { λ index. index.spent };
+
+    fn add(&mut self, slot: u32, body: FBox) -> Result<(), NoMemory> {
+        if self.spent {
+            return Err(NoMemory);
+        }
+        let at = place_of(&self.entries, slot);
+        match self.entries.insert(at, (slot, body)) {
+            Ok(()) => Ok(()),
+            Err(_) => {
+                self.spent = true;
+                Err(NoMemory)
+            }
+        }
+    }
+
+    #[tactic(auto, using(crate::proofs::SortedEntries::entries_of_sorted))]
+    fn pairs(&mut self, out: &mut Vec<Pair>) -> Result<(), NoMemory> {
+        if self.spent {
+            return Err(NoMemory);
+        }
+        push_near(&self.entries, out)
+    }
+}
+
+// The place where an absent slot goes in.
+#[tactic(auto, using(crate::proofs::SortedEntries::partitioned))]
+fn place_of(entries: &[Entry], slot: u32) -> usize
+    requires sorted { T (map.is_sorted nat_cmp entries.now) }
+    requires absent { map.contains_key (bodies_of entries.now) slot ≡ false }
+    ensures bound { result ≤ length entries.now }
+    ensures put { (body : Bounds) → insert entries.now result (slot, body) ≡ map.put nat_cmp slot body entries.now }
+{
+    entries.partition_point(|entry| entry.0 < slot)
+}
+
+// Appends the pairs of all entries, or nothing.
+fn push_near(entries: &[Entry], out: &mut Vec<Pair>) -> Result<(), NoMemory>
+    ensures ok { OnOk result (out.new.items ≡ out.old.items ++ near_of entries.now) }
+    ensures err { OnErr result (out.new.items ≡ out.old.items) }
+{
+    let before = out.len();
+    let found = push_each(entries, out);
+    if found.is_err() {
+        out.truncate(before);
+    }
+    found
+}
+
+// Appends the pairs of each entry in turn. What was there stays, after an `Err` too.
+fn push_each(entries: &[Entry], out: &mut Vec<Pair>) -> Result<(), NoMemory>
+    ensures ok { OnOk result (out.new.items ≡ out.old.items ++ near_of entries.now) }
+    ensures kept { take (vec_len out.old) out.new.items ≡ out.old.items }
+{
+    let mut rest = entries;
+    'entries: while let [entry, later @ ..] = rest {
+        push_partners(entry, later, out)?;
+        rest = later;
+    }
+    Ok(())
+}
+
+// Appends the pairs of one entry with later ones. What was there stays, after an `Err` too.
+fn push_partners(entry: &Entry, later: &[Entry], out: &mut Vec<Pair>) -> Result<(), NoMemory>
+    ensures ok { OnOk result (out.new.items ≡ out.old.items ++ partners entry.now.0 entry.now.1 later.now) }
+    ensures kept { take (vec_len out.old) out.new.items ≡ out.old.items }
+{
+    let mut rest = later;
+    'partners: while let [other, more @ ..] = rest {
+        if entry.1.overlaps(&other.1) {
+            out.push(Pair {
+                a: entry.0,
+                b: other.0,
+            })?;
+        }
+        rest = more;
+    }
+    Ok(())
+}
