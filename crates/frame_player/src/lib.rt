@@ -1,0 +1,16 @@
+//! Plays a scene through a broad phase, whichever structure it is, and writes the report.
+#![tactic(auto)]
+
+mod cause;
+mod pair_events;
+mod pair_report;
+mod play;
+mod player;
+mod report_line;
+mod scene_lines;
+mod scene_words;
+mod status;
+mod transfer;
+
+pub use cause::Cause;
+pub use status::{Limits, Status};
