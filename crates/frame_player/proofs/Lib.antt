@@ -1,2 +1,4 @@
 pub mod Merge
 pub mod Splitting
+pub mod Slots
+pub mod Asked

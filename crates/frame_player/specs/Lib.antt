@@ -4,4 +4,6 @@ pub mod Play
 pub mod Reading
 pub mod SceneLines
 pub mod SceneWords
+pub mod Player
+pub mod Transfer
 pub mod World

@@ -1,10 +1,9 @@
 -- A whole play: what is reported, and how it ends.
-use Rattle.std.specs.Prelude.{◌≡◌, ℕ, ◌+◌, ◌-◌, List, [], ◌∷◌, ◌++◌, length, if◌then◌else◌, Option, Some, option_map, Result, Ok, Err}
-use Rattle.std.specs.Io.KnownBytes.{append_known}
+use Rattle.std.specs.Prelude.{ℕ, ◌+◌, ◌-◌, List, [], ◌∷◌, ◌++◌, length, if◌then◌else◌, Result, Ok, Err}
 use Rattle.frame_player.specs.declared.cause.Cause.{Cause}
 use Rattle.frame_player.specs.declared.cause.Cause.TheVariants as cause
 use Rattle.frame_player.specs.declared.status.Status.{Status}
-use Rattle.frame_player.specs.declared.status.Status.TheVariants.{Done, Refused}
+use Rattle.frame_player.specs.declared.status.Status.TheVariants.{Done, Refused, Usage, ReadFault, WriteFault, NoMemory}
 use Rattle.frame_player.specs.declared.scene_words.Command.{Command}
 use Rattle.frame_player.specs.PairReport.{end_line, refused_line}
 use Rattle.frame_player.specs.World.{World, opening, after, reply, asked}
@@ -45,7 +44,11 @@ played limit lines = play_from limit opening 1 lines
 abbrev pub report : ℕ → List (List ℕ) → List ℕ
 report limit lines = (played limit lines).told ++ (played limit lines).last
 
--- the whole report was written, and is settled
-pub record IsReported (text : List ℕ) (before now : Option (List ℕ)) (settled : Option ℕ) : Type 0 where
-  pub written : now ≡ append_known before text
-  pub all_settled : settled ≡ option_map length now
+-- a play that came to an end of its own
+abbrev pub IsEnding : Status → Type 0
+IsEnding Done = Unit {0}
+IsEnding (Refused n c) = Unit {0}
+IsEnding Usage = ⊥
+IsEnding ReadFault = ⊥
+IsEnding WriteFault = ⊥
+IsEnding NoMemory = ⊥

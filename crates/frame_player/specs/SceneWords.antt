@@ -40,8 +40,8 @@ is_whole digits most = nat_lt 0 (length digits) && nat_le (length digits) 5 && l
 abbrev pub number : List ℕ → Result ℤ LineFault
 number [] = Err fault.Number
 number (b ∷ bs) = if b == 45
-  then (if is_whole bs 32768 then Ok (neg_ℤ (pos (65536 * digits_value bs))) else Err fault.Number)
-  else (if is_whole (b ∷ bs) 32767 then Ok (pos (65536 * digits_value (b ∷ bs))) else Err fault.Number)
+    then (if is_whole bs 32768 then Ok (neg_ℤ (pos (65536 * digits_value bs))) else Err fault.Number)
+    else (if is_whole (b ∷ bs) 32767 then Ok (pos (65536 * digits_value (b ∷ bs))) else Err fault.Number)
 
 -- the number at the front of words, and the words after it
 abbrev pub number_at : List (List ℕ) → Result (ℤ × List (List ℕ)) LineFault

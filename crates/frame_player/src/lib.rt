@@ -4,13 +4,14 @@
 mod cause;
 mod pair_events;
 mod pair_report;
-mod play;
 mod player;
 mod report_line;
 mod scene_lines;
+mod scene_play;
 mod scene_words;
 mod status;
 mod transfer;
 
 pub use cause::Cause;
+pub use scene_play::play;
 pub use status::{Limits, Status};

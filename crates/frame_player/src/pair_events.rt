@@ -21,7 +21,11 @@ pub(crate) struct Told {
 }
 
 // Appends the events between the pairs of two frames: one merge of two lists that rise.
-pub(crate) fn push_events(before: &[Pair], now: &[Pair], out: &mut Vec<Told>) -> Result<(), NoMemory>
+pub(crate) fn push_events(
+    before: &[Pair],
+    now: &[Pair],
+    out: &mut Vec<Told>,
+) -> Result<(), NoMemory>
     requires before { rises before.now ≡ true }
     requires now { rises now.now ≡ true }
     ensures { OnOk result (out.new.items ≡ out.old.items ++ events before.now now.now) }

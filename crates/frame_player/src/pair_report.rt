@@ -1,4 +1,4 @@
-ghost use Rattle.std.specs.Prelude.{◌≡◌, ◌+◌, ◌≤◌, ◌++◌, length, OnOk, OnErr, codes};
+ghost use Rattle.std.specs.Prelude.{◌≡◌, ◌+◌, ◌≤◌, ◌++◌, length, take, vec_len, flat_map, OnOk, OnErr};
 ghost use Rattle.frame_player.specs.PairReport.{handle_text, add_line, frame_line, event_text, told_line, end_line, cause_text, refused_line};
 
 use crate::Cause;
@@ -43,6 +43,36 @@ pub(crate) fn put_told(told: &Told, out: &mut Vec<u8>) -> Result<(), NoMemory>
     put_handle(told.pair.b, &mut line);
     line.text(b"\n");
     Ok(out.extend_from_slice(line.bytes())?)
+}
+
+// The line of a frame, and one for each of its events.
+pub(crate) fn put_frame_told(
+    number: u32,
+    pairs: usize,
+    told: &[Told],
+    out: &mut Vec<u8>,
+) -> Result<(), NoMemory>
+    ensures ok { OnOk result (out.new.items ≡ out.old.items ++ (frame_line number pairs ++ flat_map told_line told.now)) }
+    ensures err { OnErr result (out.new.items ≡ out.old.items) }
+{
+    let before = out.len();
+    put_frame(number, pairs, out)?;
+    let all = put_each(told, out);
+    if all.is_err() {
+        out.truncate(before);
+    }
+    all
+}
+
+// A line for each event. What was there stays, after an `Err` too.
+fn put_each(told: &[Told], out: &mut Vec<u8>) -> Result<(), NoMemory>
+    ensures ok { OnOk result (out.new.items ≡ out.old.items ++ flat_map told_line told.now) }
+    ensures kept { take (vec_len out.old) out.new.items ≡ out.old.items }
+{
+    for event in told {
+        put_told(event, out)?;
+    }
+    Ok(())
 }
 
 pub(crate) fn put_end(lines: u32, frames: u32, live: u32, out: &mut Vec<u8>) -> Result<(), NoMemory>
