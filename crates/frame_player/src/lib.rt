@@ -11,7 +11,9 @@ mod scene_play;
 mod scene_words;
 mod status;
 mod transfer;
+mod worked;
 
 pub use cause::Cause;
 pub use scene_play::play;
 pub use status::{Limits, Status};
+pub use worked::worked_scenes;

@@ -1,4 +1,5 @@
-ghost use Rattle.std.specs.Prelude.{◌≡◌, None, refl};
+ghost use Rattle.std.specs.Prelude.{◌≡◌, None, IfErr, refl};
+ghost use Rattle.play_io.specs.Sink.{PutsFront, IsWriteOf, Settles, SinkCount};
 ghost use Rattle.play_io.specs.Source.{CountsFault};
 
 use crate::{Sink, SinkFault};
@@ -47,7 +48,12 @@ impl<W: Write + Drop> Sink for FileSink<W> {
     ghost told_together = { λ _. refl };
 
     // A write that takes nothing of a piece that isn't empty is a fault.
-    fn write(&mut self, piece: &[u8]) -> Result<usize, SinkFault> {
+    fn write(&mut self, piece: &[u8]) -> Result<usize, SinkFault>
+        ensures written { PutsFront None None result piece.now }
+        ensures length { IsWriteOf result piece.now }
+        ensures count { SinkCount self.old self.new result }
+        ensures fault { IfErr result (λ fault. fault ≡ SinkFault.Failed) }
+    {
         match self.inner.write(piece) {
             Ok(0) if !piece.is_empty() => Err(self.fault()),
             Ok(count) => Ok(count),
@@ -55,7 +61,11 @@ impl<W: Write + Drop> Sink for FileSink<W> {
         }
     }
 
-    fn flush(&mut self) -> Result<(), SinkFault> {
+    fn flush(&mut self) -> Result<(), SinkFault>
+        ensures settled { Settles None None None result }
+        ensures count { SinkCount self.old self.new result }
+        ensures fault { IfErr result (λ fault. fault ≡ SinkFault.Failed) }
+    {
         match self.inner.flush() {
             Ok(()) => Ok(()),
             Err(_) => Err(self.fault()),

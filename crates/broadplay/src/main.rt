@@ -1,0 +1,69 @@
+//! Plays text scenes of boxes through a broad phase, from standard input to standard output.
+#![tactic(auto)]
+
+mod top_call;
+mod words;
+
+use frame_player::Status;
+use play_io::{FileSink, FileSource};
+use std::env;
+use std::process::ExitCode;
+use std::rt::Env;
+pub use top_call::{MOST_LINES, broadplay};
+pub use words::{Job, Task, read_words};
+
+const USAGE: &str = "usage: broadplay play";
+
+fn main(rt: HostRuntime) -> ExitCode {
+    let status = match words_of(&rt) {
+        Ok(words) => {
+            let mut source = FileSource::new(rt.stdin());
+            let mut sink = FileSink::new(rt.stdout());
+            broadplay(&rt, rt.alloc(), &words, &mut source, &mut sink)
+        }
+        Err(status) => status,
+    };
+    tell(&rt, status);
+    ExitCode::from(exit_code(status))
+}
+
+// The command line without the program's name.
+fn words_of(rt: &(impl Env + AllocGlobal)) -> Result<Vec<String>, Status> {
+    let Ok(args) = env::args(rt) else {
+        return Err(Status::Usage);
+    };
+    let mut words = Vec::new(rt.alloc());
+    for word in args.skip(1) {
+        if words.push(word).is_err() {
+            return Err(Status::NoMemory);
+        }
+    }
+    Ok(words)
+}
+
+// Says on standard error why nothing, or not all, was played. A refusal is the report's last line.
+fn tell(rt: &impl Eprint, status: Status) {
+    let text = match status {
+        Status::Done | Status::Refused { .. } => return,
+        Status::Usage => USAGE,
+        Status::ReadFault => "broadplay: read fault",
+        Status::WriteFault => "broadplay: write fault",
+        Status::NoMemory => "broadplay: out of memory",
+    };
+    // There is nowhere left to say that this failed.
+    let _ = eprintln!(rt; "{text}");
+}
+
+fn exit_code(status: Status) -> u8 {
+    match status {
+        Status::Done => 0,
+        Status::Refused { .. } => 1,
+        Status::Usage => 2,
+        Status::ReadFault => 3,
+        Status::WriteFault => 4,
+        Status::NoMemory => 5,
+    }
+}
+
+#[cfg(test)]
+mod tests;

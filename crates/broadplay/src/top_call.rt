@@ -1,0 +1,89 @@
+ghost use Rattle.std.specs.Prelude.{◌≡◌, ◌↔◌, ◌-◌, ◌^◌, ◌<◌, ℕ, [], true, length, map, string_bytes, Some, None, IfSome, option_map};
+ghost use Rattle.std.specs.Io.KnownBytes.{append_known};
+ghost use Rattle.frame_player.specs.declared.cause.Cause.{Cause};
+ghost use Rattle.frame_player.specs.declared.status.Status.TheVariants.{Done, Refused, Usage, ReadFault, WriteFault};
+ghost use Rattle.frame_player.specs.SceneLines.{lines};
+ghost use Rattle.frame_player.specs.Play.{played, report, IsEnding};
+ghost use Rattle.broadplay.specs.Words.{job};
+
+use crate::words::{Job, Task, read_words};
+use broad_index::PlainIndex;
+use frame_player::{Limits, Status, play};
+use play_io::{Sink, Source};
+use std::alloc::Global;
+use std::thread::Threads;
+
+/// The most lines that a scene may have.
+pub const MOST_LINES: u32 = 268_435_456;
+
+/// Does what a command line asks for: plays the scene that a source has left, and writes its report.
+///
+/// The report tells at each frame exactly the pairs of boxes that meet, each as it begins or stays. Which report that
+/// is, is a function of the scene's bytes, whatever pieces reads cut them into.
+pub fn broadplay<R: Threads + Sync, S: Source, K: Sink>(
+    rt: &R,
+    alloc: Global,
+    words: &[String],
+    source: &mut S,
+    sink: &mut K,
+) -> Status
+    requires source_count { S.faults source.old < 2 ^ 64 - 1 }
+    requires sink_count { K.faults sink.old < 2 ^ 64 - 1 }
+
+    // The command line has no meaning, and nothing was touched.
+    ensures usage { (result ≡ Usage) ↔ (job (map string_bytes words.now) ≡ None) }
+    ensures untouched { result ≡ Usage → (source.new ≡ source.old) × (sink.new ≡ sink.old) }
+
+    // The whole scene was played, and the whole report is written.
+    ensures done { result ≡ Done → IfSome (S.left source.old) (λ given.
+        ((played MOST_LINES (lines given true)).status ≡ Done)
+        × (S.left source.new ≡ Some [])
+        × (K.written sink.new ≡ append_known (K.written sink.old) (report MOST_LINES (lines given true)))) }
+
+    // This line was refused for this cause, and the whole report is written.
+    ensures refused { (n : ℕ) (c : Cause) → result ≡ Refused n c → IfSome (S.left source.old) (λ given.
+        ((played MOST_LINES (lines given true)).status ≡ Refused n c)
+        × (K.written sink.new ≡ append_known (K.written sink.old) (report MOST_LINES (lines given true)))) }
+
+    // Either way all that was written is settled, and nothing failed.
+    ensures settled { IsEnding result → K.settled sink.new ≡ option_map length (K.written sink.new) }
+    ensures unfailed { IsEnding result → (S.faults source.new ≡ S.faults source.old) × (K.faults sink.new ≡ K.faults sink.old) }
+
+    // A fault is answered only where its object has counted one.
+    ensures read_fault { result ≡ ReadFault → S.faults source.old < S.faults source.new }
+    ensures write_fault { result ≡ WriteFault → (K.faults sink.old < K.faults sink.new) × (S.faults source.new ≡ S.faults source.old) }
+{
+    match read_words(words) {
+        None => Status::Usage,
+        Some(Job { task: Task::Play }) => play_plain(rt, alloc, source, sink),
+    }
+}
+
+// Plays over the plain list.
+fn play_plain<R: Threads + Sync, S: Source, K: Sink>(
+    rt: &R,
+    alloc: Global,
+    source: &mut S,
+    sink: &mut K,
+) -> Status
+    requires source_count { S.faults source.old < 2 ^ 64 - 1 }
+    requires sink_count { K.faults sink.old < 2 ^ 64 - 1 }
+    ensures done { result ≡ Done → IfSome (S.left source.old) (λ given.
+        ((played MOST_LINES (lines given true)).status ≡ Done)
+        × (S.left source.new ≡ Some [])
+        × (K.written sink.new ≡ append_known (K.written sink.old) (report MOST_LINES (lines given true)))) }
+    ensures refused { (n : ℕ) (c : Cause) → result ≡ Refused n c → IfSome (S.left source.old) (λ given.
+        ((played MOST_LINES (lines given true)).status ≡ Refused n c)
+        × (K.written sink.new ≡ append_known (K.written sink.old) (report MOST_LINES (lines given true)))) }
+    ensures settled { IsEnding result → K.settled sink.new ≡ option_map length (K.written sink.new) }
+    ensures unfailed { IsEnding result → (S.faults source.new ≡ S.faults source.old) × (K.faults sink.new ≡ K.faults sink.old) }
+    ensures read_fault { result ≡ ReadFault → S.faults source.old < S.faults source.new }
+    ensures write_fault { result ≡ WriteFault → (K.faults sink.old < K.faults sink.new) × (S.faults source.new ≡ S.faults source.old) }
+    ensures never_usage { result ≡ Usage → ⊥ }
+{
+    let limits = Limits { lines: MOST_LINES };
+    match PlainIndex::new(alloc) {
+        Ok(index) => play(rt, alloc, index, limits, source, sink),
+        Err(_) => Status::NoMemory,
+    }
+}

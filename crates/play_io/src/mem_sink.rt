@@ -1,0 +1,117 @@
+ghost use Rattle.std.specs.Prelude.{◌≡◌, ◌≤◌, ◌↔◌, [], length, min, Some, Ok, Err, true, IfOk, if◌then◌else◌, refl};
+ghost use Rattle.play_io.specs.Memory.{fails_at, one_more};
+ghost use Rattle.play_io.specs.Source.{CountsFault};
+ghost use Rattle.play_io.specs.Sink.{PutsFront, IsWriteOf, Settles, SinkCount};
+
+use crate::faults::is_failing;
+use crate::{Sink, SinkFault};
+use fixed_box::NoMemory;
+use std::alloc::Global;
+use std::marker::Model;
+
+/// Bytes kept in memory, taken in order, at most so many in one write. Writes and flushes are counted together, and
+/// those with given numbers fail.
+#[derive(Drop)]
+pub struct MemSink {
+    bytes: Vec<u8>,
+    settled: usize,
+    most: u32,
+    failing: Vec<u32>,
+    calls: u64,
+    faults: u64,
+}
+
+impl Model for MemSink {
+    ghost use Rattle.std.specs.Prelude.{◌≤◌};
+    ghost use Rattle.play_io.specs.Memory.{FaultyWritten};
+
+    ghost Value = { FaultyWritten };
+
+    ghost view = { λ s. record { written = s.bytes.items; settled = s.settled; most = s.most; failing = s.failing.items; calls = s.calls; faults = s.faults } };
+
+    ghost invariant = { λ s. 1 ≤ s.most };
+}
+
+impl MemSink {
+    /// A sink with nothing written. `failing` has the numbers of the calls that fail, counted from 0.
+    pub fn new(alloc: Global, most: u32, failing: &[u32]) -> Result<MemSink, NoMemory>
+        requires { 1 ≤ most }
+        ensures { IfOk result (λ sink. sink ≡ record { written = []; settled = 0; most = most; failing = failing.now; calls = 0; faults = 0 }) }
+    {
+        Ok(MemSink {
+            bytes: Vec::new(alloc),
+            settled: 0,
+            most,
+            failing: Vec::from_slice(alloc, failing)?,
+            calls: 0,
+            faults: 0,
+        })
+    }
+
+    /// The bytes written so far.
+    pub fn bytes(&self) -> &[u8]
+        ensures { result.now ≡ self.now.written }
+    {
+        &self.bytes
+    }
+
+    // Counts a call, and answers whether it fails.
+    fn call(&mut self) -> bool
+        ensures count { result ≡ true → CountsFault self.old.faults self.new.faults }
+        ensures fails { result ≡ fails_at self.old.failing self.old.calls }
+        ensures new { self.new ≡ record self.old { calls = one_more self.old.calls; faults = (if fails_at self.old.failing self.old.calls then one_more self.old.faults else self.old.faults) } }
+    {
+        let fails = is_failing(&self.failing, self.calls);
+        self.calls = self.calls.saturating_add(1);
+        if fails {
+            self.faults = self.faults.saturating_add(1);
+        }
+        fails
+    }
+}
+
+impl Sink for MemSink {
+    ghost written = { λ s. Some s.written };
+
+    ghost settled = { λ s. Some s.settled };
+
+    ghost faults = { λ s. s.faults };
+
+    ghost told_together = { λ _. refl };
+
+    fn write(&mut self, piece: &[u8]) -> Result<usize, SinkFault>
+        ensures written { PutsFront (Some self.old.written) (Some self.new.written) result piece.now }
+        ensures length { IsWriteOf result piece.now }
+        ensures settled { Some self.new.settled ≡ Some self.old.settled }
+        ensures count { SinkCount self.old.faults self.new.faults result }
+        // A call fails where its number is given, and else takes as much as it may, unless memory runs out.
+        ensures failed { (result ≡ Err SinkFault.Failed) ↔ (fails_at self.old.failing self.old.calls ≡ true) }
+        ensures all { IfOk result (λ n. n ≡ min self.old.most (length piece.now)) }
+        ensures calls { self.new.calls ≡ one_more self.old.calls }
+        ensures same { (self.new.most ≡ self.old.most) × (self.new.failing ≡ self.old.failing) }
+    {
+        if self.call() {
+            return Err(SinkFault::Failed);
+        }
+        let count = (self.most as usize).min(piece.len());
+        match self.bytes.extend_from_slice(&piece[..count]) {
+            Ok(()) => Ok(count),
+            Err(_) => Err(SinkFault::NoMemory),
+        }
+    }
+
+    fn flush(&mut self) -> Result<(), SinkFault>
+        ensures written { Some self.new.written ≡ Some self.old.written }
+        ensures settled { Settles (Some self.old.written) (Some self.old.settled) (Some self.new.settled) result }
+        ensures count { SinkCount self.old.faults self.new.faults result }
+        ensures answer { result ≡ (if fails_at self.old.failing self.old.calls then Err SinkFault.Failed else Ok tt) }
+        ensures calls { self.new.calls ≡ one_more self.old.calls }
+        ensures same { (self.new.most ≡ self.old.most) × (self.new.failing ≡ self.old.failing) }
+    {
+        if self.call() {
+            return Err(SinkFault::Failed);
+        }
+        self.settled = self.bytes.len();
+        Ok(())
+    }
+}
