@@ -1,3 +1,4 @@
+pub mod Exchanges
 pub mod Index
 pub mod Near
 pub mod NearRises

@@ -1,4 +1,5 @@
-ghost use Rattle.std.specs.Prelude.{◌≡◌, ◌≤◌, ◌++◌, false, T, IfOk, OnOk, OnErr, length, take, insert, vec_len};
+ghost use Rattle.std.specs.Prelude.{◌≡◌, ◌<◌, ◌≤◌, ◌++◌, true, false, T, if◌then◌else◌, Ok, Err, IfOk, OnOk, OnErr, length, take, insert, remove, slice_set, nat_lt, vec_len, refl};
+ghost use Rattle.std.specs.List.{AllWithin};
 ghost use Rattle.std.specs.Ordering.{nat_cmp};
 ghost use Rattle.std.specs.FinMap as map;
 ghost use Rattle.fixed_box.specs.Bounds.{Bounds};
@@ -48,15 +49,23 @@ impl PlainIndex {
 }
 
 impl BroadPhase for PlainIndex {
+    const COUNTS: bool = false;
+
     ghost bodies = { λ index. index.bodies };
 
     ghost spent = { λ index. index.spent };
+
+    ghost COUNTS = { false };
+
+    ghost exchanges = { λ _. 0 };
+
+    ghost uncounted = { λ _ _. refl };
 
     fn add(&mut self, slot: u32, body: FBox) -> Result<(), NoMemory> {
         if self.spent {
             return Err(NoMemory);
         }
-        let at = place_of(&self.entries, slot);
+        let at = place_for(&self.entries, slot);
         match self.entries.insert(at, (slot, body)) {
             Ok(()) => Ok(()),
             Err(_) => {
@@ -66,6 +75,29 @@ impl BroadPhase for PlainIndex {
         }
     }
 
+    fn shift(&mut self, slot: u32, body: FBox) -> Result<(), NoMemory>
+        requires present { self.old.spent ≡ false → map.contains_key self.old.bodies slot ≡ true }
+        // It takes no memory.
+        ensures answer { result ≡ (if self.old.spent then Err (record {}) else Ok tt) }
+        ensures bodies { self.new.bodies ≡ (if self.old.spent then self.old.bodies else map.insert self.old.bodies slot body) }
+        ensures spent { self.new.spent ≡ self.old.spent }
+    {
+        if self.spent {
+            return Err(NoMemory);
+        }
+        let at = place_of(&self.entries, slot);
+        self.entries[at] = (slot, body);
+        Ok(())
+    }
+
+    fn leave(&mut self, slot: u32) {
+        if self.spent {
+            return;
+        }
+        let at = place_of(&self.entries, slot);
+        self.entries.remove(at);
+    }
+
     #[tactic(auto, using(crate::proofs::SortedEntries::entries_of_sorted))]
     fn pairs(&mut self, out: &mut Vec<Pair>) -> Result<(), NoMemory> {
         if self.spent {
@@ -73,17 +105,44 @@ impl BroadPhase for PlainIndex {
         }
         push_near(&self.entries, out)
     }
+
+    fn exchanges(&self) -> u64 {
+        0
+    }
+
+    fn clear_exchanges(&mut self) {}
+}
+
+// Where the slots below this one end.
+fn place(entries: &[Entry], slot: u32) -> usize
+    requires { T (map.is_sorted nat_cmp entries.now) }
+    ensures bound { result ≤ length entries.now }
+    ensures below { AllWithin (λ e. nat_lt e.0 slot ≡ true) entries.now 0 result }
+    ensures above { AllWithin (λ e. nat_lt e.0 slot ≡ false) entries.now result (length entries.now) }
+{
+    entries.partition_point(|entry| entry.0 < slot)
 }
 
 // The place where an absent slot goes in.
-#[tactic(auto, using(crate::proofs::SortedEntries::partitioned))]
-fn place_of(entries: &[Entry], slot: u32) -> usize
+fn place_for(entries: &[Entry], slot: u32) -> usize
     requires sorted { T (map.is_sorted nat_cmp entries.now) }
     requires absent { map.contains_key (bodies_of entries.now) slot ≡ false }
     ensures bound { result ≤ length entries.now }
     ensures put { (body : Bounds) → insert entries.now result (slot, body) ≡ map.put nat_cmp slot body entries.now }
 {
-    entries.partition_point(|entry| entry.0 < slot)
+    place(entries, slot)
+}
+
+// The place of a slot that is present.
+fn place_of(entries: &[Entry], slot: u32) -> usize
+    requires sorted { T (map.is_sorted nat_cmp entries.now) }
+    requires present { map.contains_key (bodies_of entries.now) slot ≡ true }
+    ensures bound { result < length entries.now }
+    ensures put { (body : Bounds) → slice_set entries.now result (slot, body) ≡ map.put nat_cmp slot body entries.now }
+    ensures removed { bodies_of (remove entries.now result) ≡ map.remove (bodies_of entries.now) slot }
+    ensures sorted { T (map.is_sorted nat_cmp (remove entries.now result)) }
+{
+    place(entries, slot)
 }
 
 // Appends the pairs of all entries, or nothing.

@@ -1,12 +1,14 @@
-use Rattle.std.proofs.Common.{◌≡◌, false, is_some, nat_lt, rules}
-use Rattle.std.specs.Ordering.{nat_cmp}
-use Rattle.std.specs.FinMap.{find}
-use Rattle.std.proofs.lemmas.List.Sorted.{IsPartitionPoint-from_clause}
-use Rattle.broad_index.proofs.SortedEntries.{partitioned, absent_from, insert_is_put}
+use Rattle.broad_index.proofs.SortedEntries.{present_from, present_within, set_is_put, sorted_removed, from_sorted-remove}
 use Rattle.broad_index.proofs.plain_index.place_of.Goals as goal
 
+pub returns-clause-bound : goal.returns-clause-bound
+returns-clause-bound c = present_within c.args.entries.now c.args.slot c.place.result (present_from c.args.entries.now c.args.slot c.requires.sorted c.requires.present) c.place.ensures.bound c.place.ensures.below
+
 pub returns-clause-put : goal.returns-clause-put
-returns-clause-put c body =
-    let absent : is_some (find nat_cmp c.args.slot c.args.entries.now) ≡ false = absent_from c.args.entries.now c.args.slot c.requires.sorted c.requires.absent in
-    let point = IsPartitionPoint-from_clause (λ e. nat_lt e.0 c.args.slot) _ _ c.partition_point.ensures.partitioned (partitioned c.args.entries.now c.args.slot c.requires.sorted) (λ a r q k. search rules) in
-    insert_is_put c.args.entries.now c.args.slot body c.partition_point.result absent c.partition_point.ensures.bound point.0 point.1
+returns-clause-put c body = set_is_put c.args.entries.now c.args.slot body c.place.result c.requires.sorted (present_from c.args.entries.now c.args.slot c.requires.sorted c.requires.present) c.place.ensures.bound c.place.ensures.below c.place.ensures.above
+
+pub returns-clause-removed : goal.returns-clause-removed
+returns-clause-removed c = from_sorted-remove c.args.entries.now c.args.slot c.place.result c.requires.sorted (present_from c.args.entries.now c.args.slot c.requires.sorted c.requires.present) c.place.ensures.bound c.place.ensures.below c.place.ensures.above
+
+pub returns-clause-sorted : goal.returns-clause-sorted
+returns-clause-sorted c = sorted_removed c.args.entries.now c.args.slot c.place.result c.requires.sorted (present_from c.args.entries.now c.args.slot c.requires.sorted c.requires.present) c.place.ensures.bound c.place.ensures.below c.place.ensures.above

@@ -8,7 +8,7 @@ use Rattle.broad_index.proofs.plain_index.PlainIndexBroadPhase.add.Goals as goal
 
 -- the entries afterwards
 put_in : (c : goal.In-Ok) → c.insert.new.self.items ≡ put nat_cmp c.args.slot c.args.body c.self.inside.entries.items
-put_in c = c.in-Ok.ensures.items ∙ rw c.deref.ensures.value at (c.place_of-at.ensures.put c.args.body)
+put_in c = c.in-Ok.ensures.items ∙ rw c.deref.ensures.value at (c.place_for-at.ensures.put c.args.body)
 
 pub invariant_of-self : goal.invariant_of-self
 invariant_of-self c = subst (λ (es : List (ℕ × Bounds)). T (is_sorted nat_cmp es)) (sym (put_in c)) (sorted_put c.self.inside.entries.items c.args.slot c.args.body c.self.invariant)

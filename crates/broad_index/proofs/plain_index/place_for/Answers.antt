@@ -1,0 +1,5 @@
+use Rattle.broad_index.proofs.SortedEntries.{absent_from, insert_is_put}
+use Rattle.broad_index.proofs.plain_index.place_for.Goals as goal
+
+pub returns-clause-put : goal.returns-clause-put
+returns-clause-put c body = insert_is_put c.args.entries.now c.args.slot body c.place.result (absent_from c.args.entries.now c.args.slot c.requires.sorted c.requires.absent) c.place.ensures.bound c.place.ensures.below c.place.ensures.above
