@@ -1,0 +1,3 @@
+mod DigitRuns
+mod PutsThen
+mod Rounding

@@ -32,7 +32,10 @@ fn put_decimal(number: u32, at: usize, into: &mut [u8; 16]) -> usize
     requires { at + length (decimal number) ≤ 16 }
     ensures { Puts into.old into.new at result (decimal number) }
 {
-    let last = if number < 10 { at } else { put_decimal(number / 10, at, into) };
+    if number < 10 {
+        return put_byte(b'0' + number as u8, at, into);
+    }
+    let last = put_decimal(number / 10, at, into);
     put_byte(b'0' + (number % 10) as u8, last, into)
 }
 

@@ -41,7 +41,7 @@ fn read_decimal(text: &[u8]) -> Option<Decimal>
     ensures sized { IfSome result IsSized }
 {
     let mut whole = 0;
-    let mut count = 0;
+    let mut count = 0u32;
     let mut rest = text;
     'whole: while let [byte, more @ ..] = rest {
         if *byte == b'.' && count > 0 {
@@ -72,7 +72,7 @@ fn read_fraction(whole: u64, text: &[u8]) -> Option<Decimal>
 {
     let mut fraction = 0;
     let mut scale = 1;
-    let mut count = 0;
+    let mut count = 0u32;
     let mut rest = text;
     'fraction: while let [byte, more @ ..] = rest {
         if !byte.is_ascii_digit() || count == 9 {
