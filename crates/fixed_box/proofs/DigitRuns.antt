@@ -1,10 +1,11 @@
 -- Digits read one after another, against the parts between points.
-use Rattle.std.proofs.Common.{◌≡◌, ℕ, zero, suc, ◌+◌, ◌-◌, ◌*◌, ◌^◌, ◌<◌, ◌≤◌, Bool, true, false, cond, ◌&&◌, ◌==◌, nat_le, nat_lt, List, [], ◌∷◌, length, Option, Some, None, refl, sym, ap, ◌∙◌, arith, if◌then◌else◌, zero-add, option_map, ◌⊎◌, inl, inr}
+use Rattle.std.proofs.Common.{◌≡◌, ℕ, zero, suc, ◌+◌, ◌-◌, ◌*◌, ◌^◌, ◌<◌, ◌≤◌, Bool, true, false, cond, ◌&&◌, ◌==◌, nat_le, nat_lt, List, [], ◌∷◌, length, take, drop, get_or, Option, Some, None, refl, sym, ap, ◌∙◌, arith, if◌then◌else◌, zero-add, option_map, ◌⊎◌, inl, inr}
 use Rattle.std.specs.List.{slice_split, onto_first}
 use Rattle.std.specs.Char.{is_ascii_digit, digit_value}
 use Rattle.std.specs.Str.{all_ascii_digits}
 use Rattle.std.specs.Str.Parse.{digits_value_after, digits_value}
 use Rattle.std.proofs.lemmas.Bool.{and_right}
+use Rattle.std.proofs.lemmas.List.{take_all}
 use Rattle.std.proofs.lemmas.Bool.Decides.{nat_tests}
 use Rattle.std.proofs.Math.Nat.{pow-succ', mul_assoc}
 use Rattle.fixed_box.specs.declared.reading.Decimal.{Decimal}
@@ -177,3 +178,35 @@ decimal_starts [] = refl
 decimal_starts (ds ∷ []) = alone ds (is_numeral 10 ds) ∙ ap (λ r. number_if r (digits_value 10 ds) 0 1) (starts_run ds)
 decimal_starts (ds ∷ fs ∷ []) = both ds fs (is_numeral 10 ds) (is_numeral 9 fs) ∙ ap (λ r. if r then with_fraction (digits_value 10 ds) fs else None) (starts_run ds)
 decimal_starts (ds ∷ fs ∷ gs ∷ more) = refl
+
+-- the same lemmas where the bytes are those at the front of a slice
+rest_of : (b : ℕ) (bs : List ℕ) → take (suc (length bs) - 1) bs ≡ bs
+rest_of b bs = take_all (suc (length bs) - 1) bs (omega arith)
+
+pub fraction_step_at : (whole fraction scale count : ℕ) (text : List ℕ) → 1 ≤ length text → is_ascii_digit (get_or text 0 0) ≡ true
+    → fraction_after whole fraction scale count text ≡ fraction_after whole (10 * fraction + (get_or text 0 0 - 48)) (scale * 10) (count + 1) (take (length text - 1) (drop 1 text))
+fraction_step_at whole fraction scale count [] some h = absurd (omega arith)
+fraction_step_at whole fraction scale count (b ∷ bs) some h =
+    fraction_step whole fraction scale count b bs h ∙ ap (fraction_after whole (10 * fraction + (b - 48)) (scale * 10) (count + 1)) (sym (rest_of b bs))
+
+pub digit_small : (b : ℕ) → is_ascii_digit b ≡ true → b - 48 ≤ 9
+digit_small b h = grind (arith, nat_tests)
+
+pub decimal_step_at : (n count : ℕ) (text : List ℕ) → 1 ≤ length text → is_ascii_digit (get_or text 0 0) ≡ true
+    → decimal_after n count (slice_split is_point text) ≡ decimal_after (10 * n + (get_or text 0 0 - 48)) (count + 1) (slice_split is_point (take (length text - 1) (drop 1 text)))
+decimal_step_at n count [] some h = absurd (omega arith)
+decimal_step_at n count (b ∷ bs) some h =
+    decimal_step n count b bs h ∙ ap (λ ys. decimal_after (10 * n + (b - 48)) (count + 1) (slice_split is_point ys)) (sym (rest_of b bs))
+
+pub decimal_point_at : (n count : ℕ) (text : List ℕ) → 1 ≤ length text → get_or text 0 0 ≡ 46 → 0 < count → count ≤ 10
+    → decimal_after n count (slice_split is_point text) ≡ with_fraction n (take (length text - 1) (drop 1 text))
+decimal_point_at n count [] some e low high = absurd (omega arith)
+decimal_point_at n count (b ∷ bs) some e low high = decimal_point n count b bs e low high ∙ ap (with_fraction n) (sym (rest_of b bs))
+
+pub decimal_stops_at : (n count : ℕ) (text : List ℕ) → 1 ≤ length text → is_ascii_digit (get_or text 0 0) ≡ false → (get_or text 0 0 ≡ 46 → count ≡ 0) → decimal_after n count (slice_split is_point text) ≡ None
+decimal_stops_at n count [] some h early = absurd (omega arith)
+decimal_stops_at n count (b ∷ bs) some h early = decimal_stops n count b bs h early
+
+pub decimal_full_at : (n count : ℕ) (text : List ℕ) → count ≡ 10 → 1 ≤ length text → is_ascii_digit (get_or text 0 0) ≡ true → decimal_after n count (slice_split is_point text) ≡ None
+decimal_full_at n count [] e some h = absurd (omega arith)
+decimal_full_at n count (b ∷ bs) e some h = ap (λ k. decimal_after n k (slice_split is_point (b ∷ bs))) e ∙ decimal_full n b bs h

@@ -1,3 +1,5 @@
 mod DigitRuns
+mod Magnitude
 mod PutsThen
 mod Rounding
+mod Shown

@@ -11,8 +11,12 @@ pub fn print_fix(value: Fix, into: &mut [u8; 16]) -> usize
     ensures text { take result into.new ≡ show value }
     ensures rest { drop result into.new ≡ drop result into.old }
 {
-    let start = if value < 0 { put_byte(b'-', 0, into) } else { 0 };
-    put_magnitude(value.unsigned_abs(), start, into)
+    let magnitude = value.unsigned_abs();
+    if value < 0 {
+        let start = put_byte(b'-', 0, into);
+        return put_magnitude(magnitude, start, into);
+    }
+    put_magnitude(magnitude, 0, into)
 }
 
 // Puts a magnitude in units and hundred-thousandths of a unit.
