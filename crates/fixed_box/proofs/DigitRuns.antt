@@ -1,10 +1,10 @@
 -- Digits read one after another, against the parts between points.
-use Rattle.std.proofs.Common.{◌≡◌, ℕ, zero, suc, ◌+◌, ◌-◌, ◌*◌, ◌^◌, ◌<◌, ◌≤◌, Bool, true, false, cond, ◌&&◌, ◌==◌, nat_le, nat_lt, List, [], ◌∷◌, length, take, drop, get_or, Option, Some, None, refl, sym, ap, ◌∙◌, arith, if◌then◌else◌, zero-add, option_map, ◌⊎◌, inl, inr}
+use Rattle.std.proofs.Common.{◌≡◌, ℕ, zero, suc, ◌+◌, ◌-◌, ◌*◌, ◌^◌, ◌<◌, ◌≤◌, Bool, true, false, cond, ◌&&◌, ◌==◌, nat_le, nat_lt, List, [], ◌∷◌, ◌++◌, length, take, drop, get_or, Option, Some, None, refl, sym, ap, ◌∙◌, arith, if◌then◌else◌, zero-add, option_map, ◌⊎◌, inl, inr}
 use Rattle.std.specs.List.{slice_split, onto_first}
 use Rattle.std.specs.Char.{is_ascii_digit, digit_value}
 use Rattle.std.specs.Str.{all_ascii_digits}
 use Rattle.std.specs.Str.Parse.{digits_value_after, digits_value}
-use Rattle.std.proofs.lemmas.Bool.{and_right}
+use Rattle.std.proofs.lemmas.Bool.{and_right, and_parts}
 use Rattle.std.proofs.lemmas.List.{take_all}
 use Rattle.std.proofs.lemmas.Bool.Decides.{nat_tests}
 use Rattle.std.proofs.Math.Nat.{pow-succ', mul_assoc}
@@ -210,3 +210,17 @@ decimal_stops_at n count (b ∷ bs) some h early = decimal_stops n count b bs h 
 pub decimal_full_at : (n count : ℕ) (text : List ℕ) → count ≡ 10 → 1 ≤ length text → is_ascii_digit (get_or text 0 0) ≡ true → decimal_after n count (slice_split is_point text) ≡ None
 decimal_full_at n count [] e some h = absurd (omega arith)
 decimal_full_at n count (b ∷ bs) e some h = ap (λ k. decimal_after n k (slice_split is_point (b ∷ bs))) e ∙ decimal_full n b bs h
+
+-- digits up to a point are a part, and digits alone are the one part
+pub split_digits : (ds text : List ℕ) → all_ascii_digits ds ≡ true → slice_split is_point (ds ++ 46 ∷ text) ≡ ds ∷ slice_split is_point text
+split_digits [] text h = refl
+split_digits (d ∷ ds) text h =
+    let parts = and_parts (is_ascii_digit d) (all_ascii_digits ds) h in
+    ap (λ t. cond t ([] ∷ slice_split is_point (ds ++ 46 ∷ text)) (onto_first d (slice_split is_point (ds ++ 46 ∷ text)))) (digit_no_point d parts.0)
+    ∙ ap (onto_first d) (split_digits ds text parts.1)
+
+pub split_alone : (ds : List ℕ) → all_ascii_digits ds ≡ true → slice_split is_point ds ≡ ds ∷ []
+split_alone [] h = refl
+split_alone (d ∷ ds) h =
+    let parts = and_parts (is_ascii_digit d) (all_ascii_digits ds) h in
+    ap (λ t. cond t ([] ∷ slice_split is_point ds) (onto_first d (slice_split is_point ds))) (digit_no_point d parts.0) ∙ ap (onto_first d) (split_alone ds parts.1)

@@ -1,5 +1,6 @@
 mod DigitRuns
 mod Magnitude
 mod PutsThen
+mod RoundTrip
 mod Rounding
 mod Shown

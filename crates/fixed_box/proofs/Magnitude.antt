@@ -3,8 +3,8 @@ use Rattle.std.proofs.Common.{◌≡◌, ℕ, zero, suc, ◌+◌, ◌*◌, ◌/�
 use Rattle.std.specs.Char.{digit_value}
 use Rattle.std.specs.Str.{all_ascii_digits}
 use Rattle.std.specs.Str.Parse.{digits_value, digits_value_after}
-use Rattle.std.proofs.lemmas.Bool.Decides.{nat_tests}
-use Rattle.std.proofs.Math.Nat.{pow-suc}
+use Rattle.std.proofs.lemmas.Bool.{and_parts, leb-true}
+use Rattle.std.proofs.Math.Nat.{pow-succ', add-mul, mul_assoc}
 use Rattle.fixed_box.specs.declared.fix_fault.FixFault.{FixFault}
 use Rattle.fixed_box.specs.declared.reading.Decimal.{Decimal}
 use Rattle.fixed_box.specs.Fix.{Digits, is_numeral, digits_of_parts, nearest_raw, whole_number, within_range, fix_of_digits}
@@ -18,9 +18,12 @@ value_append n (x ∷ xs) ys = value_append (n * 10 + digit_value x) xs ys
 pub value_shift : (n : ℕ) (ds : List ℕ) → digits_value_after 10 n ds ≡ n * 10 ^ length ds + digits_value 10 ds
 value_shift n [] = omega arith
 value_shift n (d ∷ ds) =
-    let from_n = value_shift (n * 10 + digit_value d) ds in
-    let from_zero = value_shift (0 * 10 + digit_value d) ds in
-    omega (arith, from_n, from_zero, pow-suc 10 (length ds))
+    let after_n : digits_value_after 10 n (d ∷ ds) ≡ (n * 10 + digit_value d) * 10 ^ length ds + digits_value 10 ds = value_shift (n * 10 + digit_value d) ds in
+    let after_zero : digits_value 10 (d ∷ ds) ≡ (0 * 10 + digit_value d) * 10 ^ length ds + digits_value 10 ds = value_shift (0 * 10 + digit_value d) ds in
+    shifted n (digit_value d) (length ds) (digits_value 10 ds) _ _ after_n after_zero
+  where
+  shifted : (n d k v x y : ℕ) → x ≡ (n * 10 + d) * 10 ^ k + v → y ≡ (0 * 10 + d) * 10 ^ k + v → x ≡ n * 10 ^ suc k + y
+  shifted n d k v x y e f = omega (arith, e, f, add-mul (n * 10) d (10 ^ k), mul_assoc n 10 (10 ^ k), ap (λ p. n * p) (pow-succ' 10 k))
 
 pub whole_number_is : (d : Digits) → whole_number d ≡ digits_value 10 d.whole * 10 ^ length d.fraction + digits_value 10 d.fraction
 whole_number_is d = value_append 0 d.whole d.fraction ∙ value_shift (digits_value 10 d.whole) d.fraction
@@ -35,8 +38,11 @@ few_alone : (ds : List ℕ) (b : Bool) (d : Digits) → cond b (Some (record { w
 few_alone ds true d e = let same : record { whole = ds; fraction = [] } ≡ d = cc in omega (arith, ap (λ d. length d.fraction) same)
 few_alone ds false d e = absurd (cc)
 
+numeral_few : (fs : List ℕ) → is_numeral 9 fs ≡ true → length fs ≤ 9
+numeral_few fs t = leb-true (length fs) 9 (and_parts _ _ (and_parts _ _ t).0).1
+
 few_behind : (ds fs : List ℕ) (b : Bool) (d : Digits) → (t : Bool) → is_numeral 9 fs ≡ t → cond (b && t) (Some (record { whole = ds; fraction = fs })) None ≡ Some d → length d.fraction ≤ 9
-few_behind ds fs true d true t e = ?
+few_behind ds fs true d true t e = let same : record { whole = ds; fraction = fs } ≡ d = cc in omega (arith, numeral_few fs t, ap (λ d. length d.fraction) same)
 few_behind ds fs true d false t e = absurd (cc)
 few_behind ds fs false d b t e = absurd (cc)
 
