@@ -1,4 +1,6 @@
+mod Corners
 mod DigitRuns
+mod Levels
 mod Magnitude
 mod PutsThen
 mod RoundTrip

@@ -17,3 +17,6 @@ pub use reading::read_fix;
 
 /// A coordinate in raw units: `raw` stands for `raw / 65,536`.
 pub type Fix = i32;
+
+#[cfg(test)]
+mod tests;

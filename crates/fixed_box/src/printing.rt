@@ -1,4 +1,4 @@
-ghost use Rattle.std.specs.Prelude.{◌≡◌, ℤ, ◌+◌, ◌^◌, ◌<◌, ◌≤◌, ◌≤ℤ◌, ◌∷◌, [], length, take, drop, pos, negsuc, decimal, Ok};
+ghost use Rattle.std.specs.Prelude.{◌≡◌, ℤ, ◌+◌, ◌^◌, ◌<◌, ◌≤◌, ◌≤ℤ◌, ◌∷◌, [], length, take, drop, pos, negsuc, decimal, Ok, codes};
 ghost use Rattle.fixed_box.specs.Fix.{fix, show, show_magnitude, last_digits, hundred_thousandths};
 ghost use Rattle.fixed_box.specs.Puts.{Puts};
 
@@ -67,5 +67,15 @@ fn put_byte(byte: u8, at: usize, into: &mut [u8; 16]) -> usize
 /// What `print_fix` puts reads back as the number that was printed: a law of the two definitions.
 pub fn printed_reads_back()
     ensures { (r : ℤ) → negsuc 2147483647 ≤ℤ r → r ≤ℤ pos 2147483647 → fix (show r) ≡ Ok r }
+{
+}
+
+// Texts of a few raw numbers, computed from the definition.
+fn worked_prints()
+    ensures zero { show (pos 0) ≡ codes "0.00000" }
+    ensures one { show (pos 1) ≡ codes "0.00002" }
+    ensures below { show (negsuc 0) ≡ codes "-0.00002" }
+    ensures unit { show (pos 65536) ≡ codes "1.00000" }
+    ensures least { show (negsuc 2147483647) ≡ codes "-32768.00000" }
 {
 }

@@ -1,4 +1,4 @@
-ghost use Rattle.std.specs.Prelude.{◌≡◌, ◌^◌, ◌<◌, pos, neg_ℤ, if◌then◌else◌, option_map, IfSome};
+ghost use Rattle.std.specs.Prelude.{◌≡◌, ◌^◌, ◌<◌, pos, negsuc, neg_ℤ, if◌then◌else◌, option_map, IfSome, codes};
 ghost use Rattle.fixed_box.specs.Fix.{fix, fix_of_digits, digits_of_text, within_range};
 ghost use Rattle.fixed_box.specs.Decimal.{decimal_of, with_fraction, magnitude_of, IsSized};
 
@@ -117,4 +117,15 @@ fn signed(negative: bool, magnitude: u64) -> Result<Fix, FixFault>
     } else {
         Err(FixFault::Range)
     }
+}
+
+// Numbers at the edges, computed from the definition.
+fn worked_texts()
+    ensures least { fix (codes "-0.00001") ≡ Ok (negsuc 0) }
+    ensures nearest { fix (codes "-0.000005") ≡ Ok (pos 0) }
+    ensures greatest { fix (codes "32767.99999") ≡ Ok (pos 2147483647) }
+    ensures over { fix (codes "32767.999999") ≡ Err FixFault.Range }
+    ensures no_fraction { fix (codes "1.") ≡ Err FixFault.Form }
+    ensures no_whole { fix (codes ".5") ≡ Err FixFault.Form }
+{
 }
