@@ -1,5 +1,5 @@
 -- Digits read one after another, against the parts between points.
-use Rattle.std.proofs.Common.{◌≡◌, ℕ, zero, suc, ◌+◌, ◌-◌, ◌*◌, ◌^◌, ◌<◌, ◌≤◌, Bool, true, false, cond, ◌&&◌, ◌==◌, nat_le, nat_lt, List, [], ◌∷◌, ◌++◌, length, take, drop, get_or, Option, Some, None, refl, sym, ap, ◌∙◌, arith, if◌then◌else◌, zero-add, option_map, ◌⊎◌, inl, inr}
+use Rattle.std.proofs.Common.{◌≡◌, ℕ, suc, ◌+◌, ◌-◌, ◌*◌, ◌^◌, ◌<◌, ◌≤◌, Bool, true, false, cond, ◌&&◌, ◌==◌, nat_le, List, [], ◌∷◌, ◌++◌, length, take, drop, get_or, Option, Some, None, refl, sym, ap, ◌∙◌, arith, if◌then◌else◌, zero-add, option_map}
 use Rattle.std.specs.List.{slice_split, onto_first}
 use Rattle.std.specs.Char.{is_ascii_digit, digit_value}
 use Rattle.std.specs.Str.{all_ascii_digits}
@@ -9,10 +9,10 @@ use Rattle.std.proofs.lemmas.List.{take_all}
 use Rattle.std.proofs.lemmas.Bool.Decides.{nat_tests}
 use Rattle.std.proofs.Math.Nat.{pow-succ', mul_assoc}
 use Rattle.fixed_box.specs.declared.reading.Decimal.{Decimal}
-use Rattle.fixed_box.specs.Fix.{Digits, is_numeral, digits_of_parts}
+use Rattle.fixed_box.specs.Fix.{is_numeral, digits_of_parts}
 use Rattle.fixed_box.specs.Decimal.{decimal_of, with_fraction}
 
--- so many digits, followed by others, are one to `most` digits
+-- so many digits, and then others, are one to `most` digits
 abbrev pub is_run : ℕ → ℕ → List ℕ → Bool
 is_run most count ds = nat_le 1 (count + length ds) && nat_le (count + length ds) most && all_ascii_digits ds
 
@@ -107,7 +107,7 @@ fraction_by_split n count text parts (undivided u) r = ap (λ ps. decimal_after 
 fraction_by_split n count text parts (divided x y ps u d) r =
     ap (λ qs. decimal_after n count ([] ∷ qs)) u
     ∙ sym (ap (λ v. number_if (nat_le 1 (length text) && nat_le (length text) 9 && v) n (digits_value 10 text) (10 ^ length text)) d
-      ∙ ap (λ v. number_if v n (digits_value 10 text) (10 ^ length text)) (and_right (nat_le 1 (length text) && nat_le (length text) 9) false refl))
+    ∙ ap (λ v. number_if v n (digits_value 10 text) (10 ^ length text)) (and_right (nat_le 1 (length text) && nat_le (length text) 9) false refl))
 
 pub decimal_point : (n count b : ℕ) (text : List ℕ) → b ≡ 46 → 0 < count → count ≤ 10 → decimal_after n count (slice_split is_point (b ∷ text)) ≡ with_fraction n text
 decimal_point n count b text e low high =

@@ -1,13 +1,11 @@
 -- The raw number of the digits of a text.
-use Rattle.std.proofs.Common.{◌≡◌, ℕ, zero, suc, ◌+◌, ◌*◌, ◌/◌, ◌^◌, ◌<◌, ◌≤◌, Bool, true, false, cond, ◌&&◌, nat_le, ℤ, pos, neg_ℤ, List, [], ◌∷◌, ◌++◌, length, Option, Some, None, option_map, Result, refl, sym, ap, ◌∙◌, arith, add-zero}
+use Rattle.std.proofs.Common.{◌≡◌, ℕ, suc, ◌+◌, ◌*◌, ◌/◌, ◌^◌, ◌≤◌, Bool, true, false, cond, ◌&&◌, pos, neg_ℤ, List, [], ◌∷◌, ◌++◌, length, Some, None, option_map, refl, sym, ap, ◌∙◌, arith}
 use Rattle.std.specs.Char.{digit_value}
-use Rattle.std.specs.Str.{all_ascii_digits}
 use Rattle.std.specs.Str.Parse.{digits_value, digits_value_after}
 use Rattle.std.proofs.lemmas.Bool.{and_parts, leb-true}
 use Rattle.std.proofs.Math.Nat.{pow-succ', add-mul, mul_assoc}
-use Rattle.fixed_box.specs.declared.fix_fault.FixFault.{FixFault}
 use Rattle.fixed_box.specs.declared.reading.Decimal.{Decimal}
-use Rattle.fixed_box.specs.Fix.{Digits, is_numeral, digits_of_parts, nearest_raw, whole_number, within_range, fix_of_digits}
+use Rattle.fixed_box.specs.Fix.{Digits, is_numeral, digits_of_parts, nearest_raw, number_of, within_range, fix_of_digits}
 use Rattle.fixed_box.specs.Decimal.{decimal_of, magnitude_of}
 use Rattle.fixed_box.proofs.Rounding.{rounded_parts, nearest_negative, power_positive}
 
@@ -22,16 +20,16 @@ value_shift n (d ∷ ds) =
     let after_zero : digits_value 10 (d ∷ ds) ≡ (0 * 10 + digit_value d) * 10 ^ length ds + digits_value 10 ds = value_shift (0 * 10 + digit_value d) ds in
     shifted n (digit_value d) (length ds) (digits_value 10 ds) _ _ after_n after_zero
   where
-  shifted : (n d k v x y : ℕ) → x ≡ (n * 10 + d) * 10 ^ k + v → y ≡ (0 * 10 + d) * 10 ^ k + v → x ≡ n * 10 ^ suc k + y
-  shifted n d k v x y e f = omega (arith, e, f, add-mul (n * 10) d (10 ^ k), mul_assoc n 10 (10 ^ k), ap (λ p. n * p) (pow-succ' 10 k))
+    shifted : (n d k v x y : ℕ) → x ≡ (n * 10 + d) * 10 ^ k + v → y ≡ (0 * 10 + d) * 10 ^ k + v → x ≡ n * 10 ^ suc k + y
+    shifted n d k v x y e f = omega (arith, e, f, add-mul (n * 10) d (10 ^ k), mul_assoc n 10 (10 ^ k), ap (λ p. n * p) (pow-succ' 10 k))
 
-pub whole_number_is : (d : Digits) → whole_number d ≡ digits_value 10 d.whole * 10 ^ length d.fraction + digits_value 10 d.fraction
-whole_number_is d = value_append 0 d.whole d.fraction ∙ value_shift (digits_value 10 d.whole) d.fraction
+pub number_of-digits : (d : Digits) → number_of d ≡ digits_value 10 d.whole * 10 ^ length d.fraction + digits_value 10 d.fraction
+number_of-digits d = value_append 0 d.whole d.fraction ∙ value_shift (digits_value 10 d.whole) d.fraction
 
 -- the magnitude is that of the number which all digits form
-pub magnitude_is : (d : Digits) → (131072 * whole_number d + 10 ^ length d.fraction) / (2 * 10 ^ length d.fraction) ≡ magnitude_of (decimal_of d)
+pub magnitude_is : (d : Digits) → (131072 * number_of d + 10 ^ length d.fraction) / (2 * 10 ^ length d.fraction) ≡ magnitude_of (decimal_of d)
 magnitude_is d =
-    ap (λ n. (131072 * n + 10 ^ length d.fraction) / (2 * 10 ^ length d.fraction)) (whole_number_is d)
+    ap (λ n. (131072 * n + 10 ^ length d.fraction) / (2 * 10 ^ length d.fraction)) (number_of-digits d)
     ∙ rounded_parts (digits_value 10 d.whole) (digits_value 10 d.fraction) (10 ^ length d.fraction) (power_positive (length d.fraction))
 
 few_alone : (ds : List ℕ) (b : Bool) (d : Digits) → cond b (Some (record { whole = ds; fraction = [] })) None ≡ Some d → length d.fraction ≤ 9
@@ -64,6 +62,6 @@ signed_fix negative parts number m e is =
       | None ↦ λ _ none. absurd (cc)
       | Some d ↦ λ found some.
           let same : number ≡ decimal_of d = cc in
-          let size : m ≡ (131072 * whole_number d + 10 ^ length d.fraction) / (2 * 10 ^ length d.fraction) = is ∙ ap magnitude_of same ∙ sym (magnitude_is d) in
-          ap within_range (ap (λ m. cond negative (neg_ℤ (pos m)) (pos m)) size ∙ sym (nearest_of_sign negative (whole_number d) (length d.fraction) (places_few parts d found)))
+          let size : m ≡ (131072 * number_of d + 10 ^ length d.fraction) / (2 * 10 ^ length d.fraction) = is ∙ ap magnitude_of same ∙ sym (magnitude_is d) in
+          ap within_range (ap (λ m. cond negative (neg_ℤ (pos m)) (pos m)) size ∙ sym (nearest_of_sign negative (number_of d) (length d.fraction) (places_few parts d found)))
     ] refl e

@@ -1,5 +1,5 @@
 -- One text put behind another.
-use Rattle.std.proofs.Common.{◌≡◌, ℕ, ◌+◌, ◌-◌, ◌≤◌, List, ◌++◌, take, drop, length, sym, ap, ◌∙◌, arith, append_assoc, length-append}
+use Rattle.std.proofs.Common.{◌≡◌, ℕ, ◌+◌, ◌-◌, ◌≤◌, List, ◌++◌, take, drop, sym, ap, ◌∙◌, arith, append_assoc, length-append}
 use Rattle.std.proofs.lemmas.List.{drop-drop}
 use Rattle.fixed_box.specs.Puts.{Puts}
 
@@ -10,7 +10,7 @@ puts_then a b c i j k s t first second = record {
   rest = second.rest ∙ further a b j k (omega (arith, second.ends)) first.rest;
 }
   where
-  further : (a b : List ℕ) (j k : ℕ) → j ≤ k → drop j b ≡ drop j a → drop k b ≡ drop k a
-  further a b j k le e =
-      let split : j + (k - j) ≡ k = omega arith in
-      ap (λ n. drop n b) (sym split) ∙ sym (drop-drop (k - j) j b) ∙ ap (drop (k - j)) e ∙ drop-drop (k - j) j a ∙ ap (λ n. drop n a) split
+    further : (a b : List ℕ) (j k : ℕ) → j ≤ k → drop j b ≡ drop j a → drop k b ≡ drop k a
+    further a b j k le e =
+        let split : j + (k - j) ≡ k = omega arith in
+        ap (λ n. drop n b) (sym split) ∙ sym (drop-drop (k - j) j b) ∙ ap (drop (k - j)) e ∙ drop-drop (k - j) j a ∙ ap (λ n. drop n a) split

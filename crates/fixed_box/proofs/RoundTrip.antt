@@ -1,6 +1,5 @@
 -- What is printed reads back.
-use Rattle.std.proofs.Common.{◌≡◌, ℕ, zero, suc, ◌+◌, ◌*◌, ◌/◌, ◌%◌, ◌^◌, ◌<◌, ◌≤◌, Bool, true, false, cond, T, ◌&&◌, nat_le, ◌==◌, ℤ, pos, negsuc, neg_ℤ, ◌+ℤ◌, ◌*ℤ◌, ◌≤ℤ◌, int_le, List, [], ◌∷◌, ◌++◌, length, decimal, Option, Some, None, Result, Ok, Err, refl, sym, ap, ◌∙◌, arith}
-use Rattle.std.specs.List.{slice_split}
+use Rattle.std.proofs.Common.{◌≡◌, ℕ, zero, suc, ◌+◌, ◌*◌, ◌/◌, ◌%◌, ◌^◌, ◌<◌, ◌≤◌, Bool, true, false, cond, T, ◌&&◌, nat_le, ◌==◌, ℤ, pos, negsuc, neg_ℤ, ◌≤ℤ◌, int_le, List, [], ◌∷◌, ◌++◌, length, decimal, Some, None, Result, Ok, Err, refl, ap, ◌∙◌, arith}
 use Rattle.std.specs.Char.{is_ascii_digit, digit_value}
 use Rattle.std.specs.Str.{all_ascii_digits}
 use Rattle.std.specs.Str.Parse.{digits_value}
@@ -13,9 +12,9 @@ use Rattle.std.proofs.lemmas.Str.Parse.{IsNumeralModel, numerals_by_value, tells
 use Rattle.std.proofs.Math.Nat.{pow-suc}
 use Rattle.fixed_box.specs.declared.fix_fault.FixFault.{FixFault}
 use Rattle.fixed_box.specs.declared.fix_fault.FixFault.TheVariants.{Range}
-use Rattle.fixed_box.specs.Fix.{Digits, is_numeral, digits_of_text, digits_of_parts, nearest_raw, whole_number, within_range, fix_of_digits, fix, show, show_magnitude, last_digits, hundred_thousandths}
+use Rattle.fixed_box.specs.Fix.{Digits, is_numeral, digits_of_text, digits_of_parts, nearest_raw, number_of, within_range, fix_of_digits, fix, show, show_magnitude, last_digits, hundred_thousandths}
 use Rattle.fixed_box.proofs.DigitRuns.{split_digits, split_alone}
-use Rattle.fixed_box.proofs.Magnitude.{whole_number_is}
+use Rattle.fixed_box.proofs.Magnitude.{number_of-digits}
 use Rattle.fixed_box.proofs.Rounding.{nearest_negative}
 use Rattle.fixed_box.proofs.Shown.{length-last_digits}
 
@@ -61,11 +60,11 @@ digits_shown q small =
     ∙ ap (λ t. cond (t && is_numeral 9 (last_digits 5 (q % 100000))) (Some (shown_digits q)) None) whole
     ∙ ap (λ t. cond t (Some (shown_digits q)) None) fraction
 
-number_shown : (q : ℕ) → q < 2 ^ 32 → whole_number (shown_digits q) ≡ q
+number_shown : (q : ℕ) → q < 2 ^ 32 → number_of (shown_digits q) ≡ q
 number_shown q small =
     let units : digits_value 10 (decimal (q / 100000)) ≡ q / 100000 = digits_value-decimal own (q / 100000) (omega arith) in
     let rest : digits_value 10 (last_digits 5 (q % 100000)) ≡ q % 100000 = last_digits_value 5 (q % 100000) (omega arith) in
-    whole_number_is (shown_digits q) ∙ ap (λ u. u * 100000 + digits_value 10 (last_digits 5 (q % 100000))) units ∙ ap (λ f. q / 100000 * 100000 + f) rest ∙ omega arith
+    number_of-digits (shown_digits q) ∙ ap (λ u. u * 100000 + digits_value 10 (last_digits 5 (q % 100000))) units ∙ ap (λ f. q / 100000 * 100000 + f) rest ∙ omega arith
 
 -- hundred-thousandths are fine enough to tell raw numbers apart
 rounds_back : (a : ℕ) → (131072 * hundred_thousandths a + 100000) / 200000 ≡ a
@@ -75,9 +74,9 @@ within : (r : ℤ) → negsuc 2147483647 ≤ℤ r → r ≤ℤ pos 2147483647 �
 within r low high =
     ap (λ t. cond (t && int_le r (pos 2147483647)) (Ok r) (Err Range)) (true_from _ low.le) ∙ ap (λ t. cond {A = Result ℤ FixFault} t (Ok r) (Err Range)) (true_from _ high.le)
   where
-  true_from : (b : Bool) → T b → b ≡ true
-  true_from true h = refl
-  true_from false h = absurd h
+    true_from : (b : Bool) → T b → b ≡ true
+    true_from true h = refl
+    true_from false h = absurd h
 
 -- a text that begins with a digit has no sign
 unsigned_fix : (ds text : List ℕ) → 0 < length ds → all_ascii_digits ds ≡ true → fix (ds ++ text) ≡ fix_of_digits false (digits_of_text (ds ++ text))

@@ -1,5 +1,5 @@
 -- Rounding to the nearest raw number.
-use Rattle.std.proofs.Common.{◌≡◌, ℕ, zero, suc, ◌+◌, ◌-◌, ◌*◌, ◌/◌, ◌%◌, ◌^◌, ◌<◌, ◌≤◌, ℤ, pos, negsuc, ◌+ℤ◌, ◌*ℤ◌, neg_ℤ, refl, sym, ap, ◌∙◌, arith, ◌⊎◌, inl, inr, ⊎_elim}
+use Rattle.std.proofs.Common.{◌≡◌, ℕ, zero, suc, ◌+◌, ◌-◌, ◌*◌, ◌/◌, ◌%◌, ◌^◌, ◌<◌, ◌≤◌, pos, negsuc, ◌+ℤ◌, ◌*ℤ◌, neg_ℤ, refl, sym, ap, ◌∙◌, arith, ◌⊎◌, inl, inr, ⊎_elim}
 use Rattle.std.proofs.lemmas.Nat.{div-mul-add, div-add-mod', mod_below}
 use Rattle.std.proofs.lemmas.Int.{ints}
 use Rattle.std.proofs.lemmas.Bool.{cases_lt}
@@ -50,23 +50,24 @@ floor_negative a t positive untied =
     let e : q * (2 * t) + r ≡ a + t = div-add-mod' (a + t) (2 * t) in
     let lt : r < 2 * t = mod_below (a + t) (2 * t) (omega arith) in
     ⊎_elim
-      (λ (le : a ≤ t). ap (λ z. floor_div z (2 * t)) (low_side a t le) ∙ ap pos (quotient (t - a) (2 * t) 0 (t - a) (omega arith) (omega arith))
-        ∙ sym (ap (λ n. neg_ℤ (pos n)) (small a t le untied)))
-      (λ (more : t < a). ap (λ z. floor_div z (2 * t)) (high_side a t more) ∙ above a t q r e lt more (λ none. untied q (omega arith)))
-      (sides a t)
+    (λ (le : a ≤ t). ap (λ z. floor_div z (2 * t)) (low_side a t le) ∙ ap pos (quotient (t - a) (2 * t) 0 (t - a) (omega arith) (omega arith))
+    ∙ sym (ap (λ n. neg_ℤ (pos n)) (small a t le untied)))
+    (λ (more : t < a). ap (λ z. floor_div z (2 * t)) (high_side a t more) ∙ above a t q r e lt more (λ none. untied q (omega arith)))
+    (sides a t)
   where
-  sides : (a t : ℕ) → (a ≤ t) ⊎ (t < a)
-  sides a t = elim (cases_lt t a) [ inl h ↦ inr h | inr h ↦ inl h ]
-  small : (a t : ℕ) → a ≤ t → ((q : ℕ) → a + t ≡ q * (2 * t) → ⊥) → (a + t) / (2 * t) ≡ 0
-  small a t le untied = let h = untied 1 in quotient (a + t) (2 * t) 0 (a + t) (omega arith) (omega arith)
-  above : (a t q r : ℕ) → q * (2 * t) + r ≡ a + t → r < 2 * t → t < a → (r ≡ 0 → ⊥) → negsuc ((a - t - 1) / (2 * t)) ≡ neg_ℤ (pos q)
-  above a t zero r e lt more remains = absurd (omega arith)
-  above a t (suc p) r e lt more remains = ap negsuc (quotient (a - t - 1) (2 * t) p (r - 1) (omega arith) (omega arith))
+    sides : (a t : ℕ) → (a ≤ t) ⊎ (t < a)
+    sides a t = elim (cases_lt t a) [ inl h ↦ inr h | inr h ↦ inl h ]
+
+    small : (a t : ℕ) → a ≤ t → ((q : ℕ) → a + t ≡ q * (2 * t) → ⊥) → (a + t) / (2 * t) ≡ 0
+    small a t le untied = let h = untied 1 in quotient (a + t) (2 * t) 0 (a + t) (omega arith) (omega arith)
+
+    above : (a t q r : ℕ) → q * (2 * t) + r ≡ a + t → r < 2 * t → t < a → (r ≡ 0 → ⊥) → negsuc ((a - t - 1) / (2 * t)) ≡ neg_ℤ (pos q)
+    above a t zero r e lt more remains = absurd (omega arith)
+    above a t (suc p) r e lt more remains = ap negsuc (quotient (a - t - 1) (2 * t) p (r - 1) (omega arith) (omega arith))
 
 pub power_positive : (k : ℕ) → 0 < 10 ^ k
 power_positive zero = omega arith
 power_positive (suc k) = omega (arith, power_positive k, pow-suc 10 k)
-
 
 pub nearest_negative : (n k : ℕ) → k ≤ 9 → nearest_raw (neg_ℤ (pos n)) k ≡ neg_ℤ (pos ((131072 * n + 10 ^ k) / (2 * 10 ^ k)))
 nearest_negative n k few =

@@ -1,7 +1,7 @@
 -- The text of a raw number, put piece by piece.
-use Rattle.std.proofs.Common.{◌≡◌, ℕ, zero, suc, ◌+◌, ◌-◌, ◌*◌, ◌/◌, ◌%◌, ◌^◌, ◌<◌, ◌≤◌, ℤ, pos, negsuc, ◌<ℤ◌, ◌≤ℤ◌, List, [], ◌∷◌, ◌++◌, take, drop, length, decimal, refl, sym, ap, subst, ◌∙◌, arith, unsigned_abs}
+use Rattle.std.proofs.Common.{◌≡◌, ℕ, zero, suc, ◌+◌, ◌-◌, ◌/◌, ◌%◌, ◌^◌, ◌<◌, ◌≤◌, ℤ, pos, negsuc, ◌<ℤ◌, ◌≤ℤ◌, List, [], ◌∷◌, length, decimal, refl, sym, ap, subst, ◌∙◌, arith, unsigned_abs}
 use Rattle.std.proofs.lemmas.List.{length_push}
-use Rattle.std.proofs.lemmas.Fmt.{decimal_digit, decimal_step, length-decimal-le}
+use Rattle.std.proofs.lemmas.Fmt.{decimal_step, length-decimal-le}
 use Rattle.std.proofs.lemmas.Int.{ints}
 use Rattle.fixed_box.specs.Fix.{show, show_magnitude, last_digits, hundred_thousandths}
 use Rattle.fixed_box.specs.Puts.{Puts}

@@ -1,5 +1,5 @@
 -- Coordinates and their text. A raw number r stands for r / 65,536.
-use Rattle.std.specs.Prelude.{ℕ, zero, suc, ◌+◌, ◌*◌, ◌/◌, ◌%◌, ◌^◌, Bool, true, false, ◌&&◌, nat_le, ◌==◌, List, [], ◌∷◌, ◌++◌, length, ℤ, pos, negsuc, ◌+ℤ◌, ◌*ℤ◌, neg_ℤ, int_le, unsigned_abs, Option, Some, None, Result, Ok, Err, if◌then◌else◌, decimal}
+use Rattle.std.specs.Prelude.{ℕ, zero, suc, ◌+◌, ◌*◌, ◌/◌, ◌%◌, ◌^◌, Bool, true, false, ◌&&◌, nat_le, ◌==◌, List, [], ◌∷◌, ◌++◌, length, ℤ, pos, negsuc, ◌+ℤ◌, ◌*ℤ◌, neg_ℤ, int_le, Option, Some, None, Result, Ok, Err, if◌then◌else◌, decimal}
 use Rattle.std.specs.List.{slice_split}
 use Rattle.std.specs.Str.{all_ascii_digits}
 use Rattle.std.specs.Str.Parse.{digits_value}
@@ -36,8 +36,8 @@ abbrev pub nearest_raw : ℤ → ℕ → ℤ
 nearest_raw n places = floor_div (pos 131072 *ℤ n +ℤ pos (10 ^ places)) (2 * 10 ^ places)
 
 -- the number that all digits form
-abbrev pub whole_number : Digits → ℕ
-whole_number d = digits_value 10 (d.whole ++ d.fraction)
+abbrev pub number_of : Digits → ℕ
+number_of d = digits_value 10 (d.whole ++ d.fraction)
 
 -- a raw number of 32 bits with a sign
 abbrev pub within_range : ℤ → Result ℤ FixFault
@@ -46,7 +46,7 @@ within_range r = if int_le (negsuc 2147483647) r && int_le r (pos 2147483647) th
 -- what the digits say, behind a minus sign or with none
 abbrev pub fix_of_digits : Bool → Option Digits → Result ℤ FixFault
 fix_of_digits negative None = Err Form
-fix_of_digits negative (Some d) = within_range (nearest_raw (if negative then neg_ℤ (pos (whole_number d)) else pos (whole_number d)) (length d.fraction))
+fix_of_digits negative (Some d) = within_range (nearest_raw (if negative then neg_ℤ (pos (number_of d)) else pos (number_of d)) (length d.fraction))
 
 -- What a coordinate's text means: an optional minus sign, one to ten digits, and optionally a point and one to nine digits.
 abbrev pub fix : List ℕ → Result ℤ FixFault

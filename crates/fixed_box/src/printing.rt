@@ -67,8 +67,7 @@ fn put_byte(byte: u8, at: usize, into: &mut [u8; 16]) -> usize
 /// What `print_fix` puts reads back as the number that was printed: a law of the two definitions.
 pub fn printed_reads_back()
     ensures { (r : ℤ) → negsuc 2147483647 ≤ℤ r → r ≤ℤ pos 2147483647 → fix (show r) ≡ Ok r }
-{
-}
+{}
 
 // Texts of a few raw numbers, computed from the definition.
 fn worked_prints()
@@ -77,5 +76,4 @@ fn worked_prints()
     ensures below { show (negsuc 0) ≡ codes "-0.00002" }
     ensures unit { show (pos 65536) ≡ codes "1.00000" }
     ensures least { show (negsuc 2147483647) ≡ codes "-32768.00000" }
-{
-}
+{}

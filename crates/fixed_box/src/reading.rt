@@ -4,6 +4,11 @@ ghost use Rattle.fixed_box.specs.Decimal.{decimal_of, with_fraction, magnitude_o
 
 use crate::{Fix, FixFault};
 
+// The most digits before the point, and behind it.
+const WHOLE_DIGITS: u32 = 10;
+
+const FRACTION_DIGITS: u32 = 9;
+
 // A number without a sign, `whole + fraction / scale`. The scale is a power of ten.
 #[derive(Clone, Copy)]
 struct Decimal {
@@ -41,13 +46,13 @@ fn read_decimal(text: &[u8]) -> Option<Decimal>
     ensures sized { IfSome result IsSized }
 {
     let mut whole = 0;
-    let mut count = 0u32;
+    let mut count = 0;
     let mut rest = text;
     'whole: while let [byte, more @ ..] = rest {
         if *byte == b'.' && count > 0 {
             return read_fraction(whole, more);
         }
-        if !byte.is_ascii_digit() || count == 10 {
+        if !byte.is_ascii_digit() || count == WHOLE_DIGITS {
             return None;
         }
         whole = 10 * whole + u64::from(*byte - b'0');
@@ -72,10 +77,10 @@ fn read_fraction(whole: u64, text: &[u8]) -> Option<Decimal>
 {
     let mut fraction = 0;
     let mut scale = 1;
-    let mut count = 0u32;
+    let mut count = 0;
     let mut rest = text;
     'fraction: while let [byte, more @ ..] = rest {
-        if !byte.is_ascii_digit() || count == 9 {
+        if !byte.is_ascii_digit() || count == FRACTION_DIGITS {
             return None;
         }
         fraction = 10 * fraction + u64::from(*byte - b'0');
@@ -127,5 +132,4 @@ fn worked_texts()
     ensures over { fix (codes "32767.999999") ≡ Err FixFault.Range }
     ensures no_fraction { fix (codes "1.") ≡ Err FixFault.Form }
     ensures no_whole { fix (codes ".5") ≡ Err FixFault.Form }
-{
-}
+{}

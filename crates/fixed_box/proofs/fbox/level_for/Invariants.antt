@@ -1,5 +1,4 @@
-use Rattle.std.proofs.Common.{◌≡◌, ℕ, ◌-◌, ◌<◌, ◌≤◌, nat_lt}
-use Rattle.std.specs.List.{find, range_with_len}
+use Rattle.std.proofs.Common.{ℕ, ◌<◌, ◌≤◌}
 use Rattle.fixed_box.specs.Bounds.{cell_side}
 use Rattle.fixed_box.proofs.fbox.level_for.Given as goal
 

@@ -9,9 +9,9 @@ returns-clause-value c =
     let p = c.args.p.now in
     let q = c.args.q.now in
     same_point _ _ _ _ _ _
-      (min_read c.min.result p.x q.x (search rules) (search rules) (search rules) c.min.ensures.value)
-      (min_read c.min-2.result p.y q.y (search rules) (search rules) (search rules) c.min-2.ensures.value)
-      (min_read c.min-3.result p.z q.z (search rules) (search rules) (search rules) c.min-3.ensures.value)
+    (min_read c.min.result p.x q.x (search rules) (search rules) (search rules) c.min.ensures.value)
+    (min_read c.min-2.result p.y q.y (search rules) (search rules) (search rules) c.min-2.ensures.value)
+    (min_read c.min-3.result p.z q.z (search rules) (search rules) (search rules) c.min-3.ensures.value)
 
 pub returns-clause-left : goal.returns-clause-left
 returns-clause-left c = subst (λ (s : Point). is_at_most s c.args.p.now ≡ true) (sym (returns-clause-value c)) (lower_left c.args.p.now c.args.q.now)

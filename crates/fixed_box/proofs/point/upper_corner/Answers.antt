@@ -9,9 +9,9 @@ returns-clause-value c =
     let p = c.args.p.now in
     let q = c.args.q.now in
     same_point _ _ _ _ _ _
-      (max_read c.max.result p.x q.x (search rules) (search rules) (search rules) c.max.ensures.value)
-      (max_read c.max-2.result p.y q.y (search rules) (search rules) (search rules) c.max-2.ensures.value)
-      (max_read c.max-3.result p.z q.z (search rules) (search rules) (search rules) c.max-3.ensures.value)
+    (max_read c.max.result p.x q.x (search rules) (search rules) (search rules) c.max.ensures.value)
+    (max_read c.max-2.result p.y q.y (search rules) (search rules) (search rules) c.max-2.ensures.value)
+    (max_read c.max-3.result p.z q.z (search rules) (search rules) (search rules) c.max-3.ensures.value)
 
 pub returns-clause-left : goal.returns-clause-left
 returns-clause-left c = subst (λ (s : Point). is_at_most c.args.p.now s ≡ true) (sym (returns-clause-value c)) (upper_left c.args.p.now c.args.q.now)

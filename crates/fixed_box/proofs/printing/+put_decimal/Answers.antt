@@ -1,6 +1,5 @@
-use Rattle.std.proofs.Common.{◌≡◌, ◌<◌, ◌^◌, ◌∷◌, [], length, decimal, sym, subst, arith, List, ℕ}
+use Rattle.std.proofs.Common.{arith}
 use Rattle.std.proofs.lemmas.Fmt.{decimal_digit}
-use Rattle.fixed_box.specs.Puts.{Puts}
 use Rattle.fixed_box.proofs.Shown.{length_decimal_step, puts_decimal}
 use Rattle.fixed_box.proofs.printing.+put_decimal.Goals as goal
 

@@ -1,4 +1,4 @@
-use Rattle.std.proofs.Common.{◌+◌, ◌*◌, ◌/◌, ◌≤◌, length, decimal, arith}
+use Rattle.std.proofs.Common.{arith}
 use Rattle.fixed_box.proofs.Shown.{length_units, puts_magnitude}
 use Rattle.fixed_box.proofs.printing.put_magnitude.Goals as goal
 

@@ -1,4 +1,4 @@
-use Rattle.std.proofs.Common.{◌==◌, sym, ◌∙◌}
+use Rattle.std.proofs.Common.{◌==◌, ◌∙◌}
 use Rattle.std.specs.List.{slice_split}
 use Rattle.fixed_box.proofs.Magnitude.{signed_fix}
 use Rattle.fixed_box.proofs.reading.read_signed.Goals as goal
