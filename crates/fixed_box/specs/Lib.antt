@@ -1,2 +1,5 @@
 pub mod Bounds
+pub mod Decimal
+pub mod Fix
 pub mod Point
+pub mod Puts

@@ -1,13 +1,22 @@
-//! Points and axis-aligned boxes over 16.16 fixed-point coordinates.
+//! Points and axis-aligned boxes over 16.16 fixed-point coordinates, and the text of a coordinate.
 #![tactic(auto)]
 
 mod fbox;
+mod fix_fault;
 mod no_memory;
 mod point;
+mod printing;
+mod reading;
 
 pub use fbox::FBox;
+pub use fix_fault::FixFault;
 pub use no_memory::NoMemory;
 pub use point::Point;
+pub use printing::{print_fix, printed_reads_back};
+pub use reading::read_fix;
 
 /// A coordinate in raw units: `raw` stands for `raw / 65,536`.
 pub type Fix = i32;
+
+#[cfg(test)]
+mod tests;

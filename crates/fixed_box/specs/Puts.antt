@@ -1,0 +1,8 @@
+-- What is written into a buffer of bytes.
+use Rattle.std.specs.Prelude.{◌≡◌, ℕ, ◌+◌, List, ◌++◌, take, drop, length}
+
+-- A text stands from one place to another. What stood before it and behind it stays.
+pub record Puts (before now : List ℕ) (at end : ℕ) (text : List ℕ) : Type 0 where
+  pub ends : end ≡ at + length text
+  pub front : take end now ≡ take at before ++ text
+  pub rest : drop end now ≡ drop end before
