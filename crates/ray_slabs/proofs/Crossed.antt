@@ -3,7 +3,7 @@ use Rattle.std.proofs.Common.{◌≡◌, refl, sym, ap, ◌∙◌, ℕ, zero, su
 use Rattle.std.proofs.lemmas.Int.{ints}
 use Rattle.ray_slabs.specs.Crossing.{Slab, Fraction, place_at, fits}
 use Rattle.ray_slabs.specs.Interval.{precedes}
-use Rattle.ray_slabs.proofs.Order.{scaled, unscaled, same_le, same_test, le_of_test, test_of_le}
+use Rattle.ray_slabs.proofs.Order.{sub_mul, mul_neg, scaled, unscaled, same_le, same_test, le_of_test, test_of_le}
 
 and_comm : (x y : Bool) → (x && y) ≡ (y && x)
 and_comm true true = refl
@@ -15,8 +15,8 @@ and_comm false false = refl
 scaled_test : (a b k : ℤ) → pos 0 <ℤ k → int_le (k *ℤ a) (k *ℤ b) ≡ int_le a b
 scaled_test a b k h =
     same_test (int_le (k *ℤ a) (k *ℤ b)) (int_le a b)
-      (λ u. let le : (k *ℤ a) ≤ℤ (k *ℤ b) = le_of_test (k *ℤ a) (k *ℤ b) u in test_of_le a b (unscaled a b k h (omega (arith, ints))))
-      (λ u. let le : (a *ℤ k) ≤ℤ (b *ℤ k) = scaled a b k (omega (arith, ints)) (le_of_test a b u) in test_of_le (k *ℤ a) (k *ℤ b) (omega (arith, ints)))
+    (λ u. let le : (k *ℤ a) ≤ℤ (k *ℤ b) = le_of_test (k *ℤ a) (k *ℤ b) u in test_of_le a b (unscaled a b k h (omega (arith, ints))))
+    (λ u. let le : (a *ℤ k) ≤ℤ (b *ℤ k) = scaled a b k (omega (arith, ints)) (le_of_test a b u) in test_of_le (k *ℤ a) (k *ℤ b) (omega (arith, ints)))
 
 -- A line that runs along the slab is always where it starts.
 pub along : (t : Fraction) (s : Slab) → pos 0 <ℤ t.den → s.dir ≡ pos 0 → fits t s ≡ (int_le s.lo s.from && int_le s.from s.hi)
@@ -31,9 +31,9 @@ pub rising : (t : Fraction) (s : Slab) (a b : Fraction) → a ≡ record { num =
     → fits t s ≡ (precedes a t && precedes t b)
 rising t s a b ea eb =
     let enters : int_le (t.den *ℤ s.lo) (place_at t s) ≡ int_le ((s.lo -ℤ s.from) *ℤ t.den) (t.num *ℤ s.dir) =
-        same_le (t.den *ℤ s.lo) (place_at t s) ((s.lo -ℤ s.from) *ℤ t.den) (t.num *ℤ s.dir) (omega (arith, ints)) in
+    same_le (t.den *ℤ s.lo) (place_at t s) ((s.lo -ℤ s.from) *ℤ t.den) (t.num *ℤ s.dir) (omega (arith, ints, sub_mul s.lo s.from t.den)) in
     let leaves : int_le (place_at t s) (t.den *ℤ s.hi) ≡ int_le (t.num *ℤ s.dir) ((s.hi -ℤ s.from) *ℤ t.den) =
-        same_le (place_at t s) (t.den *ℤ s.hi) (t.num *ℤ s.dir) ((s.hi -ℤ s.from) *ℤ t.den) (omega (arith, ints)) in
+    same_le (place_at t s) (t.den *ℤ s.hi) (t.num *ℤ s.dir) ((s.hi -ℤ s.from) *ℤ t.den) (omega (arith, ints, sub_mul s.hi s.from t.den)) in
     (λ i. enters i && leaves i) ∙ (λ i. precedes (sym ea i) t && precedes t (sym eb i))
 
 -- A line that falls enters by the upper face and leaves by the lower one.
@@ -41,8 +41,8 @@ pub falling : (t : Fraction) (s : Slab) (a b : Fraction) → a ≡ record { num 
     → fits t s ≡ (precedes a t && precedes t b)
 falling t s a b ea eb =
     let enters : int_le (place_at t s) (t.den *ℤ s.hi) ≡ int_le ((s.from -ℤ s.hi) *ℤ t.den) (t.num *ℤ neg_ℤ s.dir) =
-        same_le (place_at t s) (t.den *ℤ s.hi) ((s.from -ℤ s.hi) *ℤ t.den) (t.num *ℤ neg_ℤ s.dir) (omega (arith, ints)) in
+    same_le (place_at t s) (t.den *ℤ s.hi) ((s.from -ℤ s.hi) *ℤ t.den) (t.num *ℤ neg_ℤ s.dir) (omega (arith, ints, sub_mul s.from s.hi t.den, mul_neg t.num s.dir)) in
     let leaves : int_le (t.den *ℤ s.lo) (place_at t s) ≡ int_le (t.num *ℤ neg_ℤ s.dir) ((s.from -ℤ s.lo) *ℤ t.den) =
-        same_le (t.den *ℤ s.lo) (place_at t s) (t.num *ℤ neg_ℤ s.dir) ((s.from -ℤ s.lo) *ℤ t.den) (omega (arith, ints)) in
+    same_le (t.den *ℤ s.lo) (place_at t s) (t.num *ℤ neg_ℤ s.dir) ((s.from -ℤ s.lo) *ℤ t.den) (omega (arith, ints, sub_mul s.from s.lo t.den, mul_neg t.num s.dir)) in
     and_comm (int_le (t.den *ℤ s.lo) (place_at t s)) (int_le (place_at t s) (t.den *ℤ s.hi))
     ∙ (λ i. enters i && leaves i) ∙ (λ i. precedes (sym ea i) t && precedes t (sym eb i))

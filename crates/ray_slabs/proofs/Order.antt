@@ -1,10 +1,30 @@
 -- The order of whole numbers under a factor, and the order of fractions by cross products.
-use Rattle.std.proofs.Common.{◌≡◌, refl, sym, ap, ◌∙◌, ℕ, ◌+◌, ◌*◌, Bool, true, false, ◌&&◌, ℤ, pos, negsuc, ◌+ℤ◌, ◌-ℤ◌, ◌*ℤ◌, ◌≤ℤ◌, ◌<ℤ◌, int_le, arith}
+use Rattle.std.proofs.Common.{◌≡◌, refl, sym, ap, ◌∙◌, ℕ, ◌+◌, ◌*◌, Bool, true, false, ◌&&◌, ℤ, pos, negsuc, ◌+ℤ◌, ◌-ℤ◌, ◌*ℤ◌, neg_ℤ, ◌≤ℤ◌, ◌<ℤ◌, int_le, arith}
 use Rattle.std.proofs.lemmas.Int.{ints}
 use Rattle.std.proofs.Math.Nat.{mul-le-mul_left, le_of_mul-le-mul_left}
-use borrow.Author.Differences.{up, down, le_out, lt_out, at_most_in}
+use borrow.Author.Differences.{up, down, le_out, at_most_in, same_in, product_is, neg_is}
 use Rattle.ray_slabs.specs.Crossing.{Fraction}
 use Rattle.ray_slabs.specs.Interval.{precedes}
+
+-- the laws of products that `omega` lacks
+pub sub_mul : (a b k : ℤ) → (a -ℤ b) *ℤ k ≡ a *ℤ k -ℤ b *ℤ k
+sub_mul a b k =
+    let parts : up (a -ℤ b) + down a + up b ≡ down (a -ℤ b) + up a + down b = omega (arith, ints) in
+    omega (arith, ints, ap (λ n. n * up k) parts, ap (λ n. n * down k) parts)
+
+pub mul_neg : (a b : ℤ) → a *ℤ neg_ℤ b ≡ neg_ℤ (a *ℤ b)
+mul_neg a b =
+    let ups : up (a *ℤ neg_ℤ b) ≡ up a * down b + down a * up b = (product_is a (neg_ℤ b)).0 ∙ (λ i. up a * (neg_is b).0 i + down a * (neg_is b).1 i) in
+    let downs : down (a *ℤ neg_ℤ b) ≡ up a * up b + down a * down b = (product_is a (neg_ℤ b)).1 ∙ (λ i. up a * (neg_is b).1 i + down a * (neg_is b).0 i) in
+    omega (arith, ints)
+
+pub mul_swap : (a b c : ℤ) → (a *ℤ b) *ℤ c ≡ (a *ℤ c) *ℤ b
+mul_swap a b c =
+    let ups : (x y z : ℤ) → up ((x *ℤ y) *ℤ z) ≡ (up x * up y + down x * down y) * up z + (up x * down y + down x * up y) * down z =
+    λ x y z. (product_is (x *ℤ y) z).0 ∙ (λ i. (product_is x y).0 i * up z + (product_is x y).1 i * down z) in
+    let downs : (x y z : ℤ) → down ((x *ℤ y) *ℤ z) ≡ (up x * up y + down x * down y) * down z + (up x * down y + down x * up y) * up z =
+    λ x y z. (product_is (x *ℤ y) z).1 ∙ (λ i. (product_is x y).0 i * down z + (product_is x y).1 i * up z) in
+    same_in ((a *ℤ b) *ℤ c) ((a *ℤ c) *ℤ b) (omega (arith, ups a b c, ups a c b, downs a b c, downs a c b))
 
 -- a test that passes, and what it says
 pub le_of_test : (a b : ℤ) → int_le a b ≡ true → a ≤ℤ b
@@ -48,6 +68,9 @@ pub precedes_trans : (a b c : Fraction) → pos 0 <ℤ a.den → pos 0 <ℤ b.de
 precedes_trans a b c ha hb hc ab bc =
     let first : ((a.num *ℤ b.den) *ℤ c.den) ≤ℤ ((b.num *ℤ a.den) *ℤ c.den) = scaled (a.num *ℤ b.den) (b.num *ℤ a.den) c.den (omega (arith, ints)) (le_of_test (a.num *ℤ b.den) (b.num *ℤ a.den) ab) in
     let second : ((b.num *ℤ c.den) *ℤ a.den) ≤ℤ ((c.num *ℤ b.den) *ℤ a.den) = scaled (b.num *ℤ c.den) (c.num *ℤ b.den) a.den (omega (arith, ints)) (le_of_test (b.num *ℤ c.den) (c.num *ℤ b.den) bc) in
+    let swapped : (a.num *ℤ b.den) *ℤ c.den ≡ (a.num *ℤ c.den) *ℤ b.den = mul_swap a.num b.den c.den in
+    let swapped' : (b.num *ℤ a.den) *ℤ c.den ≡ (b.num *ℤ c.den) *ℤ a.den = mul_swap b.num a.den c.den in
+    let swapped'' : (c.num *ℤ b.den) *ℤ a.den ≡ (c.num *ℤ a.den) *ℤ b.den = mul_swap c.num b.den a.den in
     test_of_le (a.num *ℤ c.den) (c.num *ℤ a.den) (unscaled (a.num *ℤ c.den) (c.num *ℤ a.den) b.den hb (omega (arith, ints)))
 
 pub precedes_refl : (a : Fraction) → precedes a a ≡ true

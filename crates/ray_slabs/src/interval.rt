@@ -36,10 +36,16 @@ impl Interval {
         ensures left { (t : Fraction) → pos 0 <ℤ t.den → is_left result t ≡ (contains self t && fits t slab.now) }
         ensures not_empty { IfSome result IsNotEmpty }
     {
-        let Some((enter, leave)) = slab.crossing() else {
-            return if slab.holds_start() { Some(self) } else { None };
-        };
-        self.narrow(enter, leave)
+        match slab.crossing() {
+            Some((enter, leave)) => self.narrow(enter, leave),
+            None => {
+                if slab.holds_start() {
+                    Some(self)
+                } else {
+                    None
+                }
+            }
+        }
     }
 
     // The fractions from `enter` to `leave` alone, and `None` where none is left.

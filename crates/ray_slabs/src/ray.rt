@@ -32,8 +32,7 @@ pub fn ray_meets(ray: &Ray, body: &WBox) -> bool
 /// numbers `p >= 0` and `q > 0`.
 pub fn ray_law()
     ensures { (from dir : Vector) (body : WideBounds) → IsTrue (in_ray from dir body) ↔ MeetsAhead from dir body }
-{
-}
+{}
 
 // The ray and the box on each axis.
 fn slabs(ray: &Ray, body: &WBox) -> [Slab; 3]

@@ -32,8 +32,7 @@ pub fn seg_meets(seg: &Seg, body: &WBox) -> bool
 /// numbers `p >= 0` and `q > 0` with `p <= q`.
 pub fn seg_law()
     ensures { (a b : Vector) (body : WideBounds) → IsTrue (in_seg a b body) ↔ MeetsOnWay a b body }
-{
-}
+{}
 
 // The segment and the box on each axis.
 fn slabs(seg: &Seg, body: &WBox) -> [Slab; 3]

@@ -1,4 +1,4 @@
-ghost use Rattle.std.specs.Prelude.{◌≡◌, pos, ◌+ℤ◌, ◌-ℤ◌, ◌<ℤ◌, ◌&&◌, int_le, IsTrue, IfNone, IfSome};
+ghost use Rattle.std.specs.Prelude.{◌≡◌, pos, ◌+ℤ◌, ◌-ℤ◌, neg_ℤ, ◌<ℤ◌, ◌&&◌, int_le, IsTrue, IfNone, IfSome};
 ghost use Rattle.std.specs.List.{list_any};
 ghost use Rattle.ray_slabs.specs.Crossing.{Fraction, fits};
 ghost use Rattle.ray_slabs.specs.Interval.{precedes};
@@ -64,14 +64,34 @@ impl Slab {
         ensures across { IfSome result (λ c. (t : Fraction) → pos 0 <ℤ t.den → fits t self.now ≡ (precedes c.0 t && precedes t c.1)) }
     {
         if self.dir > 0 {
-            let enter = Ratio::new(self.lo - self.from, self.dir);
-            Some((enter, Ratio::new(self.hi - self.from, self.dir)))
+            Some(self.rising_crossing())
         } else if self.dir < 0 {
-            let enter = Ratio::new(self.from - self.hi, -self.dir);
-            Some((enter, Ratio::new(self.from - self.lo, -self.dir)))
+            Some(self.falling_crossing())
         } else {
             None
         }
+    }
+
+    // A line that rises enters by the lower face and leaves by the upper one.
+    fn rising_crossing(&self) -> (Ratio, Ratio)
+        requires { pos 0 <ℤ self.now.dir }
+        ensures enter { result.0 ≡ record { num = self.now.lo -ℤ self.now.from; den = self.now.dir } }
+        ensures leave { result.1 ≡ record { num = self.now.hi -ℤ self.now.from; den = self.now.dir } }
+    {
+        let enter = Ratio::new(self.lo - self.from, self.dir);
+        let leave = Ratio::new(self.hi - self.from, self.dir);
+        (enter, leave)
+    }
+
+    // A line that falls enters by the upper face and leaves by the lower one.
+    fn falling_crossing(&self) -> (Ratio, Ratio)
+        requires { self.now.dir <ℤ pos 0 }
+        ensures enter { result.0 ≡ record { num = self.now.from -ℤ self.now.hi; den = neg_ℤ self.now.dir } }
+        ensures leave { result.1 ≡ record { num = self.now.from -ℤ self.now.lo; den = neg_ℤ self.now.dir } }
+    {
+        let enter = Ratio::new(self.from - self.hi, -self.dir);
+        let leave = Ratio::new(self.from - self.lo, -self.dir);
+        (enter, leave)
     }
 
     // Whether the line starts from one face to the other.
