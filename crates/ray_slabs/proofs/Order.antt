@@ -1,6 +1,7 @@
 -- The order of whole numbers under a factor, and the order of fractions by cross products.
 use Rattle.std.proofs.Common.{◌≡◌, refl, sym, ap, ◌∙◌, ℕ, ◌+◌, ◌*◌, Bool, true, false, ◌&&◌, ℤ, pos, negsuc, ◌+ℤ◌, ◌-ℤ◌, ◌*ℤ◌, neg_ℤ, ◌≤ℤ◌, ◌<ℤ◌, int_le, arith}
 use Rattle.std.proofs.lemmas.Int.{ints}
+use Rattle.std.proofs.Math.IntN.{*ℤ_comm}
 use Rattle.std.proofs.Math.Nat.{mul-le-mul_left, le_of_mul-le-mul_left}
 use borrow.Author.Differences.{up, down, le_out, at_most_in, same_in, product_is, neg_is}
 use Rattle.ray_slabs.specs.Crossing.{Fraction}
@@ -11,6 +12,18 @@ pub sub_mul : (a b k : ℤ) → (a -ℤ b) *ℤ k ≡ a *ℤ k -ℤ b *ℤ k
 sub_mul a b k =
     let parts : up (a -ℤ b) + down a + up b ≡ down (a -ℤ b) + up a + down b = omega (arith, ints) in
     omega (arith, ints, ap (λ n. n * up k) parts, ap (λ n. n * down k) parts)
+
+pub add_mul : (a b k : ℤ) → (a +ℤ b) *ℤ k ≡ a *ℤ k +ℤ b *ℤ k
+add_mul a b k =
+    let parts : up (a +ℤ b) + down a + down b ≡ down (a +ℤ b) + up a + up b = omega (arith, ints) in
+    omega (arith, ints, ap (λ n. n * up k) parts, ap (λ n. n * down k) parts)
+
+-- each of two differences multiplied out
+pub sub_mul_sub : (a b c d : ℤ) → (a -ℤ b) *ℤ (c -ℤ d) ≡ (a *ℤ c -ℤ a *ℤ d) -ℤ (b *ℤ c -ℤ b *ℤ d)
+sub_mul_sub a b c d =
+    let first : a *ℤ (c -ℤ d) ≡ a *ℤ c -ℤ a *ℤ d = *ℤ_comm a (c -ℤ d) ∙ sub_mul c d a ∙ (λ i. *ℤ_comm c a i -ℤ *ℤ_comm d a i) in
+    let second : b *ℤ (c -ℤ d) ≡ b *ℤ c -ℤ b *ℤ d = *ℤ_comm b (c -ℤ d) ∙ sub_mul c d b ∙ (λ i. *ℤ_comm c b i -ℤ *ℤ_comm d b i) in
+    sub_mul a b (c -ℤ d) ∙ (λ i. first i -ℤ second i)
 
 pub mul_neg : (a b : ℤ) → a *ℤ neg_ℤ b ≡ neg_ℤ (a *ℤ b)
 mul_neg a b =
@@ -66,8 +79,8 @@ same_le a b c d e = same_test (int_le a b) (int_le c d) (λ h. test_of_le c d (o
 -- the order of fractions
 pub precedes_trans : (a b c : Fraction) → pos 0 <ℤ a.den → pos 0 <ℤ b.den → pos 0 <ℤ c.den → precedes a b ≡ true → precedes b c ≡ true → precedes a c ≡ true
 precedes_trans a b c ha hb hc ab bc =
-    let first : ((a.num *ℤ b.den) *ℤ c.den) ≤ℤ ((b.num *ℤ a.den) *ℤ c.den) = scaled (a.num *ℤ b.den) (b.num *ℤ a.den) c.den (omega (arith, ints)) (le_of_test (a.num *ℤ b.den) (b.num *ℤ a.den) ab) in
-    let second : ((b.num *ℤ c.den) *ℤ a.den) ≤ℤ ((c.num *ℤ b.den) *ℤ a.den) = scaled (b.num *ℤ c.den) (c.num *ℤ b.den) a.den (omega (arith, ints)) (le_of_test (b.num *ℤ c.den) (c.num *ℤ b.den) bc) in
+    let by_c : ((a.num *ℤ b.den) *ℤ c.den) ≤ℤ ((b.num *ℤ a.den) *ℤ c.den) = scaled (a.num *ℤ b.den) (b.num *ℤ a.den) c.den (omega (arith, ints)) (le_of_test (a.num *ℤ b.den) (b.num *ℤ a.den) ab) in
+    let by_a : ((b.num *ℤ c.den) *ℤ a.den) ≤ℤ ((c.num *ℤ b.den) *ℤ a.den) = scaled (b.num *ℤ c.den) (c.num *ℤ b.den) a.den (omega (arith, ints)) (le_of_test (b.num *ℤ c.den) (c.num *ℤ b.den) bc) in
     let swapped : (a.num *ℤ b.den) *ℤ c.den ≡ (a.num *ℤ c.den) *ℤ b.den = mul_swap a.num b.den c.den in
     let swapped' : (b.num *ℤ a.den) *ℤ c.den ≡ (b.num *ℤ c.den) *ℤ a.den = mul_swap b.num a.den c.den in
     let swapped'' : (c.num *ℤ b.den) *ℤ a.den ≡ (c.num *ℤ a.den) *ℤ b.den = mul_swap c.num b.den a.den in
