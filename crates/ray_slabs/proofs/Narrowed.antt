@@ -7,7 +7,7 @@ use Rattle.ray_slabs.specs.declared.interval.Interval.{Interval}
 use Rattle.ray_slabs.proofs.Order.{precedes_trans}
 
 -- an equation by the case that the right side is true
-false_unless : (x : Bool) → (x ≡ true → false ≡ true) → false ≡ x
+pub false_unless : (x : Bool) → (x ≡ true → false ≡ true) → false ≡ x
 false_unless true f = f refl
 false_unless false f = refl
 
