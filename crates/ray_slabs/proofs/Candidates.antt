@@ -3,9 +3,9 @@ use Rattle.std.proofs.Common.{◌≡◌, refl, sym, ap, ◌∙◌, subst, Bool, 
 use Rattle.std.specs.List.{flat_map, list_all, list_any}
 use Rattle.std.proofs.lemmas.Int.{ints}
 use Rattle.std.proofs.lemmas.List.Folds.{list_any-append}
-use Rattle.ray_slabs.specs.Crossing.{Slab, Fraction, fits, crossings, crossings_by, candidates, fits_ahead, fits_on_way}
-use Rattle.ray_slabs.specs.Interval.{precedes}
-use Rattle.ray_slabs.proofs.Order.{same_le, precedes_trans, precedes_refl, precedes_total}
+use Rattle.ray_slabs.specs.Crossing.{Slab, Fraction, fits, crossings, crossings_by, candidates, fits_ray, fits_seg}
+use Rattle.ray_slabs.specs.Interval.{at_most}
+use Rattle.ray_slabs.proofs.Order.{same_le, at_most_trans, at_most_refl, at_most_total}
 use Rattle.ray_slabs.proofs.Crossed.{along, rising, falling}
 use Rattle.ray_slabs.proofs.Narrowed.{first_of, second_of, all_of}
 
@@ -14,7 +14,7 @@ data Fit (s : Slab) : Type 0 where
   level : (b : Bool) → ((t : Fraction) → pos 0 <ℤ t.den → fits t s ≡ b) → Fit s
   crossed : (enter leave : Fraction) → pos 0 <ℤ enter.den → pos 0 <ℤ leave.den
       → ((P : Fraction → Bool) → P enter ≡ true → list_any P (crossings s) ≡ true)
-      → ((t : Fraction) → pos 0 <ℤ t.den → fits t s ≡ (precedes enter t && precedes t leave)) → Fit s
+      → ((t : Fraction) → pos 0 <ℤ t.den → fits t s ≡ (at_most enter t && at_most t leave)) → Fit s
 
 or_true : (x y : Bool) → y ≡ true → (x || y) ≡ true
 or_true true y h = refl
@@ -31,37 +31,37 @@ fit_by s (pos (suc n)) e =
     let enter : Fraction = record { num = s.lo -ℤ s.from; den = pos (suc n) } in
     let leave : Fraction = record { num = s.hi -ℤ s.from; den = pos (suc n) } in
     crossed enter leave (omega (arith, ints)) (omega (arith, ints))
-      (λ P h. ap (λ d. list_any P (crossings_by d s)) e ∙ true_or (P enter) (P leave || false) h)
-      (λ t h. rising t s enter leave (λ i. record { num = s.lo -ℤ s.from; den = sym e i }) (λ i. record { num = s.hi -ℤ s.from; den = sym e i }))
+    (λ P h. ap (λ d. list_any P (crossings_by d s)) e ∙ true_or (P enter) (P leave || false) h)
+    (λ t h. rising t s enter leave (λ i. record { num = s.lo -ℤ s.from; den = sym e i }) (λ i. record { num = s.hi -ℤ s.from; den = sym e i }))
 fit_by s (negsuc n) e =
     let enter : Fraction = record { num = s.from -ℤ s.hi; den = pos (suc n) } in
     let leave : Fraction = record { num = s.from -ℤ s.lo; den = pos (suc n) } in
     crossed enter leave (omega (arith, ints)) (omega (arith, ints))
-      (λ P h. ap (λ d. list_any P (crossings_by d s)) e ∙ or_true (P leave) (P enter || false) (true_or (P enter) false h))
-      (λ t h. falling t s enter leave (λ i. record { num = s.from -ℤ s.hi; den = neg_ℤ (sym e i) }) (λ i. record { num = s.from -ℤ s.lo; den = neg_ℤ (sym e i) }))
+    (λ P h. ap (λ d. list_any P (crossings_by d s)) e ∙ or_true (P leave) (P enter || false) (true_or (P enter) false h))
+    (λ t h. falling t s enter leave (λ i. record { num = s.from -ℤ s.hi; den = neg_ℤ (sym e i) }) (λ i. record { num = s.from -ℤ s.lo; den = neg_ℤ (sym e i) }))
 
 fit : (s : Slab) → Fit s
 fit s = fit_by s s.dir refl
 
 -- Between two fractions that fit a slab each one does.
 convex : (s : Slab) (a t c : Fraction) → pos 0 <ℤ a.den → pos 0 <ℤ t.den → pos 0 <ℤ c.den
-    → precedes a t ≡ true → precedes t c ≡ true → fits a s ≡ true → fits c s ≡ true → fits t s ≡ true
+    → at_most a t ≡ true → at_most t c ≡ true → fits a s ≡ true → fits c s ≡ true → fits t s ≡ true
 convex s a t c ha ht hc at tc fa fc =
     elim (fit s) [
       | level b same ↦ same t ht ∙ sym (same a ha) ∙ fa
       | crossed enter leave he hl among is ↦
-          let from : precedes enter a ≡ true = first_of (precedes enter a) (precedes a leave) (sym (is a ha) ∙ fa) in
-          let to : precedes c leave ≡ true = second_of (precedes enter c) (precedes c leave) (sym (is c hc) ∙ fc) in
-          is t ht ∙ all_of (precedes enter t) (precedes t leave) (precedes_trans enter a t he ha ht from at) (precedes_trans t c leave ht hc hl tc to)
+          let from : at_most enter a ≡ true = first_of (at_most enter a) (at_most a leave) (sym (is a ha) ∙ fa) in
+          let to : at_most c leave ≡ true = second_of (at_most enter c) (at_most c leave) (sym (is c hc) ∙ fc) in
+          is t ht ∙ all_of (at_most enter t) (at_most t leave) (at_most_trans enter a t he ha ht from at) (at_most_trans t c leave ht hc hl tc to)
     ]
 
 all_convex : (ss : List Slab) (a t c : Fraction) → pos 0 <ℤ a.den → pos 0 <ℤ t.den → pos 0 <ℤ c.den
-    → precedes a t ≡ true → precedes t c ≡ true → list_all (fits a) ss ≡ true → list_all (fits c) ss ≡ true → list_all (fits t) ss ≡ true
+    → at_most a t ≡ true → at_most t c ≡ true → list_all (fits a) ss ≡ true → list_all (fits c) ss ≡ true → list_all (fits t) ss ≡ true
 all_convex [] a t c ha ht hc at tc fa fc = refl
 all_convex (s ∷ ss) a t c ha ht hc at tc fa fc =
     all_of (fits t s) (list_all (fits t) ss)
-      (convex s a t c ha ht hc at tc (first_of (fits a s) (list_all (fits a) ss) fa) (first_of (fits c s) (list_all (fits c) ss) fc))
-      (all_convex ss a t c ha ht hc at tc (second_of (fits a s) (list_all (fits a) ss) fa) (second_of (fits c s) (list_all (fits c) ss) fc))
+    (convex s a t c ha ht hc at tc (first_of (fits a s) (list_all (fits a) ss) fa) (first_of (fits c s) (list_all (fits c) ss) fc))
+    (all_convex ss a t c ha ht hc at tc (second_of (fits a s) (list_all (fits a) ss) fa) (second_of (fits c s) (list_all (fits c) ss) fc))
 
 -- the fraction 0
 abbrev pub start : Fraction
@@ -71,8 +71,8 @@ start = record { num = pos 0; den = pos 1 }
 pub record Candidate (ss : List Slab) (t : Fraction) : Type 0 where
   pub place : Fraction
   pub above_zero : pos 0 <ℤ place.den
-  pub ahead : precedes start place ≡ true
-  pub no_later : precedes place t ≡ true
+  pub ahead : at_most start place ≡ true
+  pub no_later : at_most place t ≡ true
   pub all_fit : list_all (fits place) ss ≡ true
   pub among : (P : Fraction → Bool) → P place ≡ true → (P start || list_any P (flat_map crossings ss)) ≡ true
 
@@ -100,27 +100,27 @@ more s ss t ht ft fts c false e =
           let clash : true ≡ false = sym ft ∙ same t ht ∙ sym (same c.place c.above_zero) ∙ e in
           let no : ⊥ = cc in absurd no
       | crossed enter leave he hl among is ↦
-          let from : precedes enter t ≡ true = first_of (precedes enter t) (precedes t leave) (sym (is t ht) ∙ ft) in
-          let to : precedes t leave ≡ true = second_of (precedes enter t) (precedes t leave) (sym (is t ht) ∙ ft) in
-          let inside : precedes c.place leave ≡ true = precedes_trans c.place t leave c.above_zero ht hl c.no_later to in
-          let outside : precedes enter c.place ≡ false = not_first (precedes enter c.place) (precedes c.place leave) inside (sym (is c.place c.above_zero) ∙ e) in
-          let before : precedes c.place enter ≡ true = precedes_total enter c.place outside in
-          let own : fits enter s ≡ true = is enter he ∙ all_of (precedes enter enter) (precedes enter leave) (precedes_refl enter) (precedes_trans enter t leave he ht hl from to) in
+          let from : at_most enter t ≡ true = first_of (at_most enter t) (at_most t leave) (sym (is t ht) ∙ ft) in
+          let to : at_most t leave ≡ true = second_of (at_most enter t) (at_most t leave) (sym (is t ht) ∙ ft) in
+          let inside : at_most c.place leave ≡ true = at_most_trans c.place t leave c.above_zero ht hl c.no_later to in
+          let outside : at_most enter c.place ≡ false = not_first (at_most enter c.place) (at_most c.place leave) inside (sym (is c.place c.above_zero) ∙ e) in
+          let before : at_most c.place enter ≡ true = at_most_total enter c.place outside in
+          let own : fits enter s ≡ true = is enter he ∙ all_of (at_most enter enter) (at_most enter leave) (at_most_refl enter) (at_most_trans enter t leave he ht hl from to) in
           record {
             place = enter;
             above_zero = he;
-            ahead = precedes_trans start c.place enter (omega (arith, ints)) c.above_zero he c.ahead before;
+            ahead = at_most_trans start c.place enter (omega (arith, ints)) c.above_zero he c.ahead before;
             no_later = from;
             all_fit = all_of (fits enter s) (list_all (fits enter) ss) own (all_convex ss c.place enter t c.above_zero he ht before from c.all_fit fts);
             among = λ P h. ap (λ b. P start || b) (list_any-append P (crossings s) (flat_map crossings ss)) ∙ or_true (P start) (list_any P (crossings s) || list_any P (flat_map crossings ss)) (true_or (list_any P (crossings s)) (list_any P (flat_map crossings ss)) (among P h));
           }
     ]
 
-pub candidate : (ss : List Slab) (t : Fraction) → pos 0 <ℤ t.den → precedes start t ≡ true → list_all (fits t) ss ≡ true → Candidate ss t
+pub candidate : (ss : List Slab) (t : Fraction) → pos 0 <ℤ t.den → at_most start t ≡ true → list_all (fits t) ss ≡ true → Candidate ss t
 candidate [] t ht h f = record {
   place = start;
   above_zero = omega (arith, ints);
-  ahead = precedes_refl start;
+  ahead = at_most_refl start;
   no_later = h;
   all_fit = refl;
   among = λ P h. true_or (P start) false h;
@@ -161,27 +161,27 @@ pub found_among : (Q : Fraction → Bool) (ss : List Slab) → list_any Q (candi
 found_among Q ss e = found Q (candidates ss) (omega (arith, ints), all_above_zero ss) e
 
 -- 0 and 1 as bounds
-pub from_start : (t : Fraction) → precedes start t ≡ int_le (pos 0) t.num
+pub from_start : (t : Fraction) → at_most start t ≡ int_le (pos 0) t.num
 from_start t = same_le (pos 0 *ℤ t.den) (t.num *ℤ pos 1) (pos 0) t.num (omega (arith, ints))
 
 -- the fraction 1
 abbrev pub finish : Fraction
 finish = record { num = pos 1; den = pos 1 }
 
-pub to_finish : (t : Fraction) → precedes t finish ≡ int_le t.num t.den
+pub to_finish : (t : Fraction) → at_most t finish ≡ int_le t.num t.den
 to_finish t = same_le (t.num *ℤ pos 1) (pos 1 *ℤ t.den) t.num t.den (omega (arith, ints))
 
 -- A fraction that fits shows a candidate that does.
-pub candidate_ahead : (ss : List Slab) (t : Fraction) → pos 0 <ℤ t.den → fits_ahead ss t ≡ true → list_any (fits_ahead ss) (candidates ss) ≡ true
-candidate_ahead ss t ht f =
+pub ray_candidate : (ss : List Slab) (t : Fraction) → pos 0 <ℤ t.den → fits_ray ss t ≡ true → list_any (fits_ray ss) (candidates ss) ≡ true
+ray_candidate ss t ht f =
     let c : Candidate ss t = candidate ss t ht (from_start t ∙ first_of (int_le (pos 0) t.num) (list_all (fits t) ss) f) (second_of (int_le (pos 0) t.num) (list_all (fits t) ss) f) in
-    c.among (fits_ahead ss) (all_of (int_le (pos 0) c.place.num) (list_all (fits c.place) ss) (sym (from_start c.place) ∙ c.ahead) c.all_fit)
+    c.among (fits_ray ss) (all_of (int_le (pos 0) c.place.num) (list_all (fits c.place) ss) (sym (from_start c.place) ∙ c.ahead) c.all_fit)
 
-pub candidate_on_way : (ss : List Slab) (t : Fraction) → pos 0 <ℤ t.den → fits_on_way ss t ≡ true → list_any (fits_on_way ss) (candidates ss) ≡ true
-candidate_on_way ss t ht f =
-    let ahead : fits_ahead ss t ≡ true = second_of (int_le t.num t.den) (fits_ahead ss t) f in
+pub seg_candidate : (ss : List Slab) (t : Fraction) → pos 0 <ℤ t.den → fits_seg ss t ≡ true → list_any (fits_seg ss) (candidates ss) ≡ true
+seg_candidate ss t ht f =
+    let ahead : fits_ray ss t ≡ true = second_of (int_le t.num t.den) (fits_ray ss t) f in
     let c : Candidate ss t = candidate ss t ht (from_start t ∙ first_of (int_le (pos 0) t.num) (list_all (fits t) ss) ahead) (second_of (int_le (pos 0) t.num) (list_all (fits t) ss) ahead) in
-    let bound : precedes t finish ≡ true = to_finish t ∙ first_of (int_le t.num t.den) (fits_ahead ss t) f in
-    let within : precedes c.place finish ≡ true = precedes_trans c.place t finish c.above_zero ht (omega (arith, ints)) c.no_later bound in
-    c.among (fits_on_way ss) (all_of (int_le c.place.num c.place.den) (fits_ahead ss c.place) (sym (to_finish c.place) ∙ within)
-      (all_of (int_le (pos 0) c.place.num) (list_all (fits c.place) ss) (sym (from_start c.place) ∙ c.ahead) c.all_fit))
+    let bound : at_most t finish ≡ true = to_finish t ∙ first_of (int_le t.num t.den) (fits_ray ss t) f in
+    let within : at_most c.place finish ≡ true = at_most_trans c.place t finish c.above_zero ht (omega (arith, ints)) c.no_later bound in
+    c.among (fits_seg ss) (all_of (int_le c.place.num c.place.den) (fits_ray ss c.place) (sym (to_finish c.place) ∙ within)
+    (all_of (int_le (pos 0) c.place.num) (list_all (fits c.place) ss) (sym (from_start c.place) ∙ c.ahead) c.all_fit))

@@ -2,9 +2,9 @@
 use Rattle.std.proofs.Common.{ℕ, List, [], ◌∷◌, length, get_or, arith, ◌≡◌, refl, sym, ap, ◌∙◌, subst, Bool, true, false, ◌&&◌, ℤ, pos, ◌<ℤ◌}
 use Rattle.std.specs.List.{list_all}
 use Rattle.ray_slabs.specs.Crossing.{Slab, Fraction}
-use Rattle.ray_slabs.specs.Interval.{precedes, is_before_end, contains}
+use Rattle.ray_slabs.specs.Interval.{at_most, is_before_end, contains}
 use Rattle.ray_slabs.specs.declared.interval.Interval.{Interval}
-use Rattle.ray_slabs.proofs.Order.{precedes_trans}
+use Rattle.ray_slabs.proofs.Order.{at_most_trans}
 
 -- an equation by the case that the right side is true
 pub false_unless : (x : Bool) → (x ≡ true → false ≡ true) → false ≡ x
@@ -25,15 +25,15 @@ all_of x y e f = λ i. e i && f i
 
 -- Where the later start isn't before the earlier end, no fraction is from the starts to the ends.
 pub none_left : (i : Interval) (enter leave later sooner t : Fraction) → pos 0 <ℤ t.den → pos 0 <ℤ later.den → pos 0 <ℤ sooner.den
-    → precedes later t ≡ (precedes i.enter t && precedes enter t) → precedes t sooner ≡ (is_before_end i.leave t && precedes t leave) → precedes later sooner ≡ false
-    → false ≡ (contains i t && (precedes enter t && precedes t leave))
+    → at_most later t ≡ (at_most i.enter t && at_most enter t) → at_most t sooner ≡ (is_before_end i.leave t && at_most t leave) → at_most later sooner ≡ false
+    → false ≡ (contains i t && (at_most enter t && at_most t leave))
 none_left i enter leave later sooner t ht hl hs starts ends apart =
-    false_unless (contains i t && (precedes enter t && precedes t leave)) (λ e.
-    let within : contains i t ≡ true = first_of (contains i t) (precedes enter t && precedes t leave) e in
-    let between : (precedes enter t && precedes t leave) ≡ true = second_of (contains i t) (precedes enter t && precedes t leave) e in
-    let from : precedes later t ≡ true = starts ∙ all_of (precedes i.enter t) (precedes enter t) (first_of (precedes i.enter t) (is_before_end i.leave t) within) (first_of (precedes enter t) (precedes t leave) between) in
-    let to : precedes t sooner ≡ true = ends ∙ all_of (is_before_end i.leave t) (precedes t leave) (second_of (precedes i.enter t) (is_before_end i.leave t) within) (second_of (precedes enter t) (precedes t leave) between) in
-    sym apart ∙ precedes_trans later t sooner hl ht hs from to)
+    false_unless (contains i t && (at_most enter t && at_most t leave)) (λ e.
+    let within : contains i t ≡ true = first_of (contains i t) (at_most enter t && at_most t leave) e in
+    let between : (at_most enter t && at_most t leave) ≡ true = second_of (contains i t) (at_most enter t && at_most t leave) e in
+    let from : at_most later t ≡ true = starts ∙ all_of (at_most i.enter t) (at_most enter t) (first_of (at_most i.enter t) (is_before_end i.leave t) within) (first_of (at_most enter t) (at_most t leave) between) in
+    let to : at_most t sooner ≡ true = ends ∙ all_of (is_before_end i.leave t) (at_most t leave) (second_of (at_most i.enter t) (is_before_end i.leave t) within) (second_of (at_most enter t) (at_most t leave) between) in
+    sym apart ∙ at_most_trans later t sooner hl ht hs from to)
 
 -- A slab that the line runs along takes all of an interval or nothing.
 pub all_kept : (x y : Bool) {b : Bool} → y ≡ b → b ≡ true → x ≡ (x && y)

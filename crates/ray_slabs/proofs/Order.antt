@@ -5,7 +5,7 @@ use Rattle.std.proofs.Math.IntN.{*ℤ_comm}
 use Rattle.std.proofs.Math.Nat.{mul-le-mul_left, le_of_mul-le-mul_left}
 use borrow.Author.Differences.{up, down, le_out, at_most_in, same_in, product_is, neg_is}
 use Rattle.ray_slabs.specs.Crossing.{Fraction}
-use Rattle.ray_slabs.specs.Interval.{precedes}
+use Rattle.ray_slabs.specs.Interval.{at_most}
 
 -- the laws of products that `omega` lacks
 pub sub_mul : (a b k : ℤ) → (a -ℤ b) *ℤ k ≡ a *ℤ k -ℤ b *ℤ k
@@ -77,8 +77,8 @@ pub same_le : (a b c d : ℤ) → (b -ℤ a) ≡ (d -ℤ c) → int_le a b ≡ i
 same_le a b c d e = same_test (int_le a b) (int_le c d) (λ h. test_of_le c d (omega (arith, ints, le_of_test a b h))) (λ h. test_of_le a b (omega (arith, ints, le_of_test c d h)))
 
 -- the order of fractions
-pub precedes_trans : (a b c : Fraction) → pos 0 <ℤ a.den → pos 0 <ℤ b.den → pos 0 <ℤ c.den → precedes a b ≡ true → precedes b c ≡ true → precedes a c ≡ true
-precedes_trans a b c ha hb hc ab bc =
+pub at_most_trans : (a b c : Fraction) → pos 0 <ℤ a.den → pos 0 <ℤ b.den → pos 0 <ℤ c.den → at_most a b ≡ true → at_most b c ≡ true → at_most a c ≡ true
+at_most_trans a b c ha hb hc ab bc =
     let by_c : ((a.num *ℤ b.den) *ℤ c.den) ≤ℤ ((b.num *ℤ a.den) *ℤ c.den) = scaled (a.num *ℤ b.den) (b.num *ℤ a.den) c.den (omega (arith, ints)) (le_of_test (a.num *ℤ b.den) (b.num *ℤ a.den) ab) in
     let by_a : ((b.num *ℤ c.den) *ℤ a.den) ≤ℤ ((c.num *ℤ b.den) *ℤ a.den) = scaled (b.num *ℤ c.den) (c.num *ℤ b.den) a.den (omega (arith, ints)) (le_of_test (b.num *ℤ c.den) (c.num *ℤ b.den) bc) in
     let swapped : (a.num *ℤ b.den) *ℤ c.den ≡ (a.num *ℤ c.den) *ℤ b.den = mul_swap a.num b.den c.den in
@@ -86,8 +86,8 @@ precedes_trans a b c ha hb hc ab bc =
     let swapped'' : (c.num *ℤ b.den) *ℤ a.den ≡ (c.num *ℤ a.den) *ℤ b.den = mul_swap c.num b.den a.den in
     test_of_le (a.num *ℤ c.den) (c.num *ℤ a.den) (unscaled (a.num *ℤ c.den) (c.num *ℤ a.den) b.den hb (omega (arith, ints)))
 
-pub precedes_refl : (a : Fraction) → precedes a a ≡ true
-precedes_refl a = test_of_le (a.num *ℤ a.den) (a.num *ℤ a.den) (omega (arith, ints))
+pub at_most_refl : (a : Fraction) → at_most a a ≡ true
+at_most_refl a = test_of_le (a.num *ℤ a.den) (a.num *ℤ a.den) (omega (arith, ints))
 
-pub precedes_total : (a b : Fraction) → precedes a b ≡ false → precedes b a ≡ true
-precedes_total a b h = test_of_le (b.num *ℤ a.den) (a.num *ℤ b.den) (omega (arith, ints))
+pub at_most_total : (a b : Fraction) → at_most a b ≡ false → at_most b a ≡ true
+at_most_total a b h = test_of_le (b.num *ℤ a.den) (a.num *ℤ b.den) (omega (arith, ints))

@@ -4,17 +4,17 @@ use Rattle.ray_slabs.specs.Crossing.{Fraction}
 use Rattle.ray_slabs.specs.declared.interval.Interval.{Interval}
 
 -- a is at most b, by cross products
-abbrev pub precedes : Fraction → Fraction → Bool
-precedes a b = int_le (a.num *ℤ b.den) (b.num *ℤ a.den)
+abbrev pub at_most : Fraction → Fraction → Bool
+at_most a b = int_le (a.num *ℤ b.den) (b.num *ℤ a.den)
 
 -- the fraction is no later than the end, where there is one
 abbrev pub is_before_end : Option Fraction → Fraction → Bool
 is_before_end None t = true
-is_before_end (Some end) t = precedes t end
+is_before_end (Some end) t = at_most t end
 
 -- from the interval's start to its end
 abbrev pub contains : Interval → Fraction → Bool
-contains i t = precedes i.enter t && is_before_end i.leave t
+contains i t = at_most i.enter t && is_before_end i.leave t
 
 -- in the interval, where one is left
 abbrev pub is_left : Option Interval → Fraction → Bool

@@ -13,3 +13,6 @@ pub use ray::{Ray, ray_meets};
 pub use seg::{Seg, seg_meets};
 pub use wbox::WBox;
 pub use wpoint::WPoint;
+
+#[cfg(test)]
+mod tests;

@@ -1,6 +1,6 @@
 ghost use Rattle.std.specs.Prelude.{◌≡◌, pos, ◌*ℤ◌, ◌<ℤ◌, ◌&&◌};
 ghost use Rattle.ray_slabs.specs.Crossing.{Fraction};
-ghost use Rattle.ray_slabs.specs.Interval.{precedes};
+ghost use Rattle.ray_slabs.specs.Interval.{at_most};
 
 use std::marker::Model;
 
@@ -33,8 +33,8 @@ impl Ratio {
     }
 
     // Whether it is at most the other.
-    pub(crate) fn precedes(&self, other: &Ratio) -> bool
-        ensures test { result ≡ precedes self.now other.now }
+    pub(crate) fn is_at_most(&self, other: &Ratio) -> bool
+        ensures test { result ≡ at_most self.now other.now }
         ensures own { pos 0 <ℤ self.now.den }
         ensures others { pos 0 <ℤ other.now.den }
     {
@@ -43,16 +43,18 @@ impl Ratio {
 
     // The greater of two.
     pub(crate) fn later(self, other: Ratio) -> Ratio
-        ensures { (t : Fraction) → pos 0 <ℤ t.den → precedes result t ≡ (precedes self t && precedes other t) }
+        ensures { (t : Fraction) → pos 0 <ℤ t.den →
+            at_most result t ≡ (at_most self t && at_most other t) }
     {
-        if self.precedes(&other) { other } else { self }
+        if self.is_at_most(&other) { other } else { self }
     }
 
     // The smaller of two.
     pub(crate) fn sooner(self, other: Ratio) -> Ratio
-        ensures { (t : Fraction) → pos 0 <ℤ t.den → precedes t result ≡ (precedes t self && precedes t other) }
+        ensures { (t : Fraction) → pos 0 <ℤ t.den →
+            at_most t result ≡ (at_most t self && at_most t other) }
     {
-        if self.precedes(&other) { self } else { other }
+        if self.is_at_most(&other) { self } else { other }
     }
 }
 

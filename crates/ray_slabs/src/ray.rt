@@ -1,11 +1,11 @@
-ghost use Rattle.std.specs.Prelude.{◌≡◌, ◌↔◌, IsTrue, pos};
+ghost use Rattle.std.specs.Prelude.{◌≡◌, ◌↔◌, IsTrue, true, false, pos, neg_ℤ};
 ghost use Rattle.ray_slabs.specs.Crossing.{in_ray, slabs_of};
 ghost use Rattle.ray_slabs.specs.Vector.{Vector};
 ghost use Rattle.ray_slabs.specs.WideBounds.{WideBounds};
-ghost use Rattle.ray_slabs.specs.Law.{MeetsAhead};
+ghost use Rattle.ray_slabs.specs.Law.{RayMeets};
+ghost use Rattle.ray_slabs.specs.Examples.{at, cube, far_cube};
 
 use crate::interval::Interval;
-use crate::ratio::Ratio;
 use crate::slab::{Slab, any_leads_away};
 use crate::{WBox, WPoint};
 
@@ -25,13 +25,14 @@ pub fn ray_meets(ray: &Ray, body: &WBox) -> bool
     if any_leads_away(&slabs) {
         return false;
     }
-    all_ahead().clip_all(&slabs).is_some()
+    Interval::of_ray().clip_all(&slabs).is_some()
 }
 
 /// A ray meets a box exactly where the fraction `p/q` of its direction is in the box on each axis, for some whole
 /// numbers `p >= 0` and `q > 0`.
 pub fn ray_law()
-    ensures { (from dir : Vector) (body : WideBounds) → IsTrue (in_ray from dir body) ↔ MeetsAhead from dir body }
+    ensures { (from dir : Vector) (body : WideBounds) →
+        IsTrue (in_ray from dir body) ↔ RayMeets from dir body }
 {}
 
 // The ray and the box on each axis.
@@ -46,12 +47,11 @@ fn slabs(ray: &Ray, body: &WBox) -> [Slab; 3]
     ]
 }
 
-// All fractions from 0 on.
-fn all_ahead() -> Interval
-    ensures { result ≡ record { enter = record { num = pos 0; den = pos 1 }; leave = None } }
-{
-    Interval {
-        enter: Ratio::new(0, 1),
-        leave: None,
-    }
-}
+// A direction of zero asks whether the start is in the box, a ray may run along a face, and no ray goes back.
+#[tactic(auto, unfolding(crate::specs::Crossing::in_ray))]
+fn ray_examples()
+    ensures still_inside { in_ray (at (pos 65536) (pos 65536) (pos 65536)) (at (pos 0) (pos 0) (pos 0)) (cube (pos 0) (pos 131072)) ≡ true }
+    ensures still_outside { in_ray (at (pos 196608) (pos 65536) (pos 65536)) (at (pos 0) (pos 0) (pos 0)) (cube (pos 0) (pos 131072)) ≡ false }
+    ensures along_face { in_ray (at (pos 0) (pos 131072) (pos 65536)) (at (pos 65536) (pos 0) (pos 0)) (cube (pos 0) (pos 131072)) ≡ true }
+    ensures behind { in_ray (at (pos 0) (pos 32768) (pos 32768)) (at (neg_ℤ (pos 65536)) (pos 0) (pos 0)) far_cube ≡ false }
+{}

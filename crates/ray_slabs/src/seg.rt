@@ -1,11 +1,11 @@
-ghost use Rattle.std.specs.Prelude.{◌≡◌, ◌↔◌, IsTrue, pos};
+ghost use Rattle.std.specs.Prelude.{◌≡◌, ◌↔◌, IsTrue, true, false, pos, neg_ℤ};
 ghost use Rattle.ray_slabs.specs.Crossing.{in_seg, slabs_of};
-ghost use Rattle.ray_slabs.specs.Vector.{Vector, way};
+ghost use Rattle.ray_slabs.specs.Vector.{Vector, displacement};
 ghost use Rattle.ray_slabs.specs.WideBounds.{WideBounds};
-ghost use Rattle.ray_slabs.specs.Law.{MeetsOnWay};
+ghost use Rattle.ray_slabs.specs.Law.{SegMeets};
+ghost use Rattle.ray_slabs.specs.Examples.{at, cube, far_cube};
 
 use crate::interval::Interval;
-use crate::ratio::Ratio;
 use crate::slab::{Slab, is_any_beside};
 use crate::{WBox, WPoint};
 
@@ -25,18 +25,18 @@ pub fn seg_meets(seg: &Seg, body: &WBox) -> bool
     if is_any_beside(&slabs) {
         return false;
     }
-    all_between().clip_all(&slabs).is_some()
+    Interval::of_seg().clip_all(&slabs).is_some()
 }
 
 /// A segment meets a box exactly where the fraction `p/q` of the way is in the box on each axis, for some whole
 /// numbers `p >= 0` and `q > 0` with `p <= q`.
 pub fn seg_law()
-    ensures { (a b : Vector) (body : WideBounds) → IsTrue (in_seg a b body) ↔ MeetsOnWay a b body }
+    ensures { (a b : Vector) (body : WideBounds) → IsTrue (in_seg a b body) ↔ SegMeets a b body }
 {}
 
 // The segment and the box on each axis.
 fn slabs(seg: &Seg, body: &WBox) -> [Slab; 3]
-    ensures { result ≡ slabs_of seg.now.a (way seg.now.a seg.now.b) body.now }
+    ensures { result ≡ slabs_of seg.now.a (displacement seg.now.a seg.now.b) body.now }
 {
     let (lo, hi) = (body.lo(), body.hi());
     [
@@ -46,12 +46,12 @@ fn slabs(seg: &Seg, body: &WBox) -> [Slab; 3]
     ]
 }
 
-// All fractions from 0 to 1.
-fn all_between() -> Interval
-    ensures { result ≡ record { enter = record { num = pos 0; den = pos 1 }; leave = Some (record { num = pos 1; den = pos 1 }) } }
-{
-    Interval {
-        enter: Ratio::new(0, 1),
-        leave: Some(Ratio::new(1, 1)),
-    }
-}
+// A segment ends one raw unit before the box or on its face, and the longest one through all of the scene's space.
+#[tactic(auto, unfolding(crate::specs::Crossing::in_seg))]
+fn seg_examples()
+    ensures too_short { in_seg (at (pos 0) (pos 32768) (pos 32768)) (at (pos 655359) (pos 32768) (pos 32768)) far_cube ≡ false }
+    ensures touching { in_seg (at (pos 0) (pos 32768) (pos 32768)) (at (pos 655360) (pos 32768) (pos 32768)) far_cube ≡ true }
+    ensures diagonal { in_seg (at (neg_ℤ (pos 2147483648)) (neg_ℤ (pos 2147483648)) (neg_ℤ (pos 2147483648)))
+        (at (pos 2147483647) (pos 2147483647) (pos 2147483647))
+        (cube (neg_ℤ (pos 65536)) (pos 65536)) ≡ true }
+{}

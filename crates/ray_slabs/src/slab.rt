@@ -1,7 +1,7 @@
 ghost use Rattle.std.specs.Prelude.{◌≡◌, pos, ◌+ℤ◌, ◌-ℤ◌, neg_ℤ, ◌<ℤ◌, ◌&&◌, int_le, IsTrue, IfNone, IfSome};
 ghost use Rattle.std.specs.List.{list_any};
 ghost use Rattle.ray_slabs.specs.Crossing.{Fraction, fits};
-ghost use Rattle.ray_slabs.specs.Interval.{precedes};
+ghost use Rattle.ray_slabs.specs.Interval.{at_most};
 ghost use Rattle.ray_slabs.specs.Miss.{leads_away, is_beside};
 ghost use Rattle.ray_slabs.specs.Vector.{is_in_reach};
 
@@ -11,27 +11,27 @@ use std::marker::Model;
 // One axis of a line and a box: where the line starts, how far it goes at the fraction 1, and the box's two faces.
 #[derive(Drop)]
 pub(crate) struct Slab {
-    pub(crate) from: i64,
-    pub(crate) dir: i64,
-    pub(crate) lo: i64,
-    pub(crate) hi: i64,
+    from: i64,
+    dir: i64,
+    lo: i64,
+    hi: i64,
 }
 
 impl Model for Slab {
     ghost use Rattle.ray_slabs.specs.Crossing.{Slab as Axis};
-    ghost use Rattle.ray_slabs.specs.Narrow.{IsNarrow};
+    ghost use Rattle.ray_slabs.specs.Range.{IsInRange};
 
     ghost Value = { Axis };
 
     ghost view = { λ s. record { from = s.from; dir = s.dir; lo = s.lo; hi = s.hi } };
 
-    ghost invariant = { λ s. IsNarrow s.from s.dir s.lo s.hi };
+    ghost invariant = { λ s. IsInRange s.from s.dir s.lo s.hi };
 
     ghost inverse = { λ v. record { from = v.from; dir = v.dir; lo = v.lo; hi = v.hi } };
 }
 
 impl Slab {
-    // The axis of a ray.
+    // One axis of a ray and a box.
     pub(crate) fn of_ray(from: i64, dir: i64, lo: i64, hi: i64) -> Slab
         requires from { IsTrue (is_in_reach from) }
         requires dir { IsTrue (is_in_reach dir) }
@@ -42,7 +42,7 @@ impl Slab {
         Slab { from, dir, lo, hi }
     }
 
-    // The axis of a segment from `a` to `b`.
+    // One axis of a segment from `a` to `b` and a box.
     pub(crate) fn of_seg(a: i64, b: i64, lo: i64, hi: i64) -> Slab
         requires a { IsTrue (is_in_reach a) }
         requires b { IsTrue (is_in_reach b) }
@@ -61,7 +61,8 @@ impl Slab {
     // Where the line enters the slab and where it leaves it, and `None` where it runs along it.
     pub(crate) fn crossing(&self) -> Option<(Ratio, Ratio)>
         ensures along { IfNone result (self.now.dir ≡ pos 0) }
-        ensures across { IfSome result (λ c. (t : Fraction) → pos 0 <ℤ t.den → fits t self.now ≡ (precedes c.0 t && precedes t c.1)) }
+        ensures across { IfSome result (λ c. (t : Fraction) → pos 0 <ℤ t.den →
+            fits t self.now ≡ (at_most c.0 t && at_most t c.1)) }
     {
         if self.dir > 0 {
             Some(self.rising_crossing())
@@ -94,7 +95,7 @@ impl Slab {
         (enter, leave)
     }
 
-    // Whether the line starts from one face to the other.
+    // Whether the line starts between the faces.
     pub(crate) fn holds_start(&self) -> bool
         ensures { result ≡ (int_le self.now.lo self.now.from && int_le self.now.from self.now.hi) }
     {

@@ -1,5 +1,5 @@
-ghost use Rattle.std.specs.Prelude.{◌≡◌, IsTrue, SomeIff};
-ghost use Rattle.ray_slabs.specs.Vector.{is_in_reach, is_wide_point, is_at_most, widened};
+ghost use Rattle.std.specs.Prelude.{◌≡◌, ◌&&◌, IsTrue, SomeIff};
+ghost use Rattle.ray_slabs.specs.Vector.{is_in_reach, is_at_most, widened};
 
 use fixed_box::Point;
 use std::marker::Model;
@@ -31,7 +31,8 @@ impl Model for WPoint {
 impl WPoint {
     /// The point with these parts in raw units, and `None` exactly where one is outside the range.
     pub fn new(x: i64, y: i64, z: i64) -> Option<WPoint>
-        ensures { SomeIff result (IsTrue (is_wide_point (record { x = x; y = y; z = z }))) (record { x = x; y = y; z = z }) }
+        ensures { SomeIff result (IsTrue (is_in_reach x && is_in_reach y && is_in_reach z))
+            (record { x = x; y = y; z = z }) }
     {
         if is_in_reach(x) && is_in_reach(y) && is_in_reach(z) {
             Some(WPoint { x, y, z })
