@@ -1,6 +1,7 @@
 pub mod Answered
 pub mod Candidates
 pub mod Crossed
+pub mod Enclosed
 pub mod Meeting
 pub mod Missed
 pub mod Narrowed

@@ -31,8 +31,8 @@ impl Interval {
         ensures leave { result.leave ≡ Some (record { num = pos 1; den = pos 1 }) }
     {
         Interval {
-            enter: Ratio::new(0, 1),
             leave: Some(Ratio::new(1, 1)),
+            ..Interval::of_ray()
         }
     }
 

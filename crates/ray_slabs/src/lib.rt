@@ -9,8 +9,8 @@ mod slab;
 mod wbox;
 mod wpoint;
 
-pub use ray::{Ray, ray_meets};
-pub use seg::{Seg, seg_meets};
+pub use ray::{Ray, ray_law, ray_meets};
+pub use seg::{Seg, seg_law, seg_meets};
 pub use wbox::WBox;
 pub use wpoint::WPoint;
 

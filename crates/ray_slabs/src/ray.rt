@@ -1,7 +1,7 @@
 ghost use Rattle.std.specs.Prelude.{◌≡◌, ◌↔◌, IsTrue, true, false, pos, neg_ℤ};
 ghost use Rattle.ray_slabs.specs.Crossing.{in_ray, slabs_of};
 ghost use Rattle.ray_slabs.specs.Vector.{Vector};
-ghost use Rattle.ray_slabs.specs.WideBounds.{WideBounds};
+ghost use Rattle.ray_slabs.specs.WideBounds.{WideBounds, encloses};
 ghost use Rattle.ray_slabs.specs.Law.{RayMeets};
 ghost use Rattle.ray_slabs.specs.Examples.{at, cube, far_cube};
 
@@ -29,10 +29,12 @@ pub fn ray_meets(ray: &Ray, body: &WBox) -> bool
 }
 
 /// A ray meets a box exactly where the fraction `p/q` of its direction is in the box on each axis, for some whole
-/// numbers `p >= 0` and `q > 0`.
+/// numbers `p >= 0` and `q > 0`. So it meets each box that encloses one that it meets.
 pub fn ray_law()
-    ensures { (from dir : Vector) (body : WideBounds) →
+    ensures fraction { (from dir : Vector) (body : WideBounds) →
         IsTrue (in_ray from dir body) ↔ RayMeets from dir body }
+    ensures enclosed { (from dir : Vector) (outer inner : WideBounds) → IsTrue (encloses outer inner) →
+        IsTrue (in_ray from dir inner) → IsTrue (in_ray from dir outer) }
 {}
 
 // The ray and the box on each axis.

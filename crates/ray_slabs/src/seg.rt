@@ -1,7 +1,7 @@
 ghost use Rattle.std.specs.Prelude.{◌≡◌, ◌↔◌, IsTrue, true, false, pos, neg_ℤ};
 ghost use Rattle.ray_slabs.specs.Crossing.{in_seg, slabs_of};
 ghost use Rattle.ray_slabs.specs.Vector.{Vector, displacement};
-ghost use Rattle.ray_slabs.specs.WideBounds.{WideBounds};
+ghost use Rattle.ray_slabs.specs.WideBounds.{WideBounds, encloses};
 ghost use Rattle.ray_slabs.specs.Law.{SegMeets};
 ghost use Rattle.ray_slabs.specs.Examples.{at, cube, far_cube};
 
@@ -29,9 +29,11 @@ pub fn seg_meets(seg: &Seg, body: &WBox) -> bool
 }
 
 /// A segment meets a box exactly where the fraction `p/q` of the way is in the box on each axis, for some whole
-/// numbers `p >= 0` and `q > 0` with `p <= q`.
+/// numbers `p >= 0` and `q > 0` with `p <= q`. So it meets each box that encloses one that it meets.
 pub fn seg_law()
-    ensures { (a b : Vector) (body : WideBounds) → IsTrue (in_seg a b body) ↔ SegMeets a b body }
+    ensures fraction { (a b : Vector) (body : WideBounds) → IsTrue (in_seg a b body) ↔ SegMeets a b body }
+    ensures enclosed { (a b : Vector) (outer inner : WideBounds) → IsTrue (encloses outer inner) →
+        IsTrue (in_seg a b inner) → IsTrue (in_seg a b outer) }
 {}
 
 // The segment and the box on each axis.
