@@ -1,0 +1,9 @@
+pub mod Answered
+pub mod Candidates
+pub mod Crossed
+pub mod Enclosed
+pub mod Meeting
+pub mod Missed
+pub mod Narrowed
+pub mod Order
+pub mod Read

@@ -1,0 +1,14 @@
+use Rattle.std.proofs.Common.{sym}
+use Rattle.ray_slabs.specs.Interval.{at_most}
+use Rattle.ray_slabs.proofs.Order.{implied_first, implied_last, at_most_trans, at_most_total}
+use Rattle.ray_slabs.proofs.ratio.Ratio.sooner.Goals as goal
+
+pub returns-then-is_at_most : goal.returns-then-is_at_most
+returns-then-is_at_most c t h =
+    implied_last (at_most t c.args.self) (at_most t c.args.other)
+    (λ before. at_most_trans t c.args.self c.args.other h c.is_at_most.ensures.own c.is_at_most.ensures.others before (sym c.if-is_at_most.ensures.test))
+
+pub returns-else-is_at_most : goal.returns-else-is_at_most
+returns-else-is_at_most c t h =
+    implied_first (at_most t c.args.self) (at_most t c.args.other)
+    (λ before. at_most_trans t c.args.other c.args.self h c.is_at_most.ensures.others c.is_at_most.ensures.own before (at_most_total c.args.self c.args.other (sym c.if-is_at_most.ensures.test)))

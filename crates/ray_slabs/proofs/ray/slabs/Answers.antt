@@ -1,0 +1,30 @@
+use Rattle.std.proofs.Common.{◌≡◌, ap, ◌∙◌, [], ◌∷◌}
+use Rattle.ray_slabs.specs.Crossing.{Slab}
+use Rattle.ray_slabs.specs.Vector.{Vector}
+use Rattle.ray_slabs.proofs.Read.{read_back}
+use Rattle.ray_slabs.proofs.ray.slabs.Goals as goal
+
+pub returns : goal.returns
+returns c =
+    let x : c.of_ray.result ≡ record { from = c.args.ray.now.from.x; dir = c.args.ray.now.dir.x; lo = c.args.body.now.lo.x; hi = c.args.body.now.hi.x } =
+    c.of_ray.ensures ∙ (λ i. record {
+      from = read_back c.x.result c.x.ensures.reach c.x.ensures.x i;
+      dir = read_back c.x-2.result c.x-2.ensures.reach c.x-2.ensures.x i;
+      lo = read_back c.x-3.result c.x-3.ensures.reach (c.x-3.ensures.x ∙ ap (λ (p : Vector). p.x) c.lo-lo.ensures.lo) i;
+      hi = read_back c.x-4.result c.x-4.ensures.reach (c.x-4.ensures.x ∙ ap (λ (p : Vector). p.x) c.hi-hi.ensures.hi) i;
+    }) in
+    let y : c.of_ray-2.result ≡ record { from = c.args.ray.now.from.y; dir = c.args.ray.now.dir.y; lo = c.args.body.now.lo.y; hi = c.args.body.now.hi.y } =
+    c.of_ray-2.ensures ∙ (λ i. record {
+      from = read_back c.y.result c.y.ensures.reach c.y.ensures.y i;
+      dir = read_back c.y-2.result c.y-2.ensures.reach c.y-2.ensures.y i;
+      lo = read_back c.y-3.result c.y-3.ensures.reach (c.y-3.ensures.y ∙ ap (λ (p : Vector). p.y) c.lo-lo.ensures.lo) i;
+      hi = read_back c.y-4.result c.y-4.ensures.reach (c.y-4.ensures.y ∙ ap (λ (p : Vector). p.y) c.hi-hi.ensures.hi) i;
+    }) in
+    let z : c.of_ray-3.result ≡ record { from = c.args.ray.now.from.z; dir = c.args.ray.now.dir.z; lo = c.args.body.now.lo.z; hi = c.args.body.now.hi.z } =
+    c.of_ray-3.ensures ∙ (λ i. record {
+      from = read_back c.z.result c.z.ensures.reach c.z.ensures.z i;
+      dir = read_back c.z-2.result c.z-2.ensures.reach c.z-2.ensures.z i;
+      lo = read_back c.z-3.result c.z-3.ensures.reach (c.z-3.ensures.z ∙ ap (λ (p : Vector). p.z) c.lo-lo.ensures.lo) i;
+      hi = read_back c.z-4.result c.z-4.ensures.reach (c.z-4.ensures.z ∙ ap (λ (p : Vector). p.z) c.hi-hi.ensures.hi) i;
+    }) in
+    λ i. x i ∷ (y i ∷ (z i ∷ []))

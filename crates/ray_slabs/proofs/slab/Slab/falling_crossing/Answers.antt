@@ -1,0 +1,18 @@
+use Rattle.std.proofs.Common.{◌≡◌, ap, ◌∙◌, pos, ◌-ℤ◌, neg_ℤ, to_z, of_z, w64, arith}
+use Rattle.std.proofs.lemmas.Int.{ints}
+use Rattle.ray_slabs.specs.Crossing.{Slab}
+use Rattle.ray_slabs.proofs.slab.Slab.falling_crossing.Goals as goal
+
+pub returns-clause-enter : goal.returns-clause-enter
+returns-clause-enter c =
+    let num : to_z w64 (of_z w64 (to_z w64 (of_z w64 c.self.inside.from) -ℤ to_z w64 (of_z w64 c.self.inside.hi))) ≡ c.args.self.now.from -ℤ c.args.self.now.hi =
+    omega (arith, ints, ap (λ (s : Slab). s.hi) c.self.view_is, ap (λ (s : Slab). s.from) c.self.view_is) in
+    let den : to_z w64 (of_z w64 (pos 0 -ℤ to_z w64 (of_z w64 c.self.inside.dir))) ≡ neg_ℤ c.args.self.now.dir = omega (arith, ints, ap (λ (s : Slab). s.dir) c.self.view_is) in
+    c.new-enter.ensures ∙ (λ i. record { num = num i; den = den i })
+
+pub returns-clause-leave : goal.returns-clause-leave
+returns-clause-leave c =
+    let num : to_z w64 (of_z w64 (to_z w64 (of_z w64 c.self.inside.from) -ℤ to_z w64 (of_z w64 c.self.inside.lo))) ≡ c.args.self.now.from -ℤ c.args.self.now.lo =
+    omega (arith, ints, ap (λ (s : Slab). s.lo) c.self.view_is, ap (λ (s : Slab). s.from) c.self.view_is) in
+    let den : to_z w64 (of_z w64 (pos 0 -ℤ to_z w64 (of_z w64 c.self.inside.dir))) ≡ neg_ℤ c.args.self.now.dir = omega (arith, ints, ap (λ (s : Slab). s.dir) c.self.view_is) in
+    c.new-leave.ensures ∙ (λ i. record { num = num i; den = den i })
