@@ -1,0 +1,5 @@
+pub mod Bits
+pub mod Entries
+pub mod Masks
+pub mod Slots
+pub mod Table
