@@ -148,7 +148,11 @@ impl LiveTable {
         ensures table { IsTable self.new }
     {
         let live = self.find(handle)?;
-        self.slots[handle.slot as usize].live = Some(Live { body, ..live });
+        self.slots[handle.slot as usize].live = Some(Live {
+            handle,
+            body,
+            masks: live.masks,
+        });
         Ok(())
     }
 
@@ -161,7 +165,11 @@ impl LiveTable {
         ensures table { IsTable self.new }
     {
         let live = self.find(handle)?;
-        self.slots[handle.slot as usize].live = Some(Live { masks, ..live });
+        self.slots[handle.slot as usize].live = Some(Live {
+            handle,
+            body: live.body,
+            masks,
+        });
         Ok(())
     }
 

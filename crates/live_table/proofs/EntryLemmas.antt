@@ -1,0 +1,77 @@
+-- Entries whose slots are all from some number on, and entries whose slots rise.
+use Rattle.std.proofs.Common.{◌≡◌, ◌≢◌, ℕ, zero, suc, ◌+◌, ◌<◌, ◌≤◌, Bool, true, false, cond, not, ◌&&◌, List, [], ◌∷◌, Option, Some, None, length, get_or, map, eqb, ltb, refl, sym, ap, ◌∙◌, subst, arith, eq-eqb, ne_eqb, le-ltb, lt-ltb, ltb-true, eqb-true, inl, inr}
+use Rattle.std.specs.List.{All, Any, list_all, find, filter}
+use Rattle.std.proofs.lemmas.Bool.{and_parts, and_left, and_from, cases_eq, cases_Bool}
+use Rattle.live_table.specs.declared.handle.Handle.{Handle}
+use Rattle.live_table.specs.declared.live.Live.{Live}
+use Rattle.live_table.specs.Entries.{slot_of, has, live_at, entry_at, least_from, entered, changed, without, rises}
+
+-- each slot is n or later
+abbrev pub Above : ℕ → List Live → Type 0
+Above n [] = Unit {0}
+Above n (e ∷ later) = (n ≤ slot_of e) × Above n later
+
+pub above_from : (m n : ℕ) (es : List Live) → m ≤ n → Above n es → Above m es
+above_from m n [] le h = tt
+above_from m n (e ∷ later) le h = (omega (arith, h.0), above_from m n later le h.1)
+
+pub entered_first : (new : Live) (es : List Live) → Above (slot_of new + 1) es → entered new es ≡ new ∷ es
+entered_first new [] h = refl
+entered_first new (e ∷ later) h = rw (le-ltb (slot_of e) (slot_of new) (omega (arith, h.0))) refl
+
+pub least_above : (n : ℕ) (es : List Live) → Above (n + 1) es → least_from n es ≡ n
+least_above n [] h = refl
+least_above n (e ∷ later) h = rw (ne_eqb (slot_of e) n (λ same. omega (arith, h.0))) refl
+
+pub live_above : (slot : ℕ) (es : List Live) → Above (slot + 1) es → live_at slot es ≡ None
+live_above slot [] h = refl
+live_above slot (e ∷ later) h = rw (ne_eqb (slot_of e) slot (λ same. omega (arith, h.0))) (live_above slot later h.1)
+
+-- an entry in another slot hasn't the handle
+pub has_not : (handle : Handle) (e : Live) → slot_of e ≢ handle.slot → has handle e ≡ false
+has_not handle e other = and_left _ _ (ne_eqb (slot_of e) handle.slot other)
+
+pub entry_above : (handle : Handle) (es : List Live) → Above (handle.slot + 1) es → entry_at handle es ≡ None
+entry_above handle [] h = refl
+entry_above handle (e ∷ later) h = rw (has_not handle e (λ same. omega (arith, h.0))) (entry_above handle later h.1)
+
+pub changed_above : (handle : Handle) (change : Live → Live) (es : List Live) → Above (handle.slot + 1) es → changed handle change es ≡ es
+changed_above handle change [] h = refl
+changed_above handle change (e ∷ later) h = rw (has_not handle e (λ same. omega (arith, h.0))) (ap (λ es. e ∷ es) (changed_above handle change later h.1))
+
+pub without_above : (handle : Handle) (es : List Live) → Above (handle.slot + 1) es → without handle es ≡ es
+without_above handle [] h = refl
+without_above handle (e ∷ later) h = rw (has_not handle e (λ same. omega (arith, h.0))) (ap (λ es. e ∷ es) (without_above handle later h.1))
+
+-- what is above a slot, as a test and back
+pub above_so : (n : ℕ) (es : List Live) → list_all (λ other. ltb n (slot_of other)) es ≡ true → Above (n + 1) es
+above_so n [] h = tt
+above_so n (e ∷ later) h =
+    let p : (ltb n (slot_of e) ≡ true) × (list_all (λ other. ltb n (slot_of other)) later ≡ true) = and_parts _ _ h in
+    (omega (arith, ltb-true n (slot_of e) p.0), above_so n later p.1)
+
+pub so_above : (n : ℕ) (es : List Live) → Above (n + 1) es → list_all (λ other. ltb n (slot_of other)) es ≡ true
+so_above n [] h = refl
+so_above n (e ∷ later) h = and_from _ _ (lt-ltb n (slot_of e) (omega (arith, h.0))) (so_above n later h.1)
+
+-- the entry of a slot, where it has the generation
+abbrev pub of_generation : ℕ → Option Live → Option Live
+of_generation g None = None
+of_generation g (Some e) = cond (eqb e.handle.generation g) (Some e) None
+
+-- At most one entry has the handle's slot. So the entry with the handle is that one, if its generation is right.
+pub entry_by_slot : (handle : Handle) (es : List Live) → rises es ≡ true → entry_at handle es ≡ of_generation handle.generation (live_at handle.slot es)
+entry_by_slot handle [] h = refl
+entry_by_slot handle (e ∷ later) h =
+    let p : (list_all (λ other. ltb (slot_of e) (slot_of other)) later ≡ true) × (rises later ≡ true) = and_parts _ _ h in
+    elim (cases_eq (slot_of e) handle.slot) [
+      | inl same ↦
+          let none : entry_at handle later ≡ None = entry_above handle later (above_from _ _ later (omega (arith, same)) (above_so (slot_of e) later p.0)) in
+          rw (eq-eqb (slot_of e) handle.slot same, none) refl
+      | inr other ↦ rw (ne_eqb (slot_of e) handle.slot other) (entry_by_slot handle later p.1)
+    ]
+
+pub of_generation-Some : (g : ℕ) (o : Option Live) (e : Live) → of_generation g o ≡ Some e → o ≡ Some e
+of_generation-Some g None e h = h
+of_generation-Some g (Some f) e h =
+    elim (eqb f.handle.generation g) as (λ b. cond b (Some f) None ≡ Some e → Some f ≡ Some e) [ | true ↦ λ same. same | false ↦ λ none. cc ] h

@@ -1,0 +1,258 @@
+-- What a table keeps, and the entries that its slots hold.
+use Rattle.std.proofs.Common.{◌≡◌, ◌≢◌, ℕ, zero, suc, ◌+◌, ◌<◌, ◌≤◌, Bool, true, false, cond, not, List, [], ◌∷◌, ◌++◌, Option, Some, None, is_none, length, get_or, set, map, refl, sym, ap, ◌∙◌, subst, arith, eq-eqb, ne_eqb, lt-ltb, sum, slice_index, get_or-set_same, get_or-set_other, length-append, length-set, inl, inr}
+use Rattle.std.specs.List.{All, Any, filter_map, cons_option, sum_by}
+use Rattle.std.specs.Option.{option_to_list}
+use Rattle.std.proofs.lemmas.Bool.{and_from, cases_eq, cases_lt}
+use Rattle.std.proofs.lemmas.List.{get_or_past, map-set, map_push, get_or_push, get_or_append_left, length_push, get_or-map}
+use Rattle.std.proofs.lemmas.List.Elements.{All-cons}
+use Rattle.std.proofs.lemmas.List.Sums.{sum_by-set, sum_by_push}
+use Rattle.live_table.specs.declared.handle.Handle.{Handle}
+use Rattle.live_table.specs.declared.live.Live.{Live}
+use Rattle.live_table.specs.declared.slot.Slot.{Slot}
+use Rattle.live_table.specs.Entries.{slot_of, has, live_at, entry_at, least_from, entered, changed, without, rises, IsLeastFree}
+use Rattle.live_table.specs.Table.{Table, raised, IsTable}
+use Rattle.live_table.specs.Slots.{entries_of, gives_of, vacant, never_given, IsPlaced, IsKept}
+use Rattle.live_table.proofs.EntryLemmas.{Above, above_from, entered_first, least_above, live_above, has_not, changed_above, without_above, so_above, entry_by_slot, of_generation, of_generation-Some}
+
+-- ---- one slot of a list
+
+-- the live box of the k-th slot
+abbrev pub live_in : List Slot → ℕ → Option Live
+live_in slots k = (get_or slots k never_given).live
+
+pub within_from_live : (slots : List Slot) (k : ℕ) (e : Live) → live_in slots k ≡ Some e → k < length slots
+within_from_live slots k e h =
+    elim (cases_lt k (length slots)) [ | inl lt ↦ lt | inr past ↦ absurd (let none : live_in slots k ≡ None = ap (λ s. s.live) (get_or_past slots k never_given past) in cc) ]
+
+pub rest_placed : (n : ℕ) (s : Slot) (more : List Slot) → IsPlaced n (s ∷ more) → IsPlaced (n + 1) more
+rest_placed n s more h k e live = let p = h (suc k) e live in (omega (arith, p.0), p.1)
+
+-- slots that are placed from n on hold entries from n on
+pub entries_above : (n : ℕ) (slots : List Slot) → IsPlaced n slots → Above n (entries_of slots)
+entries_above n [] h = tt
+entries_above n (s ∷ more) h =
+    let later : Above n (entries_of more) = above_from n (n + 1) (entries_of more) (omega arith) (entries_above (n + 1) more (rest_placed n s more h)) in
+    elim s.live as (λ o. s.live ≡ o → Above n (cons_option o (entries_of more))) [ | None ↦ λ _. later | Some e ↦ λ is. (omega (arith, (h zero e is).0), later) ] refl
+
+-- ---- the entries after a write of one slot
+
+-- a box put into a slot that has none
+pub enter_set : (n i : ℕ) (slots : List Slot) (s : Slot) (new : Live) → IsPlaced n slots → i < length slots → live_in slots i ≡ None → slot_of new ≡ n + i → s.live ≡ Some new
+    → entries_of (set slots i s) ≡ entered new (entries_of slots)
+enter_set n i [] s new h lt none slot is = absurd (omega arith)
+enter_set n zero (t ∷ more) s new h lt none slot is =
+    rw (is, none) (sym (entered_first new (entries_of more) (above_from _ _ (entries_of more) (omega (arith, slot)) (entries_above (n + 1) more (rest_placed n t more h)))))
+enter_set n (suc i) (t ∷ more) s new h lt none slot is =
+    let rest : entries_of (set more i s) ≡ entered new (entries_of more) = enter_set (n + 1) i more s new (rest_placed n t more h) (omega arith) none (omega (arith, slot)) is in
+    elim t.live as (λ o. t.live ≡ o → cons_option o (entries_of (set more i s)) ≡ entered new (cons_option o (entries_of more))) [
+      | None ↦ λ _. rest
+      | Some e ↦ λ at. rw (lt-ltb (slot_of e) (slot_of new) (omega (arith, slot, (h zero e at).0))) (ap (λ es. e ∷ es) rest)
+    ] refl
+
+-- a changed box
+pub change_set : (n i : ℕ) (slots : List Slot) (s : Slot) (handle : Handle) (change : Live → Live) (e : Live) → IsPlaced n slots → handle.slot ≡ n + i → live_in slots i ≡ Some e → has handle e ≡ true
+    → s.live ≡ Some (change e) → entries_of (set slots i s) ≡ changed handle change (entries_of slots)
+change_set n i [] s handle change e h slot live named is = refl
+change_set n zero (t ∷ more) s handle change e h slot live named is =
+    rw (is, live, named) (ap (λ es. change e ∷ es) (sym (changed_above handle change (entries_of more) (above_from _ _ (entries_of more) (omega (arith, slot)) (entries_above (n + 1) more (rest_placed n t more h))))))
+change_set n (suc i) (t ∷ more) s handle change e h slot live named is =
+    let rest : entries_of (set more i s) ≡ changed handle change (entries_of more) = change_set (n + 1) i more s handle change e (rest_placed n t more h) (omega (arith, slot)) live named is in
+    elim t.live as (λ o. t.live ≡ o → cons_option o (entries_of (set more i s)) ≡ changed handle change (cons_option o (entries_of more))) [
+      | None ↦ λ _. rest
+      | Some f ↦ λ at. rw (has_not handle f (λ same. omega (arith, slot, (h zero f at).0))) (ap (λ es. f ∷ es) rest)
+    ] refl
+
+-- a box taken out
+pub take_set : (n i : ℕ) (slots : List Slot) (s : Slot) (handle : Handle) (e : Live) → IsPlaced n slots → handle.slot ≡ n + i → live_in slots i ≡ Some e → has handle e ≡ true → s.live ≡ None
+    → entries_of (set slots i s) ≡ without handle (entries_of slots)
+take_set n i [] s handle e h slot live named is = refl
+take_set n zero (t ∷ more) s handle e h slot live named is =
+    rw (is, live, named) (sym (without_above handle (entries_of more) (above_from _ _ (entries_of more) (omega (arith, slot)) (entries_above (n + 1) more (rest_placed n t more h)))))
+take_set n (suc i) (t ∷ more) s handle e h slot live named is =
+    let rest : entries_of (set more i s) ≡ without handle (entries_of more) = take_set (n + 1) i more s handle e (rest_placed n t more h) (omega (arith, slot)) live named is in
+    elim t.live as (λ o. t.live ≡ o → cons_option o (entries_of (set more i s)) ≡ without handle (cons_option o (entries_of more))) [
+      | None ↦ λ _. rest
+      | Some f ↦ λ at. rw (has_not handle f (λ same. omega (arith, slot, (h zero f at).0))) (ap (λ es. f ∷ es) rest)
+    ] refl
+
+-- a slot with no box at the end
+pub entries_push : (slots : List Slot) (s : Slot) → s.live ≡ None → entries_of (slots ++ s ∷ []) ≡ entries_of slots
+entries_push [] s none = rw none refl
+entries_push (t ∷ more) s none = ap (λ es. cons_option t.live es) (entries_push more s none)
+
+-- ---- the least free slot
+
+pub least_is : (n i : ℕ) (slots : List Slot) → IsPlaced n slots → i ≤ length slots → ((k : ℕ) → k < i → get_or (vacant slots) k false ≡ false) → (i < length slots → get_or (vacant slots) i false ≡ true)
+    → least_from n (entries_of slots) ≡ n + i
+least_is n i [] h le below at = omega arith
+least_is n zero (s ∷ more) h le below at =
+    let above : Above (n + 1) (entries_of more) = entries_above (n + 1) more (rest_placed n s more h) in
+    elim s.live as (λ o. s.live ≡ o → is_none o ≡ true → least_from n (cons_option o (entries_of more)) ≡ n + 0) [
+      | None ↦ λ _ _. least_above n (entries_of more) above ∙ omega arith
+      | Some e ↦ λ _ none. cc
+    ] refl (at (omega arith))
+least_is n (suc i) (s ∷ more) h le below at =
+    let rest : least_from (n + 1) (entries_of more) ≡ n + 1 + i = least_is (n + 1) i more (rest_placed n s more h) (omega arith) (λ k lt. below (suc k) (omega arith)) (λ lt. at (omega arith)) in
+    elim s.live as (λ o. s.live ≡ o → is_none o ≡ false → least_from n (cons_option o (entries_of more)) ≡ n + suc i) [
+      | None ↦ λ _ none. cc
+      | Some e ↦ λ is _. rw (eq-eqb (slot_of e) n (omega (arith, (h zero e is).0))) (rest ∙ omega arith)
+    ] refl (below zero (omega arith))
+
+-- ---- a look-up
+
+pub live_at_is : (n i slot : ℕ) (slots : List Slot) → IsPlaced n slots → slot ≡ n + i → live_at slot (entries_of slots) ≡ live_in slots i
+live_at_is n i slot [] h is = refl
+live_at_is n zero slot (s ∷ more) h is =
+    let above : live_at slot (entries_of more) ≡ None = live_above slot (entries_of more) (above_from _ _ (entries_of more) (omega (arith, is)) (entries_above (n + 1) more (rest_placed n s more h))) in
+    elim s.live as (λ o. s.live ≡ o → live_at slot (cons_option o (entries_of more)) ≡ o) [
+      | None ↦ λ _. above
+      | Some e ↦ λ at. rw (eq-eqb (slot_of e) slot (omega (arith, is, (h zero e at).0))) refl
+    ] refl
+live_at_is n (suc i) slot (s ∷ more) h is =
+    let rest : live_at slot (entries_of more) ≡ live_in more i = live_at_is (n + 1) i slot more (rest_placed n s more h) (omega (arith, is)) in
+    elim s.live as (λ o. s.live ≡ o → live_at slot (cons_option o (entries_of more)) ≡ live_in more i) [
+      | None ↦ λ _. rest
+      | Some e ↦ λ at. rw (ne_eqb (slot_of e) slot (λ same. omega (arith, is, (h zero e at).0))) rest
+    ] refl
+
+-- ---- what holds of all entries, and of some
+
+pub all_entries : (P : Live → Type 0) (slots : List Slot) → ((k : ℕ) (e : Live) → live_in slots k ≡ Some e → P e) → All P (entries_of slots)
+all_entries P [] h = λ k d lt. absurd (omega arith)
+all_entries P (s ∷ more) h =
+    let rest : All P (entries_of more) = all_entries P more (λ k e live. h (suc k) e live) in
+    elim s.live as (λ o. s.live ≡ o → All P (cons_option o (entries_of more))) [ | None ↦ λ _. rest | Some e ↦ λ at. All-cons P e (entries_of more) (h zero e at) rest ] refl
+
+any_later : (P : Live → Type 0) (o : Option Live) (es : List Live) → Any P es → Any P (cons_option o es)
+any_later P None es h = h
+any_later P (Some e) es h = (suc h.0, h.1, omega (arith, h.2), h.3, h.4)
+
+pub any_entry : (P : Live → Type 0) (slots : List Slot) (k : ℕ) (e : Live) → live_in slots k ≡ Some e → P e → Any P (entries_of slots)
+any_entry P [] k e live p = absurd (cc)
+any_entry P (s ∷ more) zero e live p = rw live (zero, e, omega arith, refl, p)
+any_entry P (s ∷ more) (suc k) e live p = any_later P s.live (entries_of more) (any_entry P more k e live p)
+
+pub entries_rise : (n : ℕ) (slots : List Slot) → IsPlaced n slots → rises (entries_of slots) ≡ true
+entries_rise n [] h = refl
+entries_rise n (s ∷ more) h =
+    let rest : rises (entries_of more) ≡ true = entries_rise (n + 1) more (rest_placed n s more h) in
+    let above : Above (n + 1) (entries_of more) = entries_above (n + 1) more (rest_placed n s more h) in
+    elim s.live as (λ o. s.live ≡ o → rises (cons_option o (entries_of more)) ≡ true) [
+      | None ↦ λ _. rest
+      | Some e ↦ λ at. and_from _ _ (so_above (slot_of e) (entries_of more) (above_from _ _ (entries_of more) (omega (arith, (h zero e at).0)) above)) rest
+    ] refl
+
+-- ---- counts
+
+pub len_set : (slots : List Slot) (i : ℕ) (s : Slot) → i < length slots
+    → length (entries_of (set slots i s)) + length (option_to_list (live_in slots i)) ≡ length (entries_of slots) + length (option_to_list s.live)
+len_set [] i s lt = absurd (omega arith)
+len_set (t ∷ more) zero s lt = two s.live t.live (entries_of more)
+  where
+    one : (o : Option Live) (es : List Live) → length (cons_option o es) ≡ length es + length (option_to_list o)
+    one None es = omega arith
+    one (Some e) es = omega arith
+    two : (o p : Option Live) (es : List Live) → length (cons_option o es) + length (option_to_list p) ≡ length (cons_option p es) + length (option_to_list o)
+    two o p es = omega (arith, one o es, one p es)
+len_set (t ∷ more) (suc i) s lt = on t.live _ _ _ _ (len_set more i s (omega arith))
+  where
+    on : (o : Option Live) (es fs : List Live) (a b : ℕ) → length es + a ≡ length fs + b → length (cons_option o es) + a ≡ length (cons_option o fs) + b
+    on None es fs a b h = h
+    on (Some e) es fs a b h = omega (arith, h)
+
+-- at most as many entries as slots; fewer where one is vacant; as many where none is
+pub len_le : (slots : List Slot) → length (entries_of slots) ≤ length slots
+len_le [] = omega arith
+len_le (s ∷ more) = elim s.live as (λ o. length (cons_option o (entries_of more)) ≤ length (s ∷ more)) [ | None ↦ omega (arith, len_le more) | Some e ↦ omega (arith, len_le more) ]
+
+pub len_lt : (slots : List Slot) (i : ℕ) → get_or (vacant slots) i false ≡ true → length (entries_of slots) < length slots
+len_lt [] i h = absurd (cc)
+len_lt (s ∷ more) zero h =
+    elim s.live as (λ o. is_none o ≡ true → length (cons_option o (entries_of more)) < length (s ∷ more)) [ | None ↦ λ _. omega (arith, len_le more) | Some e ↦ λ none. cc ] h
+len_lt (s ∷ more) (suc i) h = elim s.live as (λ o. length (cons_option o (entries_of more)) < length (s ∷ more)) [ | None ↦ omega (arith, len_lt more i h) | Some e ↦ omega (arith, len_lt more i h) ]
+
+pub len_full : (slots : List Slot) → ((k : ℕ) → get_or (vacant slots) k false ≡ false) → length (entries_of slots) ≡ length slots
+len_full [] h = refl
+len_full (s ∷ more) h =
+    let rest : length (entries_of more) ≡ length more = len_full more (λ k. h (suc k)) in
+    elim s.live as (λ o. is_none o ≡ false → length (cons_option o (entries_of more)) ≡ length (s ∷ more)) [ | None ↦ λ none. cc | Some e ↦ λ _. omega (arith, rest) ] (h zero)
+
+-- ---- gives
+
+pub gives_at : (slots : List Slot) (k : ℕ) → get_or (gives_of slots) k 0 ≡ (get_or slots k never_given).gives
+gives_at [] k = refl
+gives_at (s ∷ more) zero = refl
+gives_at (s ∷ more) (suc k) = gives_at more k
+
+pub raised_set : (slots : List Slot) (i : ℕ) (s : Slot) → i < length slots → s.gives ≡ (get_or slots i never_given).gives + 1 → raised (gives_of slots) i ≡ gives_of (set slots i s)
+raised_set [] i s lt is = absurd (omega arith)
+raised_set (t ∷ more) zero s lt is = ap (λ n. n ∷ gives_of more) (sym is)
+raised_set (t ∷ more) (suc i) s lt is = ap (λ ns. t.gives ∷ ns) (raised_set more i s (omega arith) is)
+
+-- a slot that was never given is the next one with no give
+pub raised_push : (slots : List Slot) (s : Slot) → s.gives ≡ 0 → raised (gives_of slots) (length slots) ≡ raised (gives_of (slots ++ s ∷ [])) (length slots)
+raised_push [] s zero_gives = rw zero_gives refl
+raised_push (t ∷ more) s zero_gives = ap (λ ns. t.gives ∷ ns) (raised_push more s zero_gives)
+
+pub sum_set : (slots : List Slot) (i : ℕ) (s : Slot) → i < length slots → sum (gives_of (set slots i s)) + (get_or slots i never_given).gives ≡ sum (gives_of slots) + s.gives
+sum_set slots i s lt =
+    let e = sum_by-set (λ x. x) (gives_of slots) i s.gives 0 (subst (λ n. i < n) (sym (length-gives slots)) lt) in
+    subst (λ xs. sum xs + (get_or slots i never_given).gives ≡ sum (gives_of slots) + s.gives) (sym (map-set (λ slot. slot.gives) slots i s)) (subst (λ g. sum (set (gives_of slots) i s.gives) + g ≡ sum (gives_of slots) + s.gives) (gives_at slots i) e)
+  where
+    length-gives : (slots : List Slot) → length (gives_of slots) ≡ length slots
+    length-gives [] = refl
+    length-gives (t ∷ more) = ap suc (length-gives more)
+
+pub sum_push : (slots : List Slot) (s : Slot) → s.gives ≡ 0 → sum (gives_of (slots ++ s ∷ [])) ≡ sum (gives_of slots)
+sum_push slots s none = ap sum (map_push (λ slot. slot.gives) slots s) ∙ sum_by_push (λ x. x) (gives_of slots) s.gives ∙ omega (arith, none)
+
+-- ---- placing
+
+pub placed_set : (n i : ℕ) (slots : List Slot) (s : Slot) → IsPlaced n slots → i < length slots → ((e : Live) → s.live ≡ Some e → (slot_of e ≡ n + i) × (e.handle.generation + 1 ≡ s.gives)) → IsPlaced n (set slots i s)
+placed_set n i slots s h lt fits k e live =
+    elim (cases_eq k i) [
+      | inl same ↦
+          let at : get_or (set slots i s) k never_given ≡ s = ap (λ j. get_or (set slots i s) j never_given) same ∙ get_or-set_same slots i s never_given lt in
+          let p = fits e (sym (ap (λ t. t.live) at) ∙ live) in
+          (p.0 ∙ ap (λ j. n + j) (sym same), p.1 ∙ sym (ap (λ t. t.gives) at))
+      | inr other ↦
+          let at : get_or (set slots i s) k never_given ≡ get_or slots k never_given = get_or-set_other slots i k s never_given other in
+          let p = h k e (sym (ap (λ t. t.live) at) ∙ live) in
+          (p.0, p.1 ∙ sym (ap (λ t. t.gives) at))
+    ]
+
+pub placed_push : (n : ℕ) (slots : List Slot) (s : Slot) → IsPlaced n slots → s.live ≡ None → IsPlaced n (slots ++ s ∷ [])
+placed_push n [] s h none zero e live = absurd (cc)
+placed_push n [] s h none (suc k) e live = absurd (cc)
+placed_push n (t ∷ more) s h none zero e live = h zero e live
+placed_push n (t ∷ more) s h none (suc k) e live = let p = placed_push (n + 1) more s (rest_placed n t more h) none k e live in (omega (arith, p.0), p.1)
+
+-- ---- marks
+
+pub marked_set : (slots : List Slot) (freed : List Bool) (i k : ℕ) (s : Slot) (b : Bool) → i < length slots → i < length freed → b ≡ is_none s.live → get_or freed k false ≡ get_or (vacant slots) k false
+    → get_or (set freed i b) k false ≡ get_or (vacant (set slots i s)) k false
+marked_set slots freed i k s b lt in_marks is same =
+    rw (map-set (λ slot. is_none slot.live) slots i s) (
+      elim (cases_eq k i) [
+        | inl at ↦ rw at (get_or-set_same freed i b false in_marks ∙ is ∙ sym (get_or-set_same (vacant slots) i (is_none s.live) false (subst (λ n. i < n) (sym (length-vacant slots)) lt)))
+        | inr other ↦ get_or-set_other freed i k b false other ∙ same ∙ sym (get_or-set_other (vacant slots) i k (is_none s.live) false other)
+      ])
+  where
+    length-vacant : (slots : List Slot) → length (vacant slots) ≡ length slots
+    length-vacant [] = refl
+    length-vacant (t ∷ more) = ap suc (length-vacant more)
+
+-- ---- what is kept makes a table
+
+pub entry_is : (slots : List Slot) (handle : Handle) (e : Live) → IsPlaced 0 slots → entry_at handle (entries_of slots) ≡ Some e → live_in slots handle.slot ≡ Some e
+entry_is slots handle e h found =
+    of_generation-Some handle.generation (live_in slots handle.slot) e (ap (of_generation handle.generation) (sym (live_at_is 0 handle.slot handle.slot slots h (omega arith))) ∙ sym (entry_by_slot handle (entries_of slots) (entries_rise 0 slots h)) ∙ found)
+
+pub table_of : {slots : List Slot} {freed : List Bool} {len given : ℕ} → IsKept slots freed len given → IsTable (record { entries = entries_of slots; gives = gives_of slots })
+table_of {slots} {freed} {len} {given} kept = record {
+  rising = entries_rise 0 slots kept.placed;
+  small = all_entries (λ e. slot_of e < 8192) slots (λ k e live. omega (arith, (kept.placed k e live).0, within_from_live slots k e live, kept.few));
+  few = omega (arith, len_le slots, kept.few);
+  newest = all_entries (λ e. e.handle.generation + 1 ≡ slice_index (gives_of slots) (slot_of e)) slots (λ k e live.
+    let p = kept.placed k e live in p.1 ∙ sym (gives_at slots k) ∙ ap (slice_index (gives_of slots)) (sym p.0));
+}
