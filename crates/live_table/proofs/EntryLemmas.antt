@@ -19,6 +19,11 @@ pub entered_first : (new : Live) (es : List Live) → Above (slot_of new + 1) es
 entered_first new [] h = refl
 entered_first new (e ∷ later) h = rw (le-ltb (slot_of e) (slot_of new) (omega (arith, h.0))) refl
 
+pub length-entered : (new : Live) (es : List Live) → length (entered new es) ≡ length es + 1
+length-entered new [] = refl
+length-entered new (e ∷ later) =
+    elim (ltb (slot_of e) (slot_of new)) as (λ b. length (cond b (e ∷ entered new later) (new ∷ e ∷ later)) ≡ length (e ∷ later) + 1) [ | true ↦ omega (arith, length-entered new later) | false ↦ omega arith ]
+
 pub least_above : (n : ℕ) (es : List Live) → Above (n + 1) es → least_from n es ≡ n
 least_above n [] h = refl
 least_above n (e ∷ later) h = rw (ne_eqb (slot_of e) n (λ same. omega (arith, h.0))) refl

@@ -1,9 +1,9 @@
 -- Marks of slots in words: one mark, a write of a word, and the least mark.
-use Rattle.std.proofs.Common.{◌≡◌, ◌≢◌, ℕ, zero, suc, ◌+◌, ◌*◌, ◌/◌, ◌%◌, ◌^◌, ◌<◌, ◌≤◌, Bool, true, false, cond, List, Option, Some, None, length, get_or, set, map, eqb, refl, sym, ap, ◌∙◌, subst, arith, get_or-set_same, get_or-set_other, length-set, ext_get_or, le-ltb, lt-ltb, ltb, w64, inl, inr}
+use Rattle.std.proofs.Common.{◌≡◌, ◌≢◌, ℕ, zero, suc, ◌+◌, ◌*◌, ◌/◌, ◌%◌, ◌^◌, ◌<◌, ◌≤◌, Bool, true, false, cond, List, Option, Some, None, length, get_or, set, map, eqb, refl, sym, ap, ◌∙◌, subst, arith, get_or-set_same, get_or-set_other, length-set, ext_get_or, le-ltb, lt-ltb, ltb, w64, inl, inr, replicate}
 use Rattle.std.specs.List.{range_with_len, position, position_or_len}
 use Rattle.std.specs.Int.{bit_at}
 use Rattle.std.proofs.lemmas.Bool.{cases_eq, cases_lt, leb-true}
-use Rattle.std.proofs.lemmas.List.{get_or_past}
+use Rattle.std.proofs.lemmas.List.{get_or_past, get_or-replicate, length-replicate}
 use Rattle.std.proofs.lemmas.List.FromFn.{length-map-range_with_len, get_or-map-range_with_len}
 use Rattle.std.proofs.lemmas.List.Sums.{position_or_len_is, fails_before_first}
 use Rattle.std.proofs.lemmas.Nat.{div-mul-add, mod-mul-add, div_below}
@@ -91,3 +91,28 @@ none_marked marks none k =
           ]
       | inr past ↦ get_or_past marks k false past
     ]
+
+-- words of 0
+pub zeros : (n k : ℕ) → get_or (replicate {A = ℕ} n 0) k 0 ≡ 0
+zeros n k =
+    let none : ℕ = 0 in
+    elim (cases_lt k n) [ | inl lt ↦ get_or-replicate n k none none lt | inr past ↦ get_or_past (replicate n none) k none (omega (arith, length-replicate n none, past)) ]
+
+-- a search that begins behind words of 0 passes only words of 0
+pub blank_before : (words read : List ℕ) (first word : ℕ) → read ≡ words → ((k : ℕ) → k < first → get_or words k 0 ≡ 0) → ((k : ℕ) → first ≤ k → k < word → get_or read k 0 ≡ 0) → (k : ℕ) → k < word → get_or words k 0 ≡ 0
+blank_before words read first word same early late k lt =
+    elim (cases_lt k first) [ | inl below ↦ early k below | inr above ↦ ap (λ xs. get_or xs k 0) (sym same) ∙ late k above lt ]
+
+-- `marks_of-set` at a word and a bit
+pub marks_of-set_bit : (words : List ℕ) (word bit w : ℕ) (b : Bool) → word < length words → bit < 64 → eqb (bit_at w bit) 1 ≡ b → ((i : ℕ) → i < 64 → i ≢ bit → bit_at w i ≡ bit_at (get_or words word 0) i)
+    → marks_of (set words word w) ≡ set (marks_of words) (word * 64 + bit) b
+marks_of-set_bit words word bit w b in_words in_word at others =
+    let d : (word * 64 + bit) / 64 ≡ word = div-mul-add word 64 bit in_word in
+    let m : (word * 64 + bit) % 64 ≡ bit = mod-mul-add word 64 bit in_word in
+    let e : marks_of (set words ((word * 64 + bit) / 64) w) ≡ set (marks_of words) (word * 64 + bit) b =
+      marks_of-set words (word * 64 + bit) w b (omega arith) (subst (λ i. eqb (bit_at w i) 1 ≡ b) (sym m) at)
+        (λ i lt other. others i lt (λ same. other (same ∙ sym m)) ∙ ap (λ q. bit_at (get_or words q 0) i) (sym d)) in
+    subst (λ q. marks_of (set words q w) ≡ set (marks_of words) (word * 64 + bit) b) d e
+
+pub all_blank : (words : List ℕ) (n : ℕ) → length words ≡ n → ((k : ℕ) → k < n → get_or words k 0 ≡ 0) → (k : ℕ) → get_or words k 0 ≡ 0
+all_blank words n len before k = elim (cases_lt k n) [ | inl lt ↦ before k lt | inr past ↦ get_or_past words k 0 (omega (arith, len, past)) ]

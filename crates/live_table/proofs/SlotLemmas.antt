@@ -1,18 +1,18 @@
 -- What a table keeps, and the entries that its slots hold.
-use Rattle.std.proofs.Common.{◌≡◌, ◌≢◌, ℕ, zero, suc, ◌+◌, ◌<◌, ◌≤◌, Bool, true, false, cond, not, List, [], ◌∷◌, ◌++◌, Option, Some, None, is_none, length, get_or, set, map, refl, sym, ap, ◌∙◌, subst, arith, eq-eqb, ne_eqb, lt-ltb, sum, slice_index, get_or-set_same, get_or-set_other, length-append, length-set, inl, inr}
+use Rattle.std.proofs.Common.{◌≡◌, ◌≢◌, ℕ, zero, suc, ◌+◌, ◌<◌, ◌≤◌, Bool, true, false, cond, not, List, [], ◌∷◌, ◌++◌, Option, Some, None, is_none, length, get_or, set, map, refl, sym, ap, ◌∙◌, subst, arith, eq-eqb, ne_eqb, lt-ltb, le-ltb, ◌-◌, sum, slice_index, get_or-set_same, get_or-set_other, length-append, length-set, inl, inr}
 use Rattle.std.specs.List.{All, Any, filter_map, cons_option, sum_by}
 use Rattle.std.specs.Option.{option_to_list}
 use Rattle.std.proofs.lemmas.Bool.{and_from, cases_eq, cases_lt}
-use Rattle.std.proofs.lemmas.List.{get_or_past, map-set, map_push, get_or_push, get_or_append_left, length_push, get_or-map}
+use Rattle.std.proofs.lemmas.List.{get_or_past, set-get_or, map-set, map_push, get_or_push, get_or_append_left, length_push, get_or-map}
 use Rattle.std.proofs.lemmas.List.Elements.{All-cons}
 use Rattle.std.proofs.lemmas.List.Sums.{sum_by-set, sum_by_push}
 use Rattle.live_table.specs.declared.handle.Handle.{Handle}
 use Rattle.live_table.specs.declared.live.Live.{Live}
 use Rattle.live_table.specs.declared.slot.Slot.{Slot}
-use Rattle.live_table.specs.Entries.{slot_of, has, live_at, entry_at, least_from, entered, changed, without, rises, IsLeastFree}
+use Rattle.live_table.specs.Entries.{slot_of, has, live_at, entry_at, least_from, least_free, entered, changed, without, rises, IsLeastFree}
 use Rattle.live_table.specs.Table.{Table, raised, IsTable}
-use Rattle.live_table.specs.Slots.{entries_of, gives_of, vacant, never_given, IsPlaced, IsKept}
-use Rattle.live_table.proofs.EntryLemmas.{Above, above_from, entered_first, least_above, live_above, has_not, changed_above, without_above, so_above, entry_by_slot, of_generation, of_generation-Some}
+use Rattle.live_table.specs.Slots.{entries_of, gives_of, vacant, never_given, opened, IsPlaced, IsKept, IsLeastVacant}
+use Rattle.live_table.proofs.EntryLemmas.{Above, above_from, entered_first, least_above, live_above, has_not, changed_above, without_above, so_above, length-entered, entry_by_slot, of_generation, of_generation-Some}
 
 -- ---- one slot of a list
 
@@ -221,26 +221,39 @@ placed_set n i slots s h lt fits k e live =
           (p.0, p.1 ∙ sym (ap (λ t. t.gives) at))
     ]
 
-pub placed_push : (n : ℕ) (slots : List Slot) (s : Slot) → IsPlaced n slots → s.live ≡ None → IsPlaced n (slots ++ s ∷ [])
-placed_push n [] s h none zero e live = absurd (cc)
-placed_push n [] s h none (suc k) e live = absurd (cc)
-placed_push n (t ∷ more) s h none zero e live = h zero e live
-placed_push n (t ∷ more) s h none (suc k) e live = let p = placed_push (n + 1) more s (rest_placed n t more h) none k e live in (omega (arith, p.0), p.1)
-
 -- ---- marks
 
-pub marked_set : (slots : List Slot) (freed : List Bool) (i k : ℕ) (s : Slot) (b : Bool) → i < length slots → i < length freed → b ≡ is_none s.live → get_or freed k false ≡ get_or (vacant slots) k false
+pub marked_set : (slots : List Slot) (freed : List Bool) (i k : ℕ) (s : Slot) (b : Bool) → i < length slots → i < length freed → b ≡ is_none s.live → (k ≢ i → get_or freed k false ≡ get_or (vacant slots) k false)
     → get_or (set freed i b) k false ≡ get_or (vacant (set slots i s)) k false
 marked_set slots freed i k s b lt in_marks is same =
     rw (map-set (λ slot. is_none slot.live) slots i s) (
       elim (cases_eq k i) [
         | inl at ↦ rw at (get_or-set_same freed i b false in_marks ∙ is ∙ sym (get_or-set_same (vacant slots) i (is_none s.live) false (subst (λ n. i < n) (sym (length-vacant slots)) lt)))
-        | inr other ↦ get_or-set_other freed i k b false other ∙ same ∙ sym (get_or-set_other (vacant slots) i k (is_none s.live) false other)
+        | inr other ↦ get_or-set_other freed i k b false other ∙ same other ∙ sym (get_or-set_other (vacant slots) i k (is_none s.live) false other)
       ])
   where
     length-vacant : (slots : List Slot) → length (vacant slots) ≡ length slots
     length-vacant [] = refl
     length-vacant (t ∷ more) = ap suc (length-vacant more)
+
+pub vacant_not : (slots : List Slot) (k : ℕ) (e : Live) → live_in slots k ≡ Some e → get_or (vacant slots) k false ≡ false
+vacant_not [] k e live = refl
+vacant_not (s ∷ more) zero e live = ap is_none live
+vacant_not (s ∷ more) (suc k) e live = vacant_not more k e live
+
+live_not : (slots : List Slot) (k : ℕ) → get_or (vacant slots) k false ≡ true → live_in slots k ≡ None
+live_not [] k h = refl
+live_not (s ∷ more) zero h = elim s.live as (λ o. is_none o ≡ true → o ≡ None) [ | None ↦ λ _. refl | Some e ↦ λ none. cc ] h
+live_not (s ∷ more) (suc k) h = live_not more k h
+
+live_so : (slots : List Slot) (k : ℕ) → k < length slots → get_or (vacant slots) k false ≡ false → (e : Live) × (live_in slots k ≡ Some e)
+live_so [] k lt h = absurd (omega arith)
+live_so (s ∷ more) zero lt h = elim s.live as (λ o. is_none o ≡ false → (e : Live) × (o ≡ Some e)) [ | None ↦ λ none. absurd (cc) | Some e ↦ λ _. (e, refl) ] h
+live_so (s ∷ more) (suc k) lt h = live_so more k (omega arith) h
+
+-- a write that keeps a live box keeps its mark
+pub marks_stay : (slots : List Slot) (freed : List Bool) (i : ℕ) (e : Live) → live_in slots i ≡ Some e → get_or freed i false ≡ get_or (vacant slots) i false → set freed i false ≡ freed
+marks_stay slots freed i e live same = ap (set freed i) (sym (same ∙ vacant_not slots i e live)) ∙ set-get_or freed i false
 
 -- ---- what is kept makes a table
 
@@ -254,5 +267,162 @@ table_of {slots} {freed} {len} {given} kept = record {
   small = all_entries (λ e. slot_of e < 8192) slots (λ k e live. omega (arith, (kept.placed k e live).0, within_from_live slots k e live, kept.few));
   few = omega (arith, len_le slots, kept.few);
   newest = all_entries (λ e. e.handle.generation + 1 ≡ slice_index (gives_of slots) (slot_of e)) slots (λ k e live.
-    let p = kept.placed k e live in p.1 ∙ sym (gives_at slots k) ∙ ap (slice_index (gives_of slots)) (sym p.0));
+    let p = kept.placed k e live in
+    let at : k ≡ slot_of e = omega (arith, p.0) in
+    p.1 ∙ sym (gives_at slots k) ∙ ap (slice_index (gives_of slots)) at);
 }
+
+-- ---- the slot that is given next
+
+get_or-push_never : (slots : List Slot) (k : ℕ) → get_or (slots ++ never_given ∷ []) k never_given ≡ get_or slots k never_given
+get_or-push_never [] zero = refl
+get_or-push_never [] (suc k) = refl
+get_or-push_never (s ∷ more) zero = refl
+get_or-push_never (s ∷ more) (suc k) = get_or-push_never more k
+
+vacant-push_never : (slots : List Slot) (k : ℕ) → k ≢ length slots → get_or (vacant (slots ++ never_given ∷ [])) k false ≡ get_or (vacant slots) k false
+vacant-push_never [] zero other = absurd (other refl)
+vacant-push_never [] (suc k) other = refl
+vacant-push_never (s ∷ more) zero other = refl
+vacant-push_never (s ∷ more) (suc k) other = vacant-push_never more k (λ same. other (ap suc same))
+
+-- the slots as they were, or with one more
+opened_as : (P : List Slot → Type 0) (slots : List Slot) (slot : ℕ) → slot ≤ length slots → (slot < length slots → P slots) → (length slots ≡ slot → P (slots ++ never_given ∷ [])) → P (opened slot slots)
+opened_as P slots slot next old more =
+    elim (cases_lt slot (length slots)) [
+      | inl lt ↦ rw (lt-ltb slot (length slots) lt) (old lt)
+      | inr past ↦ rw (le-ltb slot (length slots) past) (more (omega (arith, past, next)))
+    ]
+
+pub get_or-opened : (slots : List Slot) (slot k : ℕ) → slot ≤ length slots → get_or (opened slot slots) k never_given ≡ get_or slots k never_given
+get_or-opened slots slot k next = opened_as (λ all. get_or all k never_given ≡ get_or slots k never_given) slots slot next (λ _. refl) (λ _. get_or-push_never slots k)
+
+pub length-opened : (slots : List Slot) (slot : ℕ) → slot ≤ length slots → slot < length (opened slot slots)
+length-opened slots slot next = opened_as (λ all. slot < length all) slots slot next (λ lt. lt) (λ e. omega (arith, e, length_push slots never_given))
+
+opened_few : (slots : List Slot) (slot : ℕ) → slot ≤ length slots → slot < 8192 → length slots ≤ 8192 → length (opened slot slots) ≤ 8192
+opened_few slots slot next small few = opened_as (λ all. length all ≤ 8192) slots slot next (λ _. few) (λ e. omega (arith, e, length_push slots never_given))
+
+entries_of-opened : (slots : List Slot) (slot : ℕ) → slot ≤ length slots → entries_of (opened slot slots) ≡ entries_of slots
+entries_of-opened slots slot next = opened_as (λ all. entries_of all ≡ entries_of slots) slots slot next (λ _. refl) (λ _. entries_push slots never_given refl)
+
+raised-opened : (slots : List Slot) (slot : ℕ) → slot ≤ length slots → raised (gives_of slots) slot ≡ raised (gives_of (opened slot slots)) slot
+raised-opened slots slot next =
+    opened_as (λ all. raised (gives_of slots) slot ≡ raised (gives_of all) slot) slots slot next (λ _. refl)
+      (λ e. subst (λ n. raised (gives_of slots) n ≡ raised (gives_of (slots ++ never_given ∷ [])) n) e (raised_push slots never_given refl))
+
+sum-opened : (slots : List Slot) (slot : ℕ) → slot ≤ length slots → sum (gives_of (opened slot slots)) ≡ sum (gives_of slots)
+sum-opened slots slot next = opened_as (λ all. sum (gives_of all) ≡ sum (gives_of slots)) slots slot next (λ _. refl) (λ _. sum_push slots never_given refl)
+
+vacant-opened : (slots : List Slot) (slot k : ℕ) → slot ≤ length slots → k ≢ slot → get_or (vacant (opened slot slots)) k false ≡ get_or (vacant slots) k false
+vacant-opened slots slot k next other =
+    opened_as (λ all. get_or (vacant all) k false ≡ get_or (vacant slots) k false) slots slot next (λ _. refl) (λ e. vacant-push_never slots k (λ same. other (same ∙ e)))
+
+placed_opened : (n : ℕ) (slots : List Slot) (slot : ℕ) → slot ≤ length slots → IsPlaced n slots → IsPlaced n (opened slot slots)
+placed_opened n slots slot next h k e live =
+    let at : get_or (opened slot slots) k never_given ≡ get_or slots k never_given = get_or-opened slots slot k next in
+    let p = h k e (sym (ap (λ s. s.live) at) ∙ live) in
+    (p.0, p.1 ∙ sym (ap (λ s. s.gives) at))
+
+live_in_vacant : (slots : List Slot) (slot : ℕ) → IsLeastVacant slots slot → live_in slots slot ≡ None
+live_in_vacant slots slot least =
+    elim (cases_lt slot (length slots)) [ | inl lt ↦ live_not slots slot (least.at lt) | inr past ↦ ap (λ s. s.live) (get_or_past slots slot never_given past) ]
+
+-- it is the least free slot of the entries
+pub least_free_is : (slots : List Slot) (slot : ℕ) → IsPlaced 0 slots → IsLeastVacant slots slot → least_free (entries_of slots) ≡ slot
+least_free_is slots slot placed least = least_is 0 slot slots placed least.next least.least least.at ∙ omega arith
+
+pub least_free_so : (slots : List Slot) (slot : ℕ) → IsPlaced 0 slots → IsLeastVacant slots slot → IsLeastFree slot (entries_of slots)
+least_free_so slots slot placed least = record {
+  free = all_entries (λ e. slot_of e ≢ slot) slots (λ k e live same.
+    let at : k ≡ slot = omega (arith, (placed k e live).0, same) in
+    let none : live_in slots slot ≡ None = live_in_vacant slots slot least in
+    let some : live_in slots slot ≡ Some e = subst (λ n. live_in slots n ≡ Some e) at live in
+    cc);
+  least = λ lower lt.
+    let found : (e : Live) × (live_in slots lower ≡ Some e) = live_so slots lower (omega (arith, least.next)) (least.least lower lt) in
+    any_entry (λ e. slot_of e ≡ lower) slots lower found.0 found.1 (omega (arith, (placed lower found.0 found.1).0));
+}
+
+pub not_full : (slots : List Slot) (slot : ℕ) → IsLeastVacant slots slot → length slots ≤ 8192 → length (entries_of slots) < 8192
+not_full slots slot least few =
+    elim (cases_lt slot (length slots)) [ | inl lt ↦ omega (arith, len_lt slots slot (least.at lt)) | inr past ↦ omega (arith, len_le slots, least.small, least.next) ]
+
+-- ---- what a give makes of the slots
+
+pub give_entries : (slots : List Slot) (slot : ℕ) (s : Slot) (new : Live) → IsPlaced 0 slots → IsLeastVacant slots slot → s.live ≡ Some new → slot_of new ≡ slot → entries_of (set (opened slot slots) slot s) ≡ entered new (entries_of slots)
+give_entries slots slot s new placed least is at =
+    enter_set 0 slot (opened slot slots) s new (placed_opened 0 slots slot least.next placed) (length-opened slots slot least.next)
+      (ap (λ s. s.live) (get_or-opened slots slot slot least.next) ∙ live_in_vacant slots slot least) (omega (arith, at)) is
+    ∙ ap (entered new) (entries_of-opened slots slot least.next)
+
+pub give_gives : (slots : List Slot) (slot : ℕ) (s : Slot) → IsLeastVacant slots slot → s.gives ≡ (get_or slots slot never_given).gives + 1 → gives_of (set (opened slot slots) slot s) ≡ raised (gives_of slots) slot
+give_gives slots slot s least is =
+    sym (raised-opened slots slot least.next ∙ raised_set (opened slot slots) slot s (length-opened slots slot least.next) (is ∙ ap (λ s. s.gives + 1) (sym (get_or-opened slots slot slot least.next))))
+
+pub give_sum : (slots : List Slot) (slot : ℕ) (s : Slot) → IsLeastVacant slots slot → s.gives ≡ (get_or slots slot never_given).gives + 1 → sum (gives_of (set (opened slot slots) slot s)) ≡ sum (gives_of slots) + 1
+give_sum slots slot s least is =
+    omega (arith, sum_set (opened slot slots) slot s (length-opened slots slot least.next), sum-opened slots slot least.next, ap (λ s. s.gives) (get_or-opened slots slot slot least.next), is)
+
+pub kept_give : (slots : List Slot) (freed : List Bool) (len given slot : ℕ) (s : Slot) (new : Live) → IsKept slots freed len given → IsLeastVacant slots slot → s.gives ≡ (get_or slots slot never_given).gives + 1
+    → s.live ≡ Some new → slot_of new ≡ slot → new.handle.generation + 1 ≡ s.gives → IsKept (set (opened slot slots) slot s) (set freed slot false) (len + 1) (given + 1)
+kept_give slots freed len given slot s new kept least gives is at generation = record {
+  few = omega (arith, length-set (opened slot slots) slot s, opened_few slots slot least.next least.small kept.few);
+  placed = placed_set 0 slot (opened slot slots) s (placed_opened 0 slots slot least.next kept.placed) (length-opened slots slot least.next) (λ e live.
+    let same : new ≡ e = cc in
+    (ap slot_of (sym same) ∙ omega (arith, at), ap (λ e. e.handle.generation + 1) (sym same) ∙ generation));
+  marks = length-set freed slot false ∙ kept.marks;
+  marked = λ k. marked_set (opened slot slots) freed slot k s false (length-opened slots slot least.next) (omega (arith, kept.marks, least.small)) (sym (ap is_none is)) (λ other. kept.marked k ∙ sym (vacant-opened slots slot k least.next other));
+  counted =
+    let e = give_entries slots slot s new kept.placed least is at in
+    let grown : length (entered new (entries_of slots)) ≡ length (entries_of slots) + 1 = length-entered new (entries_of slots) in
+    omega (arith, kept.counted, ap length e, grown);
+  summed = omega (arith, kept.summed, give_sum slots slot s least gives);
+}
+
+-- ---- what the other calls make of the slots
+
+pub kept_change : (slots : List Slot) (freed : List Bool) (len given i : ℕ) (s : Slot) (e f : Live) → IsKept slots freed len given → live_in slots i ≡ Some e → s.gives ≡ (get_or slots i never_given).gives → s.live ≡ Some f → f.handle ≡ e.handle
+    → IsKept (set slots i s) freed len given
+kept_change slots freed len given i s e f kept live gives is same =
+    let lt : i < length slots = within_from_live slots i e live in record {
+  few = omega (arith, length-set slots i s, kept.few);
+  placed = placed_set 0 i slots s kept.placed lt (λ g at.
+    let p = kept.placed i e live in
+    let h : g.handle ≡ e.handle = let g_is : f ≡ g = cc in ap (λ x. x.handle) (sym g_is) ∙ same in
+    (ap (λ h. h.slot) h ∙ p.0, ap (λ h. h.generation + 1) h ∙ p.1 ∙ sym gives));
+  marks = kept.marks;
+  marked = λ k.
+    ap (λ ms. get_or ms k false) (sym (marks_stay slots freed i e live (kept.marked i)))
+    ∙ marked_set slots freed i k s false lt (omega (arith, kept.marks, kept.few)) (sym (ap is_none is)) (λ _. kept.marked k);
+  counted =
+    let before : length (option_to_list (live_in slots i)) ≡ 1 = rw live refl in
+    let after : length (option_to_list s.live) ≡ 1 = rw is refl in
+    omega (arith, kept.counted, len_set slots i s lt, before, after);
+  summed = omega (arith, kept.summed, sum_set slots i s lt, gives);
+}
+
+pub kept_take : (slots : List Slot) (freed : List Bool) (len given i : ℕ) (s : Slot) (e : Live) → IsKept slots freed len given → live_in slots i ≡ Some e → s.gives ≡ (get_or slots i never_given).gives → s.live ≡ None
+    → IsKept (set slots i s) (set freed i true) (len - 1) given
+kept_take slots freed len given i s e kept live gives is =
+    let lt : i < length slots = within_from_live slots i e live in record {
+  few = omega (arith, length-set slots i s, kept.few);
+  placed = placed_set 0 i slots s kept.placed lt (λ g at. absurd (cc));
+  marks = length-set freed i true ∙ kept.marks;
+  marked = λ k. marked_set slots freed i k s true lt (omega (arith, kept.marks, kept.few)) (sym (ap is_none is)) (λ _. kept.marked k);
+  counted =
+    let before : length (option_to_list (live_in slots i)) ≡ 1 = rw live refl in
+    let after : length (option_to_list s.live) ≡ 0 = rw is refl in
+    omega (arith, kept.counted, len_set slots i s lt, before, after);
+  summed = omega (arith, kept.summed, sum_set slots i s lt, gives);
+}
+
+-- a live box is counted
+pub counted_live : (slots : List Slot) (i : ℕ) (e : Live) → live_in slots i ≡ Some e → 0 < length (entries_of slots)
+counted_live slots i e live =
+    let before : length (option_to_list (live_in slots i)) ≡ 1 = rw live refl in
+    let after : length (option_to_list never_given.live) ≡ 0 = refl in
+    omega (arith, len_set slots i never_given (within_from_live slots i e live), before, after)
+
+pub has_own : (e : Live) → has e.handle e ≡ true
+has_own e = and_from _ _ (eq-eqb (slot_of e) (slot_of e) refl) (eq-eqb e.handle.generation e.handle.generation refl)

@@ -1,5 +1,5 @@
 -- What a table keeps: the slots that were given, and numbers that are known from them.
-use Rattle.std.specs.Prelude.{◌≡◌, ℕ, ◌+◌, ◌≤◌, Bool, false, List, length, map, get_or, Option, Some, None, is_none, slice_index_or}
+use Rattle.std.specs.Prelude.{◌≡◌, ℕ, ◌+◌, ◌<◌, ◌≤◌, Bool, true, false, if◌then◌else◌, nat_lt, List, [], ◌∷◌, ◌++◌, length, map, get_or, Option, Some, None, is_none, slice_index_or}
 use Rattle.std.specs.List.{filter_map, sum}
 use Rattle.live_table.specs.declared.live.Live.{Live}
 use Rattle.live_table.specs.declared.slot.Slot.{Slot}
@@ -34,3 +34,14 @@ pub record IsKept (slots : List Slot) (freed : List Bool) (len given : ℕ) : Ty
   pub marked : (k : ℕ) → slice_index_or freed k false ≡ slice_index_or (vacant slots) k false
   pub counted : len ≡ length (entries_of slots)
   pub summed : given ≡ sum (gives_of slots)
+
+-- the least slot below 8,192 without a live box: one of these, or the next, which was never given
+pub record IsLeastVacant (slots : List Slot) (slot : ℕ) : Type 0 where
+  pub small : slot < 8192
+  pub next : slot ≤ length slots
+  pub at : slot < length slots → slice_index_or (vacant slots) slot false ≡ true
+  pub least : (k : ℕ) → k < slot → slice_index_or (vacant slots) k false ≡ false
+
+-- the slots with this one among them
+abbrev pub opened : ℕ → List Slot → List Slot
+opened slot slots = if nat_lt slot (length slots) then slots else slots ++ never_given ∷ []

@@ -1,5 +1,6 @@
 ghost use Rattle.std.specs.Prelude.{◌≡◌, ℕ, ◌<◌, ◌≤◌, true, false, length, IfOk, IfSome, IfNone, slice_index, slice_index_or, slice_set};
 ghost use Rattle.std.specs.List.{position};
+ghost use Rattle.std.specs.Int.{bit_at};
 
 use fixed_box::NoMemory;
 use std::alloc::Global;
@@ -61,10 +62,20 @@ impl FreedSlots {
             return None;
         }
         let bits = self.words[word];
-        let bit = bits.trailing_zeros();
+        let bit = lowest_bit(bits);
         self.words[word] = bits & !(1 << bit);
         Some(word as u32 * 64 + bit)
     }
+}
+
+// The place of the lowest bit that is set.
+fn lowest_bit(bits: u64) -> u32
+    requires { 0 < bits }
+    ensures within { result < 64 }
+    ensures set { bit_at bits result ≡ 1 }
+    ensures lowest { (k : ℕ) → k < result → bit_at bits k ≡ 0 }
+{
+    bits.trailing_zeros()
 }
 
 // The first word from `from` on that isn't 0, or the number of words.

@@ -5,7 +5,7 @@ ghost use Rattle.live_table.specs.Entries.{live_at, entry_at, IsLeastFree};
 ghost use Rattle.live_table.specs.Table.{next_handle, after_give, after_set_box, after_set_masks, after_take, IsTable};
 
 use crate::freed_slots::FreedSlots;
-use crate::slot::Slot;
+use crate::slot::{Slot, open_slot};
 use crate::{Full, Handle, Live, Masks, Stale};
 use fixed_box::{FBox, NoMemory};
 use std::alloc::Global;
@@ -110,22 +110,12 @@ impl LiveTable {
         ensures count { OnOk result (sum self.new.gives ≡ sum self.old.gives + 1) }
         ensures table { IsTable self.new }
     {
-        let slot = match self.freed.take_least() {
-            Some(slot) => slot as usize,
-            None => {
-                if self.slots.len() == SLOTS {
-                    return Err(Full);
-                }
-                self.slots.push_reserved(Slot {
-                    gives: 0,
-                    live: None,
-                });
-                self.slots.len() - 1
-            }
+        let Some(slot) = open_slot(&mut self.slots, &mut self.freed) else {
+            return Err(Full);
         };
-        let place = &mut self.slots[slot];
+        let place = &mut self.slots[slot as usize];
         let handle = Handle {
-            slot: slot as u32,
+            slot,
             generation: place.gives,
         };
         place.gives += 1;
