@@ -80,3 +80,29 @@ pub of_generation-Some : (g : ℕ) (o : Option Live) (e : Live) → of_generatio
 of_generation-Some g None e h = h
 of_generation-Some g (Some f) e h =
     elim (eqb f.handle.generation g) as (λ b. cond b (Some f) None ≡ Some e → Some f ≡ Some e) [ | true ↦ λ same. same | false ↦ λ none. cc ] h
+
+-- where no entry has the handle, there is nothing to change or to take out
+pub changed_none : (handle : Handle) (change : Live → Live) (es : List Live) → entry_at handle es ≡ None → changed handle change es ≡ es
+changed_none handle change [] h = refl
+changed_none handle change (e ∷ later) h =
+    elim (has handle e) as (λ b. cond b (Some e) (entry_at handle later) ≡ None → cond b (change e) e ∷ changed handle change later ≡ e ∷ later) [
+      | true ↦ λ some. absurd (cc)
+      | false ↦ λ none. ap (λ es. e ∷ es) (changed_none handle change later none)
+    ] h
+
+pub without_none : (handle : Handle) (es : List Live) → entry_at handle es ≡ None → without handle es ≡ es
+without_none handle [] h = refl
+without_none handle (e ∷ later) h =
+    elim (has handle e) as (λ b. cond b (Some e) (entry_at handle later) ≡ None → cond (not b) (e ∷ without handle later) (without handle later) ≡ e ∷ later) [
+      | true ↦ λ some. absurd (cc)
+      | false ↦ λ none. ap (λ es. e ∷ es) (without_none handle later none)
+    ] h
+
+-- an entry that is found has the handle
+pub has_found : (handle : Handle) (e : Live) (es : List Live) → entry_at handle es ≡ Some e → has handle e ≡ true
+has_found handle e [] h = absurd (cc)
+has_found handle e (f ∷ later) h =
+    elim (has handle f) as (λ b. has handle f ≡ b → cond b (Some f) (entry_at handle later) ≡ Some e → has handle e ≡ true) [
+      | true ↦ λ own same. let is : f ≡ e = cc in ap (has handle) (sym is) ∙ own
+      | false ↦ λ _ rest. has_found handle e later rest
+    ] refl h

@@ -1,17 +1,21 @@
 -- What a table keeps, and the entries that its slots hold.
 use Rattle.std.proofs.Common.{◌≡◌, ◌≢◌, ℕ, zero, suc, ◌+◌, ◌<◌, ◌≤◌, Bool, true, false, cond, not, List, [], ◌∷◌, ◌++◌, Option, Some, None, is_none, length, get_or, set, map, refl, sym, ap, ◌∙◌, subst, arith, eq-eqb, ne_eqb, lt-ltb, le-ltb, ◌-◌, sum, slice_index, get_or-set_same, get_or-set_other, length-append, length-set, inl, inr}
-use Rattle.std.specs.List.{All, Any, filter_map, cons_option, sum_by}
+use Rattle.std.specs.List.{All, Any, filter_map, cons_option, sum_by, position}
 use Rattle.std.specs.Option.{option_to_list}
 use Rattle.std.proofs.lemmas.Bool.{and_from, cases_eq, cases_lt}
-use Rattle.std.proofs.lemmas.List.{get_or_past, set-get_or, map-set, map_push, get_or_push, get_or_append_left, length_push, get_or-map}
+use Rattle.std.proofs.lemmas.List.{get_or_past, get_or_read, set-get_or, map-set, map_push, get_or_push, get_or_append_left, length_push, get_or-map}
 use Rattle.std.proofs.lemmas.List.Elements.{All-cons}
+use Rattle.std.proofs.lemmas.List.Quantifiers.{position-Some}
 use Rattle.std.proofs.lemmas.List.Sums.{sum_by-set, sum_by_push}
 use Rattle.live_table.specs.declared.handle.Handle.{Handle}
 use Rattle.live_table.specs.declared.live.Live.{Live}
+use Rattle.live_table.specs.declared.masks.Masks.{Masks}
+use Rattle.fixed_box.specs.Bounds.{Bounds}
 use Rattle.live_table.specs.declared.slot.Slot.{Slot}
 use Rattle.live_table.specs.Entries.{slot_of, has, live_at, entry_at, least_from, least_free, entered, changed, without, rises, IsLeastFree}
-use Rattle.live_table.specs.Table.{Table, raised, IsTable}
+use Rattle.live_table.specs.Table.{Table, raised, next_handle, after_give, IsTable}
 use Rattle.live_table.specs.Slots.{entries_of, gives_of, vacant, never_given, opened, IsPlaced, IsKept, IsLeastVacant}
+use Rattle.live_table.proofs.MarkLemmas.{none_marked}
 use Rattle.live_table.proofs.EntryLemmas.{Above, above_from, entered_first, least_above, live_above, has_not, changed_above, without_above, so_above, length-entered, entry_by_slot, of_generation, of_generation-Some}
 
 -- ---- one slot of a list
@@ -424,5 +428,64 @@ counted_live slots i e live =
     let after : length (option_to_list never_given.live) ≡ 0 = refl in
     omega (arith, len_set slots i never_given (within_from_live slots i e live), before, after)
 
-pub has_own : (e : Live) → has e.handle e ≡ true
-has_own e = and_from _ _ (eq-eqb (slot_of e) (slot_of e) refl) (eq-eqb e.handle.generation e.handle.generation refl)
+-- ---- the slot that is opened
+
+vacant_within : (slots : List Slot) (k : ℕ) → get_or (vacant slots) k false ≡ true → k < length slots
+vacant_within [] k h = absurd (cc)
+vacant_within (s ∷ more) zero h = omega arith
+vacant_within (s ∷ more) (suc k) h = omega (arith, vacant_within more k h)
+
+-- the least mark is the least vacant slot, and without a mark the next slot is
+pub least_marked : (slots : List Slot) (freed : List Bool) (slot : ℕ) → length slots ≤ 8192 → ((k : ℕ) → get_or freed k false ≡ get_or (vacant slots) k false) → Some slot ≡ position (λ mark. mark) freed → IsLeastVacant slots slot
+least_marked slots freed slot few marked found =
+    let p = position-Some (λ mark. mark) freed slot false (sym found) in
+    let vacant_here : get_or (vacant slots) slot false ≡ true = sym (marked slot) ∙ p.1 in
+    let within : slot < length slots = vacant_within slots slot vacant_here in
+    record { small = omega (arith, within, few); next = omega (arith, within); at = λ _. vacant_here; least = λ k lt. sym (marked k) ∙ p.2 k lt }
+
+pub least_next : (slots : List Slot) (freed : List Bool) → length slots < 8192 → ((k : ℕ) → get_or freed k false ≡ get_or (vacant slots) k false) → None ≡ position (λ mark. mark) freed → IsLeastVacant slots (length slots)
+least_next slots freed few marked none =
+    record { small = few; next = omega arith; at = λ lt. absurd (omega arith); least = λ k _. sym (marked k) ∙ none_marked freed (sym none) k }
+
+pub opened_vacant : (slots : List Slot) (slot : ℕ) → slot < length slots → slots ≡ opened slot slots
+opened_vacant slots slot lt = rw (lt-ltb slot (length slots) lt) refl
+
+pub unmarked_stays : (freed : List Bool) (k : ℕ) → None ≡ position (λ mark. mark) freed → freed ≡ set freed k false
+unmarked_stays freed k none = sym (ap (set freed k) (sym (none_marked freed (sym none) k)) ∙ set-get_or freed k false)
+
+-- what stands in the opened slot
+pub opened_place : (slots items : List Slot) (slot : ℕ) (place : Slot) → IsLeastVacant slots slot → items ≡ opened slot slots → place ≡ get_or items slot place → place.gives ≡ (get_or slots slot never_given).gives
+opened_place slots items slot place least is at =
+    let within : slot < length items = subst (λ xs. slot < length xs) (sym is) (length-opened slots slot least.next) in
+    ap (λ s. s.gives) (get_or_read items slot place within at never_given ∙ ap (λ xs. get_or xs slot never_given) is ∙ get_or-opened slots slot slot least.next)
+
+pub gives_le : (slots : List Slot) (k : ℕ) → (get_or slots k never_given).gives ≤ sum (gives_of slots)
+gives_le slots k =
+    elim (cases_lt k (length slots)) [
+      | inl lt ↦ let none : never_given.gives ≡ 0 = refl in omega (arith, sum_set slots k never_given lt, none)
+      | inr past ↦ let none : (get_or slots k never_given).gives ≡ 0 = ap (λ s. s.gives) (get_or_past slots k never_given past) in omega (arith, none)
+    ]
+
+-- the table that slots are seen as
+abbrev pub table_in : List Slot → Table
+table_in slots = record { entries = entries_of slots; gives = gives_of slots }
+
+pub next_is : (slots : List Slot) (slot gives : ℕ) → IsPlaced 0 slots → IsLeastVacant slots slot → gives ≡ (get_or slots slot never_given).gives → ◌≡◌ {A = Handle} (record { slot = slot; generation = gives }) (next_handle (table_in slots))
+next_is slots slot gives placed least is =
+    let free : least_free (entries_of slots) ≡ slot = least_free_is slots slot placed least in
+    let generation : slice_index (gives_of slots) (least_free (entries_of slots)) ≡ gives = ap (slice_index (gives_of slots)) free ∙ gives_at slots slot ∙ sym is in
+    rw (generation, free) refl
+
+pub given_is : (slots : List Slot) (slot : ℕ) (s : Slot) (body : Bounds) (masks : Masks) (handle : Handle) → IsPlaced 0 slots → IsLeastVacant slots slot → handle ≡ next_handle (table_in slots)
+    → s.gives ≡ (get_or slots slot never_given).gives + 1 → s.live ≡ Some (record { handle = handle; body = body; masks = masks }) → table_in (set (opened slot slots) slot s) ≡ after_give (table_in slots) body masks
+given_is slots slot s body masks handle placed least named gives is =
+    let free : least_free (entries_of slots) ≡ slot = least_free_is slots slot placed least in
+    let entries : entries_of (set (opened slot slots) slot s) ≡ entered (record { handle = next_handle (table_in slots); body = body; masks = masks }) (entries_of slots) =
+      give_entries slots slot s (record { handle = handle; body = body; masks = masks }) placed least is (ap (λ h. h.slot) named ∙ free) ∙ ap (λ h. entered (record { handle = h; body = body; masks = masks }) (entries_of slots)) named in
+    let counts : gives_of (set (opened slot slots) slot s) ≡ raised (gives_of slots) (least_free (entries_of slots)) = give_gives slots slot s least gives ∙ ap (raised (gives_of slots)) (sym free) in
+    rw (entries, counts) refl
+
+-- ---- a look-up by handle
+
+pub found_in : (slots : List Slot) (t : Table) (handle : Handle) (e : Live) → table_in slots ≡ t → Some e ≡ entry_at handle t.entries → IsPlaced 0 slots → live_in slots handle.slot ≡ Some e
+found_in slots t handle e view found placed = entry_is slots handle e placed (ap (λ t. entry_at handle t.entries) view ∙ sym found)

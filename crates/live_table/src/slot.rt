@@ -26,9 +26,8 @@ pub(crate) fn open_slot(slots: &mut Vec<Slot>, freed: &mut FreedSlots) -> Option
     ensures slots_stay { IfNone result (slots.new.items ≡ slots.old.items) }
     ensures freed_stay { IfNone result (freed.new ≡ freed.old) }
 {
-    let found = freed.take_least();
-    if found.is_some() {
-        return found;
+    if let Some(slot) = freed.take_least() {
+        return Some(slot);
     }
     let next = slots.len();
     if next == 8192 {

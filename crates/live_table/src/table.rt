@@ -138,11 +138,7 @@ impl LiveTable {
         ensures table { IsTable self.new }
     {
         let live = self.find(handle)?;
-        self.slots[handle.slot as usize].live = Some(Live {
-            handle,
-            body,
-            masks: live.masks,
-        });
+        self.slots[handle.slot as usize].live = Some(Live { body, ..live });
         Ok(())
     }
 
@@ -155,11 +151,7 @@ impl LiveTable {
         ensures table { IsTable self.new }
     {
         let live = self.find(handle)?;
-        self.slots[handle.slot as usize].live = Some(Live {
-            handle,
-            body: live.body,
-            masks,
-        });
+        self.slots[handle.slot as usize].live = Some(Live { masks, ..live });
         Ok(())
     }
 

@@ -7,5 +7,5 @@ returns-clause-len c = omega (arith, length-marks_of c.in_ok-vec.field-0.items, 
 
 pub returns-clause-none : goal.returns-clause-none
 returns-clause-none c slot =
-    let none : get_or c.in_ok-vec.field-0.items (slot / 64) 0 ≡ 0 = ap (λ xs. get_or xs (slot / 64) 0) c.in_ok-vec.ensures.items ∙ zeros 128 (slot / 64) in
+    let none : get_or c.in_ok-vec.field-0.items (slot / 64) 0 ≡ 0 = ap (λ xs. get_or xs (slot / 64) 0) (c.in_ok-vec.ensures.items_if_clones_equal (λ y h. h)) ∙ zeros 128 (slot / 64) in
     unmarked c.in_ok-vec.field-0.items slot none
