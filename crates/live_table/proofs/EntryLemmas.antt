@@ -106,3 +106,12 @@ has_found handle e (f ∷ later) h =
       | true ↦ λ own same. let is : f ≡ e = cc in ap (has handle) (sym is) ∙ own
       | false ↦ λ _ rest. has_found handle e later rest
     ] refl h
+
+-- an entry that is looked up by its slot has it
+pub slot_found : (slot : ℕ) (e : Live) (es : List Live) → live_at slot es ≡ Some e → slot_of e ≡ slot
+slot_found slot e [] h = absurd (cc)
+slot_found slot e (f ∷ later) h =
+    elim (eqb (slot_of f) slot) as (λ b. eqb (slot_of f) slot ≡ b → cond b (Some f) (live_at slot later) ≡ Some e → slot_of e ≡ slot) [
+      | true ↦ λ own same. let is : f ≡ e = cc in ap slot_of (sym is) ∙ eqb-true (slot_of f) slot own
+      | false ↦ λ _ rest. slot_found slot e later rest
+    ] refl h
