@@ -447,8 +447,11 @@ pub least_next : (slots : List Slot) (freed : List Bool) → length slots < 8192
 least_next slots freed few marked none =
     record { small = few; next = omega arith; at = λ lt. absurd (omega arith); least = λ k _. sym (marked k) ∙ none_marked freed (sym none) k }
 
-pub opened_vacant : (slots : List Slot) (slot : ℕ) → slot < length slots → slots ≡ opened slot slots
-opened_vacant slots slot lt = rw (lt-ltb slot (length slots) lt) refl
+-- a marked slot is one of the slots already
+pub opened_marked : (slots : List Slot) (freed : List Bool) (slot : ℕ) → ((k : ℕ) → get_or freed k false ≡ get_or (vacant slots) k false) → Some slot ≡ position (λ mark. mark) freed → slots ≡ opened slot slots
+opened_marked slots freed slot marked found =
+    let p = position-Some (λ mark. mark) freed slot false (sym found) in
+    rw (lt-ltb slot (length slots) (vacant_within slots slot (sym (marked slot) ∙ p.1))) refl
 
 pub unmarked_stays : (freed : List Bool) (k : ℕ) → None ≡ position (λ mark. mark) freed → freed ≡ set freed k false
 unmarked_stays freed k none = sym (ap (set freed k) (sym (none_marked freed (sym none) k)) ∙ set-get_or freed k false)
@@ -489,3 +492,21 @@ given_is slots slot s body masks handle placed least named gives is =
 
 pub found_in : (slots : List Slot) (t : Table) (handle : Handle) (e : Live) → table_in slots ≡ t → Some e ≡ entry_at handle t.entries → IsPlaced 0 slots → live_in slots handle.slot ≡ Some e
 found_in slots t handle e view found placed = entry_is slots handle e placed (ap (λ t. entry_at handle t.entries) view ∙ sym found)
+
+-- what the handle's slot holds
+pub place_gives : (slots : List Slot) (i : ℕ) (place : Slot) → i < length slots → place ≡ get_or slots i place → place.gives ≡ (get_or slots i never_given).gives
+place_gives slots i place lt at = ap (λ s. s.gives) (get_or_read slots i place lt at never_given)
+
+gives_stay : (slots : List Slot) (i : ℕ) (s : Slot) → s.gives ≡ (get_or slots i never_given).gives → gives_of (set slots i s) ≡ gives_of slots
+gives_stay slots i s same = map-set (λ slot. slot.gives) slots i s ∙ ap (set (gives_of slots) i) (same ∙ sym (gives_at slots i)) ∙ set-get_or (gives_of slots) i 0
+
+-- the table once the handle's box is changed, and once it is taken out
+pub changed_is : (slots : List Slot) (s : Slot) (handle : Handle) (change : Live → Live) (e : Live) → IsPlaced 0 slots → live_in slots handle.slot ≡ Some e → has handle e ≡ true → s.gives ≡ (get_or slots handle.slot never_given).gives → s.live ≡ Some (change e)
+    → table_in (set slots handle.slot s) ≡ record (table_in slots) { entries = changed handle change (entries_of slots) }
+changed_is slots s handle change e placed live named gives is =
+    rw (change_set 0 handle.slot slots s handle change e placed (omega arith) live named is, gives_stay slots handle.slot s gives) refl
+
+pub taken_is : (slots : List Slot) (s : Slot) (handle : Handle) (e : Live) → IsPlaced 0 slots → live_in slots handle.slot ≡ Some e → has handle e ≡ true → s.gives ≡ (get_or slots handle.slot never_given).gives → s.live ≡ None
+    → table_in (set slots handle.slot s) ≡ record (table_in slots) { entries = without handle (entries_of slots) }
+taken_is slots s handle e placed live named gives is =
+    rw (take_set 0 handle.slot slots s handle e placed (omega arith) live named is, gives_stay slots handle.slot s gives) refl
