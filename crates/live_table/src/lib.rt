@@ -1,6 +1,7 @@
 //! The live boxes of a scene under handles: a slot, and how often the slot was given before.
 #![tactic(auto)]
 
+mod examples;
 mod freed_slots;
 mod full;
 mod handle;

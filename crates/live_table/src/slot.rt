@@ -4,6 +4,9 @@ ghost use Rattle.live_table.specs.Slots.{vacant, opened, IsLeastVacant};
 use crate::Live;
 use crate::freed_slots::FreedSlots;
 
+// How many slots there are, and so how many boxes may live at once.
+pub(crate) const SLOTS: usize = 8192;
+
 // A slot that was given at some time: how often, and the live box that has it now.
 #[derive(Clone, Copy)]
 pub(crate) struct Slot {
@@ -30,7 +33,7 @@ pub(crate) fn open_slot(slots: &mut Vec<Slot>, freed: &mut FreedSlots) -> Option
         return Some(slot);
     }
     let next = slots.len();
-    if next == 8192 {
+    if next == SLOTS {
         return None;
     }
     slots.push_reserved(Slot {

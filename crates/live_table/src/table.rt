@@ -5,13 +5,11 @@ ghost use Rattle.live_table.specs.Entries.{live_at, entry_at, IsLeastFree};
 ghost use Rattle.live_table.specs.Table.{next_handle, after_give, after_set_box, after_set_masks, after_take, IsTable};
 
 use crate::freed_slots::FreedSlots;
-use crate::slot::{Slot, open_slot};
+use crate::slot::{SLOTS, Slot, open_slot};
 use crate::{Full, Handle, Live, Masks, Stale};
 use fixed_box::{FBox, NoMemory};
 use std::alloc::Global;
 use std::marker::Model;
-
-const SLOTS: usize = 8192;
 
 /// The live boxes of a scene, at most 8,192, each under a handle.
 ///
@@ -137,8 +135,8 @@ impl LiveTable {
         ensures small { OnOk result (handle.slot < 8192) }
         ensures table { IsTable self.new }
     {
-        let live = self.find(handle)?;
-        self.slots[handle.slot as usize].live = Some(Live { body, ..live });
+        let moved = self.find(handle)?;
+        self.slots[handle.slot as usize].live = Some(Live { body, ..moved });
         Ok(())
     }
 
@@ -164,10 +162,10 @@ impl LiveTable {
         ensures small { OnOk result (handle.slot < 8192) }
         ensures table { IsTable self.new }
     {
-        let live = self.find(handle)?;
+        let taken = self.find(handle)?;
         self.slots[handle.slot as usize].live = None;
         self.freed.put(handle.slot);
         self.len -= 1;
-        Ok(live)
+        Ok(taken)
     }
 }
