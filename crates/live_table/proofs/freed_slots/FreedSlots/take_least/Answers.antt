@@ -1,0 +1,38 @@
+use Rattle.std.proofs.Common.{◌≡◌, ℕ, ◌+◌, ◌*◌, ◌/◌, ◌<◌, false, eqb, length, get_or, ap, sym, ◌∙◌, arith, slice_set, w64}
+use Rattle.std.specs.Int.{bit_at}
+use Rattle.std.specs.List.{position}
+use Rattle.std.proofs.lemmas.List.{get_or_read}
+use Rattle.std.proofs.lemmas.Nat.Bits.{bit_at_clear_same, bit_at_clear_other}
+use Rattle.live_table.proofs.MarkLemmas.{marks_of-set_bit, blank_before, least_mark, no_mark, unmarked, all_blank}
+use Rattle.live_table.proofs.freed_slots.FreedSlots.take_least.Goals as goal
+
+pub returns-then-word-eq-WORDS-clause-least : goal.returns-then-word-eq-WORDS-clause-least
+returns-then-word-eq-WORDS-clause-least c =
+    let words = c.self.inside.words.items in
+    let found = c.next_marked-word in
+    let before = blank_before words c.deref.result.now c.self.inside.first found.result c.deref.ensures.value c.self.invariant.blank found.ensures.blank in
+    let past : (k : ℕ) → get_or words k 0 ≡ 0 = all_blank words found.result (omega (arith, c.self.invariant.whole, c.if-word-eq-WORDS.true)) before in
+    sym (no_mark c.args.self.now (λ k. ap (λ ms. get_or ms k false) (sym c.self.view_is) ∙ unmarked words k (past (k / 64))))
+
+pub returns-clause-least : goal.returns-clause-least
+returns-clause-least c =
+    let words = c.self.inside.words.items in
+    let found = c.next_marked-word in
+    let bit = c.lowest_bit-bit in
+    let in_words : found.result < length words = omega (arith, c.self.invariant.whole, c.if-word-eq-WORDS.false, found.ensures.bound, c.deref.ensures.len) in
+    let bits : c.index-bits.result.now ≡ get_or words found.result 0 = get_or_read words found.result c.index-bits.result.now in_words c.index-bits.ensures 0 in
+    let before = blank_before words c.deref.result.now c.self.inside.first found.result c.deref.ensures.value c.self.invariant.blank found.ensures.blank in
+    sym (ap (position (λ mark. mark)) (sym c.self.view_is)
+      ∙ least_mark words found.result bit.result in_words bit.ensures.within before (ap (λ w. bit_at w bit.result) (sym bits) ∙ bit.ensures.set) (λ i lt. ap (λ w. bit_at w i) (sym bits) ∙ bit.ensures.lowest i lt))
+
+pub returns-clause-taken : goal.returns-clause-taken
+returns-clause-taken c =
+    let words = c.self.inside.words.items in
+    let found = c.next_marked-word in
+    let bit = c.lowest_bit-bit in
+    let in_words : found.result < length words = omega (arith, c.self.invariant.whole, c.if-word-eq-WORDS.false, found.ensures.bound, c.deref.ensures.len) in
+    let bits : c.index-bits.result.now ≡ get_or words found.result 0 = get_or_read words found.result c.index-bits.result.now in_words c.index-bits.ensures 0 in
+    marks_of-set_bit words found.result bit.result _ false in_words bit.ensures.within
+      (ap (λ b. eqb b 1) (bit_at_clear_same w64 c.index-bits.result.now bit.result bit.ensures.within))
+      (λ i lt other. bit_at_clear_other w64 c.index-bits.result.now bit.result bit.ensures.within i lt other ∙ ap (λ w. bit_at w i) bits)
+    ∙ ap (λ ms. slice_set ms (found.result * 64 + bit.result) false) c.self.view_is

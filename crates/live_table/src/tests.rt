@@ -1,0 +1,98 @@
+use super::*;
+use fixed_box::{FBox, Point};
+use std::process::Abort;
+use std::test::Fail;
+
+const ALL: Masks = Masks {
+    is: 1,
+    sees: 0xffff_ffff,
+};
+
+// The flat box at a point of the x axis.
+fn body_at(x: i32) -> Option<FBox> {
+    let at = Point { x, y: 0, z: 0 };
+    FBox::new(at, at)
+}
+
+// Gives a box a slot of a table that has given few.
+fn give(rt: &impl Abort, table: &mut LiveTable, body: FBox) -> Result<Handle, Full> {
+    assert!(rt; table.given() < 100_000);
+    table.give(body, ALL)
+}
+
+#[test]
+fn freed_slots_are_given_again_under_a_new_generation(rt: HostRuntime) -> Result<(), Fail> {
+    let body = body_at(0).ok_or("a flat box")?;
+    let mut table = LiveTable::new(rt.alloc())?;
+    for slot in 0..3 {
+        assert_eq!(rt; give(&rt, &mut table, body), Ok(Handle { slot, generation: 0 }));
+    }
+    for slot in [1, 0] {
+        table.take(Handle { slot, generation: 0 })?;
+    }
+    for slot in 0..2 {
+        assert_eq!(rt; give(&rt, &mut table, body), Ok(Handle { slot, generation: 1 }));
+    }
+    for slot in [1, 9000] {
+        assert_eq!(rt; table.find(Handle { slot, generation: 0 }), Err(Stale), "slot {slot}");
+    }
+    Ok(())
+}
+
+#[test]
+fn each_call_answers_the_live_box(rt: HostRuntime) -> Result<(), Fail> {
+    let here = body_at(0).ok_or("a flat box")?;
+    let there = body_at(65_536).ok_or("a flat box")?;
+    let mut table = LiveTable::new(rt.alloc())?;
+    let handle = give(&rt, &mut table, here)?;
+    let masks = Masks { is: 2, sees: 4 };
+    assert_eq!(rt; table.find(handle), Ok(Live { handle, body: here, masks: ALL }));
+    assert_eq!(rt; table.set_box(handle, there), Ok(()));
+    assert_eq!(rt; table.set_masks(handle, masks), Ok(()));
+    assert_eq!(rt; table.at(0), Some(Live { handle, body: there, masks }));
+    assert_eq!(rt; (table.len(), table.given()), (1, 1));
+    assert_eq!(rt; table.take(handle), Ok(Live { handle, body: there, masks }));
+    assert_eq!(rt; (table.at(0), table.len(), table.given()), (None, 0, 1));
+    assert_eq!(rt; table.take(handle), Err(Stale));
+    assert_eq!(rt; table.set_box(handle, here), Err(Stale));
+    assert_eq!(rt; table.set_masks(handle, ALL), Err(Stale));
+    Ok(())
+}
+
+#[test]
+fn a_table_is_full_at_8192_boxes(rt: HostRuntime) -> Result<(), Fail> {
+    let body = body_at(0).ok_or("a flat box")?;
+    let mut table = LiveTable::new(rt.alloc())?;
+    for slot in 0..8192 {
+        assert_eq!(rt; give(&rt, &mut table, body), Ok(Handle { slot, generation: 0 }));
+    }
+    assert_eq!(rt; give(&rt, &mut table, body), Err(Full));
+    assert_eq!(rt; (table.len(), table.given()), (8192, 8192));
+    for slot in [8191, 4000, 63, 64] {
+        table.take(Handle { slot, generation: 0 })?;
+    }
+    for slot in [63, 64, 4000, 8191] {
+        assert_eq!(rt; give(&rt, &mut table, body), Ok(Handle { slot, generation: 1 }));
+    }
+    assert_eq!(rt; give(&rt, &mut table, body), Err(Full));
+    Ok(())
+}
+
+#[test]
+fn boxes_may_pair_where_each_sees_the_other(rt: HostRuntime) {
+    for (a, b, want) in [
+        ((1, 0xffff_ffff), (1, 0xffff_ffff), true),
+        ((1, 2), (2, 1), true),
+        ((0x8000_0000, 0x8000_0000), (0x8000_0000, 0x8000_0000), true),
+        ((1, 2), (1, 2), false),
+        ((1, 2), (2, 2), false),
+        ((2, 2), (1, 2), false),
+        ((0, 0xffff_ffff), (0xffff_ffff, 0xffff_ffff), false),
+        ((1, 0), (1, 1), false),
+    ] {
+        let first = Masks { is: a.0, sees: a.1 };
+        let second = Masks { is: b.0, sees: b.1 };
+        assert_eq!(rt; may_pair(&first, &second), want, "{first:?} and {second:?}");
+        assert_eq!(rt; may_pair(&second, &first), want, "{second:?} and {first:?}");
+    }
+}
