@@ -16,7 +16,7 @@ both_from true b h = (tt, h)
 both_from false b h = absurd h
 
 lt_from : (x y : ℕ) → T (is_lt (nat_cmp x y)) → x < y
-lt_from x y h = elim (nat_cmp x y) as (λ r. r ≡ nat_cmp x y → T (is_lt r) → x < y) [ | Less ↦ λ e _. ranked x y Less e | Equal ↦ λ _ h. absurd h | Greater ↦ λ _ h. absurd h ] refl h
+lt_from x y h = elim (nat_cmp x y) as (λ r. r ≡ nat_cmp x y → T (is_lt r) → x < y) [ Less ↦ λ e _. ranked x y Less e | Equal ↦ λ _ h. absurd h | Greater ↦ λ _ h. absurd h ] refl h
 
 after : (k x : ℕ) → nat_lt x k ≡ true → nat_cmp k x ≡ Greater
 after k x lt = let below : x < k = grind (arith, nat_tests) in sym (nat_cmp_is k x Greater below)
@@ -61,7 +61,7 @@ module _ {X : Type 0} where
 
   -- an entry whose slot is absent goes in where those below it end
   pub insert_is_put : (es : List (ℕ × X)) (k : ℕ) (v : X) (i : ℕ) → is_some (find nat_cmp k es) ≡ false → i ≤ length es
-    → AllWithin (λ e. nat_lt e.0 k ≡ true) es 0 i → AllWithin (λ e. nat_lt e.0 k ≡ false) es i (length es) → insert es i (k, v) ≡ put nat_cmp k v es
+      → AllWithin (λ e. nat_lt e.0 k ≡ true) es 0 i → AllWithin (λ e. nat_lt e.0 k ≡ false) es i (length es) → insert es i (k, v) ≡ put nat_cmp k v es
   insert_is_put [] k v zero absent le below above = refl
   insert_is_put [] k v (suc i) absent le below above = absurd (omega arith)
   insert_is_put (e ∷ es) k v zero absent le below above =
@@ -115,8 +115,10 @@ module _ {X : Type 0} where
       tie Less h = cc
       tie Equal h = refl
       tie Greater h = cc
+
       ge_from : (k x : ℕ) → nat_lt x k ≡ false → k ≤ x
       ge_from k x h = grind (arith, nat_tests)
+
       not_true : false ≡ true → ⊥
       not_true h = cc
 
@@ -130,7 +132,7 @@ module _ {X : Type 0} where
       let rest : i < length es = present_within es k i (past e es k present (below 0 e (omega arith) (omega arith))) (omega arith) (λ j d lo hi. below (suc j) d (omega arith) (omega arith)) in omega arith
 
   pub set_is_put : (es : List (ℕ × X)) (k : ℕ) (v : X) (i : ℕ) → T (is_sorted nat_cmp es) → is_some (find nat_cmp k es) ≡ true → i ≤ length es
-    → AllWithin (λ e. nat_lt e.0 k ≡ true) es 0 i → AllWithin (λ e. nat_lt e.0 k ≡ false) es i (length es) → set es i (k, v) ≡ put nat_cmp k v es
+      → AllWithin (λ e. nat_lt e.0 k ≡ true) es 0 i → AllWithin (λ e. nat_lt e.0 k ≡ false) es i (length es) → set es i (k, v) ≡ put nat_cmp k v es
   set_is_put [] k v i h present le below above = cc
   set_is_put (e ∷ es) k v zero h present le below above =
       let equal : nat_cmp k e.0 ≡ Equal = here e es k h present (above 0 e (omega arith) (omega arith)) in
@@ -146,7 +148,7 @@ module _ {X : Type 0} where
       rw less (ap (λ xs. e ∷ xs) (all_stay k es (both_from _ _ h).1))
 
   remove_is_filter : (es : List (ℕ × X)) (k : ℕ) (i : ℕ) → T (is_sorted nat_cmp es) → is_some (find nat_cmp k es) ≡ true → i ≤ length es
-    → AllWithin (λ e. nat_lt e.0 k ≡ true) es 0 i → AllWithin (λ e. nat_lt e.0 k ≡ false) es i (length es) → remove es i ≡ where_key nat_cmp (other_than k) es
+      → AllWithin (λ e. nat_lt e.0 k ≡ true) es 0 i → AllWithin (λ e. nat_lt e.0 k ≡ false) es i (length es) → remove es i ≡ where_key nat_cmp (other_than k) es
   remove_is_filter [] k i h present le below above = cc
   remove_is_filter (e ∷ es) k zero h present le below above =
       let equal : nat_cmp k e.0 ≡ Equal = here e es k h present (above 0 e (omega arith) (omega arith)) in
@@ -157,18 +159,18 @@ module _ {X : Type 0} where
       rw (after k e.0 lt) (ap (λ xs. e ∷ xs) (remove_is_filter es k i (both_from _ _ h).1 (past e es k present lt) (omega arith) (λ j d lo hi. below (suc j) d (omega arith) (omega arith)) (λ j d lo hi. above (suc j) d (omega arith) (omega arith))))
 
   pub sorted_removed : (es : List (ℕ × X)) (k : ℕ) (i : ℕ) → T (is_sorted nat_cmp es) → is_some (find nat_cmp k es) ≡ true → i ≤ length es
-    → AllWithin (λ e. nat_lt e.0 k ≡ true) es 0 i → AllWithin (λ e. nat_lt e.0 k ≡ false) es i (length es) → T (is_sorted nat_cmp (remove es i))
+      → AllWithin (λ e. nat_lt e.0 k ≡ true) es 0 i → AllWithin (λ e. nat_lt e.0 k ≡ false) es i (length es) → T (is_sorted nat_cmp (remove es i))
   sorted_removed es k i h present le below above = subst (λ xs. T (is_sorted nat_cmp xs)) (sym (remove_is_filter es k i h present le below above)) (is_sorted-where_key nat_cmp (other_than k) es h)
 
   pub from_sorted-remove : (es : List (ℕ × X)) (k : ℕ) (i : ℕ) → T (is_sorted nat_cmp es) → is_some (find nat_cmp k es) ≡ true → i ≤ length es
-    → AllWithin (λ e. nat_lt e.0 k ≡ true) es 0 i → AllWithin (λ e. nat_lt e.0 k ≡ false) es i (length es) → from_sorted {R = nat_cmp} (remove es i) ≡ remove_key (from_sorted {R = nat_cmp} es) k
+      → AllWithin (λ e. nat_lt e.0 k ≡ true) es 0 i → AllWithin (λ e. nat_lt e.0 k ≡ false) es i (length es) → from_sorted {R = nat_cmp} (remove es i) ≡ remove_key (from_sorted {R = nat_cmp} es) k
   from_sorted-remove es k i h present le below above =
       same_map nat_cmp_total nat_cmp-IsAntisymmetric _ _ (λ q.
-        get-from_sorted nat_cmp (remove es i) q (sorted_removed es k i h present le below above)
-        ∙ ap (find nat_cmp q) (remove_is_filter es k i h present le below above)
-        ∙ find-where_key nat_cmp (other_than k) q (λ x t. ap (λ r. not (is_eq r)) (sym (alike_right nat_cmp_total q x k t))) es
-        ∙ turned (eq_by_cmp nat_cmp k q) _ _ ∙ ap (λ b. cond b None (find nat_cmp q es)) (same_tie k q)
-        ∙ sym (get-remove nat_cmp_total (from_sorted {R = nat_cmp} es) k q ∙ ap (cond (eq_by_cmp nat_cmp q k) None) (get-from_sorted nat_cmp es q h)))
+      get-from_sorted nat_cmp (remove es i) q (sorted_removed es k i h present le below above)
+      ∙ ap (find nat_cmp q) (remove_is_filter es k i h present le below above)
+      ∙ find-where_key nat_cmp (other_than k) q (λ x t. ap (λ r. not (is_eq r)) (sym (alike_right nat_cmp_total q x k t))) es
+      ∙ turned (eq_by_cmp nat_cmp k q) _ _ ∙ ap (λ b. cond b None (find nat_cmp q es)) (same_tie k q)
+      ∙ sym (get-remove nat_cmp_total (from_sorted {R = nat_cmp} es) k q ∙ ap (cond (eq_by_cmp nat_cmp q k) None) (get-from_sorted nat_cmp es q h)))
 
   pub present_from : (es : List (ℕ × X)) (k : ℕ) → T (is_sorted nat_cmp es) → contains_key (from_sorted {R = nat_cmp} es) k ≡ true → is_some (find nat_cmp k es) ≡ true
   present_from es k h present = ap is_some (sym (get-from_sorted nat_cmp es k h)) ∙ present

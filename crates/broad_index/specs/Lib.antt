@@ -1,4 +1,5 @@
 pub mod Exchanges
+pub mod Found
 pub mod Index
 pub mod Near
 pub mod NearRises

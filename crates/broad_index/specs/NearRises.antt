@@ -19,7 +19,7 @@ true_from true h = refl
 true_from false h = absurd h
 
 lt_from : (x y : ℕ) → is_lt (nat_cmp x y) ≡ true → x < y
-lt_from x y h = elim (nat_cmp x y) as (λ r. r ≡ nat_cmp x y → is_lt r ≡ true → x < y) [ | Less ↦ λ e _. ranked x y Less e | Equal ↦ λ _ h. cc | Greater ↦ λ _ h. cc ] refl h
+lt_from x y h = elim (nat_cmp x y) as (λ r. r ≡ nat_cmp x y → is_lt r ≡ true → x < y) [ Less ↦ λ e _. ranked x y Less e | Equal ↦ λ _ h. cc | Greater ↦ λ _ h. cc ] refl h
 
 by_first : (p q : Pair) → p.a < q.a → precedes p q ≡ true
 by_first p q lt = ap (λ b. b || (p.a == q.a && nat_lt p.b q.b)) (let e : nat_lt p.a q.a ≡ true = grind (arith, nat_tests) in e)
@@ -67,7 +67,7 @@ partners_before : (slot : ℕ) (body : Bounds) (later es : List (ℕ × Bounds))
 partners_before slot body [] es below = λ r s. s
 partners_before slot body (e ∷ later) es below =
     elim (meets body e.1) as (λ m. rises (map (λ e. record { a = slot; b = e.0 }) (cond m (e ∷ filter (λ e. meets body e.1) later) (filter (λ e. meets body e.1) later))) ≡ true → rises (near_of es) ≡ true
-        → rises (map (λ e. record { a = slot; b = e.0 }) (cond m (e ∷ filter (λ e. meets body e.1) later) (filter (λ e. meets body e.1) later)) ++ near_of es) ≡ true) [
+    → rises (map (λ e. record { a = slot; b = e.0 }) (cond m (e ∷ filter (λ e. meets body e.1) later) (filter (λ e. meets body e.1) later)) ++ near_of es) ≡ true) [
       | true ↦ λ r s. both_true (list_all-append (precedes (record { a = slot; b = e.0 })) (partners slot body later) (near_of es) ∙ both_true (first_so _ _ r) (before_near (record { a = slot; b = e.0 }) es below)) (partners_before slot body later es below (second_so _ _ r) s)
       | false ↦ λ r s. partners_before slot body later es below r s
     ]

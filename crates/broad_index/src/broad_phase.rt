@@ -3,10 +3,11 @@ ghost use Rattle.std.specs.Ordering.{nat_cmp};
 ghost use Rattle.std.specs.FinMap as map;
 ghost use Rattle.fixed_box.specs.Bounds.{Bounds};
 ghost use Rattle.broad_index.specs.Exchanges.{passed_by_add, passed_by_shift};
+ghost use Rattle.broad_index.specs.Found.{found};
 ghost use Rattle.broad_index.specs.Near.{near, rises};
 ghost use Rattle.broad_index.specs.NearRises.{near_rises};
 
-use crate::Pair;
+use crate::{Pair, Query};
 use fixed_box::{FBox, NoMemory};
 
 /// The part of a physics engine that tells which moving boxes may touch, whichever way it keeps them: a map from slot
@@ -66,6 +67,12 @@ pub trait BroadPhase {
         ensures bodies { bodies self.new ≡ bodies self.old }
         ensures spent { spent self.new ≡ spent self.old }
         ensures exchanges { spent self.old ≡ false → exchanges self.new ≡ exchanges self.old };
+
+    /// Appends the present slots whose boxes meet a query, in rising order. After an `Err` `out` is as before.
+    fn hits(&self, query: &Query, out: &mut Vec<u32>) -> Result<(), NoMemory>
+        ensures sound { OnOk result (spent self.now ≡ false) }
+        ensures ok { OnOk result (out.new.items ≡ out.old.items ++ found (bodies self.now) query.now) }
+        ensures err { OnErr result (out.new.items ≡ out.old.items) };
 
     /// The number of exchanges since the index was made or last cleared.
     fn exchanges(&self) -> u64

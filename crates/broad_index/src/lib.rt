@@ -4,7 +4,9 @@
 mod broad_phase;
 mod pair;
 mod plain_index;
+mod query;
 
 pub use broad_phase::BroadPhase;
 pub use pair::Pair;
 pub use plain_index::PlainIndex;
+pub use query::{QKind, Query};

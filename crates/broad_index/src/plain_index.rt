@@ -3,10 +3,11 @@ ghost use Rattle.std.specs.List.{AllWithin};
 ghost use Rattle.std.specs.Ordering.{nat_cmp};
 ghost use Rattle.std.specs.FinMap as map;
 ghost use Rattle.fixed_box.specs.Bounds.{Bounds};
+ghost use Rattle.broad_index.specs.Found.{found_of};
 ghost use Rattle.broad_index.specs.Index.{bodies_of};
 ghost use Rattle.broad_index.specs.Near.{near_of, partners};
 
-use crate::{BroadPhase, Pair};
+use crate::{BroadPhase, Pair, Query};
 use fixed_box::{FBox, NoMemory};
 use std::alloc::Global;
 use std::marker::Model;
@@ -106,6 +107,14 @@ impl BroadPhase for PlainIndex {
         push_near(&self.entries, out)
     }
 
+    #[tactic(auto, using(crate::proofs::SortedEntries::entries_of_sorted))]
+    fn hits(&self, query: &Query, out: &mut Vec<u32>) -> Result<(), NoMemory> {
+        if self.spent {
+            return Err(NoMemory);
+        }
+        push_found(&self.entries, query, out)
+    }
+
     fn exchanges(&self) -> u64 {
         0
     }
@@ -183,6 +192,34 @@ fn push_partners(entry: &Entry, later: &[Entry], out: &mut Vec<Pair>) -> Result<
                 a: entry.0,
                 b: other.0,
             })?;
+        }
+        rest = more;
+    }
+    Ok(())
+}
+
+// Appends the slots of entries that meet a query, or nothing.
+fn push_found(entries: &[Entry], query: &Query, out: &mut Vec<u32>) -> Result<(), NoMemory>
+    ensures ok { OnOk result (out.new.items ≡ out.old.items ++ found_of entries.now query.now) }
+    ensures err { OnErr result (out.new.items ≡ out.old.items) }
+{
+    let before = out.len();
+    let found = push_met(entries, query, out);
+    if found.is_err() {
+        out.truncate(before);
+    }
+    found
+}
+
+// Appends the slots of entries that meet a query. What was there stays, after an `Err` too.
+fn push_met(entries: &[Entry], query: &Query, out: &mut Vec<u32>) -> Result<(), NoMemory>
+    ensures ok { OnOk result (out.new.items ≡ out.old.items ++ found_of entries.now query.now) }
+    ensures kept { take (vec_len out.old) out.new.items ≡ out.old.items }
+{
+    let mut rest = entries;
+    'entries: while let [entry, more @ ..] = rest {
+        if query.meets(&entry.1) {
+            out.push(entry.0)?;
         }
         rest = more;
     }

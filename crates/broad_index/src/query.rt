@@ -1,0 +1,53 @@
+ghost use Rattle.std.specs.Prelude.{◌≡◌};
+ghost use Rattle.broad_index.specs.Found.{query_meets, kind_of};
+
+use fixed_box::{FBox, Point};
+use ray_slabs::{Ray, Seg, WBox, ray_meets, seg_meets};
+
+/// A question about the boxes that are present.
+#[derive(Clone, Copy, Debug, PartialEq, Eq)]
+pub enum Query {
+    /// Which boxes meet this one.
+    Region(FBox),
+    /// Which boxes hold this point.
+    Spot(Point),
+    /// Which boxes the ray meets.
+    Along(Ray),
+    /// Which boxes the segment meets.
+    Between(Seg),
+}
+
+/// The kind of a query.
+#[derive(Clone, Copy, Debug, PartialEq, Eq)]
+pub enum QKind {
+    Region,
+    Spot,
+    Along,
+    Between,
+}
+
+impl Query {
+    /// The variant of the same name.
+    pub fn kind(&self) -> QKind
+        ensures { result ≡ kind_of self.now }
+    {
+        match self {
+            Query::Region(_) => QKind::Region,
+            Query::Spot(_) => QKind::Spot,
+            Query::Along(_) => QKind::Along,
+            Query::Between(_) => QKind::Between,
+        }
+    }
+
+    /// Whether a box meets the query.
+    pub fn meets(&self, body: &FBox) -> bool
+        ensures { result ≡ query_meets self.now body.now }
+    {
+        match self {
+            Query::Region(region) => region.overlaps(body),
+            Query::Spot(at) => body.holds_point(at),
+            Query::Along(ray) => ray_meets(ray, &WBox::of(body)),
+            Query::Between(seg) => seg_meets(seg, &WBox::of(body)),
+        }
+    }
+}
