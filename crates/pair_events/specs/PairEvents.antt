@@ -1,0 +1,47 @@
+-- What has changed between the pairs of two frames.
+use Rattle.std.specs.Prelude.{Bool, true, false, not, ◌&&◌, ◌||◌, ◌==◌, nat_lt, List, [], ◌∷◌, ◌++◌, map, filter, if◌then◌else◌}
+use Rattle.std.specs.List.{list_any, list_all}
+use Rattle.live_table.specs.declared.handle.Handle.{Handle}
+use Rattle.pair_events.specs.declared.hpair.HPair.{HPair}
+use Rattle.pair_events.specs.declared.told.Told.{Told}
+use Rattle.pair_events.specs.declared.told.Event.TheVariants.{Begin, Stay, Over}
+
+abbrev pub same_handle : Handle → Handle → Bool
+same_handle h k = h.slot == k.slot && h.generation == k.generation
+
+-- A pair is two handles, so the generation counts.
+abbrev pub same_pair : HPair → HPair → Bool
+same_pair p q = same_handle p.a q.a && same_handle p.b q.b
+
+abbrev pub has : List HPair → HPair → Bool
+has pairs p = list_any (same_pair p) pairs
+
+-- each present pair in order: it stays where it was there before, and begins where it wasn't
+abbrev pub kept_or_begun : List HPair → List HPair → List Told
+kept_or_begun before now = map (λ p. record { event = if has before p then Stay else Begin; pair = p }) now
+
+-- each former pair in order that isn't there any more
+abbrev pub ended : List HPair → List HPair → List Told
+ended before now = map (λ p. record { event = Over; pair = p }) (filter (λ p. not (has now p)) before)
+
+-- what is told of a frame
+abbrev pub events : List HPair → List HPair → List Told
+events before now = kept_or_begun before now ++ ended before now
+
+-- by the first slot, and then by the second
+abbrev pub precedes : HPair → HPair → Bool
+precedes p q = nat_lt p.a.slot q.a.slot || (p.a.slot == q.a.slot && nat_lt p.b.slot q.b.slot)
+
+-- each pair stands before all later ones
+abbrev pub rises : List HPair → Bool
+rises [] = true
+rises (p ∷ later) = list_all (precedes p) later && rises later
+
+-- the pairs rise, and in each the first slot is the lower one
+abbrev pub is_in_order : List HPair → Bool
+is_in_order pairs = list_all (λ p. nat_lt p.a.slot p.b.slot) pairs && rises pairs
+
+-- a list doesn't begin with a pair that stands before p
+abbrev pub begins_at : HPair → List HPair → Bool
+begins_at p [] = true
+begins_at p (q ∷ qs) = not (precedes q p)
