@@ -1,0 +1,36 @@
+use super::*;
+use broad_index::QKind;
+use live_table::Handle;
+use pair_events::{Event, HPair, Told};
+use std::test::Fail;
+
+#[test]
+fn lines_have_their_text(rt: HostRuntime) -> Result<(), Fail> {
+    let a = Handle {
+        slot: 7,
+        generation: 0,
+    };
+    let b = Handle {
+        slot: 8191,
+        generation: u32::MAX,
+    };
+    let event = Event::Over;
+    let pair = HPair { a, b };
+    let mut out = Vec::new(rt.alloc());
+    put_add(a, &mut out)?;
+    put_stale(b, &mut out)?;
+    put_frame(1, 33_550_336, &mut out)?;
+    put_told(&Told { event, pair }, &mut out)?;
+    put_exchanges(u64::MAX, &mut out)?;
+    put_hits(QKind::Region, &[], &mut out)?;
+    put_hits(QKind::Spot, &[a], &mut out)?;
+    put_hits(QKind::Along, &[a, b], &mut out)?;
+    put_hits(QKind::Between, &[b], &mut out)?;
+    put_end(3, 2, 1, &mut out)?;
+    put_refused(5, Cause::Inverted, &mut out)?;
+    let text = b"add 7:0\nstale 8191:4294967295\nframe 1 33550336\nover 7:0 8191:4294967295\n\
+        exchanges 18446744073709551615\nbox 0\npoint 1 7:0\nray 2 7:0 8191:4294967295\nseg 1 8191:4294967295\n\
+        end 3 2 1\nrefused 5 inverted\n";
+    assert_eq!(rt; out.as_slice(), text.as_slice());
+    Ok(())
+}
