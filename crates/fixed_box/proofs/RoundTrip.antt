@@ -121,7 +121,7 @@ plain_digits (d ∷ ds) h =
 plain_magnitude : (q : ℕ) → q < 2 ^ 32 → All IsPlain (show_magnitude q)
 plain_magnitude q small =
     All-append IsPlain (decimal (q / 100000)) (46 ∷ last_digits 5 (q % 100000)) (plain_digits (decimal (q / 100000)) (digits_decimal own (q / 100000) (omega arith)))
-      (All-cons IsPlain 46 (last_digits 5 (q % 100000)) (omega arith, omega arith) (plain_digits (last_digits 5 (q % 100000)) (last_digits_all 5 (q % 100000))))
+    (All-cons IsPlain 46 (last_digits 5 (q % 100000)) (omega arith, omega arith) (plain_digits (last_digits 5 (q % 100000)) (last_digits_all 5 (q % 100000))))
 
 -- a printed number has no other bytes
 pub shown_bytes : (r : ℤ) → negsuc 2147483647 ≤ℤ r → r ≤ℤ pos 2147483647 → All (λ b. (45 ≤ b) × (b ≤ 57)) (show r)

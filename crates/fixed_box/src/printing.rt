@@ -66,8 +66,8 @@ fn put_byte(byte: u8, at: usize, into: &mut [u8; 16]) -> usize
     at + 1
 }
 
-/// A law for proofs, with nothing to run: what `print_fix` puts reads back as the number that was printed. It has
-/// digits, a point and a minus sign alone, so no white space and no mark of a comment cut it.
+/// A law for proofs, with nothing to run: what `print_fix` puts reads back as the number that was printed, and each of
+/// its bytes lies from `-` to `9`, so that no white space or `#` cuts it.
 pub fn printed_reads_back()
     ensures reads_back { (r : ℤ) → negsuc 2147483647 ≤ℤ r → r ≤ℤ pos 2147483647 → fix (show r) ≡ Ok r }
     ensures bytes { (r : ℤ) → negsuc 2147483647 ≤ℤ r → r ≤ℤ pos 2147483647
