@@ -1,9 +1,11 @@
 -- What is printed reads back.
 use Rattle.std.proofs.Common.{◌≡◌, ℕ, zero, suc, ◌+◌, ◌*◌, ◌/◌, ◌%◌, ◌^◌, ◌<◌, ◌≤◌, Bool, true, false, cond, T, ◌&&◌, nat_le, ◌==◌, ℤ, pos, negsuc, neg_ℤ, ◌≤ℤ◌, int_le, List, [], ◌∷◌, ◌++◌, length, decimal, Some, None, Result, Ok, Err, refl, ap, ◌∙◌, arith}
+use Rattle.std.specs.List.{All}
 use Rattle.std.specs.Char.{is_ascii_digit, digit_value}
 use Rattle.std.specs.Str.{all_ascii_digits}
 use Rattle.std.specs.Str.Parse.{digits_value}
 use Rattle.std.proofs.lemmas.Bool.{and_parts}
+use Rattle.std.proofs.lemmas.List.Elements.{All-nil, All-cons, All-append}
 use Rattle.std.proofs.lemmas.Bool.Decides.{nat_tests}
 use Rattle.std.proofs.lemmas.Int.{ints}
 use Rattle.std.proofs.lemmas.Int.Digits.{digits_value_push}
@@ -104,3 +106,26 @@ round_trip (pos a) low high =
 round_trip (negsuc a) low high =
     let size : a ≤ 2147483647 = omega (arith, ints) in
     back true (suc a) (omega arith) ∙ within (negsuc a) low high
+
+abbrev IsPlain : ℕ → Type 0
+IsPlain b = (45 ≤ b) × (b ≤ 57)
+
+plain_digits : (ds : List ℕ) → all_ascii_digits ds ≡ true → All IsPlain ds
+plain_digits [] h = All-nil IsPlain
+plain_digits (d ∷ ds) h =
+    let parts = and_parts (is_ascii_digit d) (all_ascii_digits ds) h in
+    let low : 45 ≤ d = (let digit = parts.0 in grind (arith, nat_tests)) in
+    let high : d ≤ 57 = (let digit = parts.0 in grind (arith, nat_tests)) in
+    All-cons IsPlain d ds (low, high) (plain_digits ds parts.1)
+
+plain_magnitude : (q : ℕ) → q < 2 ^ 32 → All IsPlain (show_magnitude q)
+plain_magnitude q small =
+    All-append IsPlain (decimal (q / 100000)) (46 ∷ last_digits 5 (q % 100000)) (plain_digits (decimal (q / 100000)) (digits_decimal own (q / 100000) (omega arith)))
+    (All-cons IsPlain 46 (last_digits 5 (q % 100000)) (omega arith, omega arith) (plain_digits (last_digits 5 (q % 100000)) (last_digits_all 5 (q % 100000))))
+
+-- a printed number has no other bytes
+pub shown_bytes : (r : ℤ) → negsuc 2147483647 ≤ℤ r → r ≤ℤ pos 2147483647 → All (λ b. (45 ≤ b) × (b ≤ 57)) (show r)
+shown_bytes (pos a) low high = let size : a ≤ 2147483647 = omega (arith, ints) in plain_magnitude (hundred_thousandths a) (omega arith)
+shown_bytes (negsuc a) low high =
+    let size : a ≤ 2147483647 = omega (arith, ints) in
+    All-cons IsPlain 45 (show_magnitude (hundred_thousandths (suc a))) (omega arith, omega arith) (plain_magnitude (hundred_thousandths (suc a)) (omega arith))

@@ -62,6 +62,7 @@ impl FBox {
     {
         is_at_most(&self.lo, &other.hi) & is_at_most(&other.lo, &self.hi)
     }
+
     /// Whether the point lies in the box. Its faces belong to it.
     pub fn holds_point(&self, at: &Point) -> bool
         ensures { result ≡ holds self.now at.now }
@@ -135,5 +136,6 @@ fn level_for(side: u32) -> u8
             return level;
         }
     }
+    // its cells have 2^32 raw units, and no side is so long
     10
 }

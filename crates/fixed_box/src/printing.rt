@@ -1,4 +1,4 @@
-ghost use Rattle.std.specs.Prelude.{◌≡◌, ℤ, ◌+◌, ◌^◌, ◌<◌, ◌≤◌, ◌≤ℤ◌, ◌∷◌, [], length, take, drop, pos, negsuc, decimal, Ok, codes};
+ghost use Rattle.std.specs.Prelude.{◌≡◌, ℤ, ◌+◌, ◌^◌, ◌<◌, ◌≤◌, ◌≤ℤ◌, ◌∷◌, [], length, take, drop, pos, negsuc, decimal, Ok, All, codes};
 ghost use Rattle.fixed_box.specs.Fix.{fix, show, show_magnitude, last_digits, hundred_thousandths};
 ghost use Rattle.fixed_box.specs.Puts.{Puts};
 
@@ -10,6 +10,7 @@ pub fn print_fix(value: Fix, into: &mut [u8; 16]) -> usize
     ensures length { result ≡ length (show value) }
     ensures text { take result into.new ≡ show value }
     ensures rest { drop result into.new ≡ drop result into.old }
+    ensures bound { result ≤ 12 }
 {
     let magnitude = value.unsigned_abs();
     if value < 0 {
@@ -23,7 +24,8 @@ pub fn print_fix(value: Fix, into: &mut [u8; 16]) -> usize
 fn put_magnitude(magnitude: u32, at: usize, into: &mut [u8; 16]) -> usize
     requires magnitude { magnitude ≤ 2 ^ 31 }
     requires room { at ≤ 1 }
-    ensures { Puts into.old into.new at result (show_magnitude (hundred_thousandths magnitude)) }
+    ensures put { Puts into.old into.new at result (show_magnitude (hundred_thousandths magnitude)) }
+    ensures bound { result ≤ at + 11 }
 {
     let hundred_thousandths = (u64::from(magnitude) * 100_000 + 32_768) / 65_536;
     let point = put_decimal((hundred_thousandths / 100_000) as u32, at, into);
@@ -64,9 +66,12 @@ fn put_byte(byte: u8, at: usize, into: &mut [u8; 16]) -> usize
     at + 1
 }
 
-/// What `print_fix` puts reads back as the number that was printed: a law of the two definitions.
+/// A law for proofs, with nothing to run: what `print_fix` puts reads back as the number that was printed, and each of
+/// its bytes lies from `-` to `9`, so that no white space or `#` cuts it.
 pub fn printed_reads_back()
-    ensures { (r : ℤ) → negsuc 2147483647 ≤ℤ r → r ≤ℤ pos 2147483647 → fix (show r) ≡ Ok r }
+    ensures reads_back { (r : ℤ) → negsuc 2147483647 ≤ℤ r → r ≤ℤ pos 2147483647 → fix (show r) ≡ Ok r }
+    ensures bytes { (r : ℤ) → negsuc 2147483647 ≤ℤ r → r ≤ℤ pos 2147483647
+        → All (λ b. (45 ≤ b) × (b ≤ 57)) (show r) }
 {}
 
 // Texts of a few raw numbers, computed from the definition.

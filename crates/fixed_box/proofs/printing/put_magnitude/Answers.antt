@@ -11,5 +11,8 @@ put_byte-fraction-requires c = let point = rw c.from.ensures at c.put_decimal-po
 pub put_last_digits-requires : goal.put_last_digits-requires
 put_last_digits-requires c = let point = rw c.from.ensures at c.put_decimal-point.ensures.ends in omega (arith, length_units c.args.magnitude c.requires.magnitude, c.put_byte-fraction.ensures.ends)
 
-pub returns : goal.returns
-returns c = puts_magnitude _ _ _ _ _ _ _ _ _ (rw c.from.ensures at c.put_decimal-point.ensures) c.put_byte-fraction.ensures (rw c.from.ensures at c.put_last_digits.ensures)
+pub returns-clause-put : goal.returns-clause-put
+returns-clause-put c = puts_magnitude _ _ _ _ _ _ _ _ _ (rw c.from.ensures at c.put_decimal-point.ensures) c.put_byte-fraction.ensures (rw c.from.ensures at c.put_last_digits.ensures)
+
+pub returns-clause-bound : goal.returns-clause-bound
+returns-clause-bound c = let point = rw c.from.ensures at c.put_decimal-point.ensures.ends in omega (arith, length_units c.args.magnitude c.requires.magnitude, c.put_byte-fraction.ensures.ends, c.put_last_digits.ensures.ends)

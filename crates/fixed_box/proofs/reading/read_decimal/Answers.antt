@@ -18,6 +18,6 @@ returns-then-not-is_ascii_digit-clause-value c =
     ] in
     (elim c.then-not-is_ascii_digit.branch [
       | then-not-is_ascii_digit-via-then-not-is_ascii_digit w ↦ sym (decimal_stops_at c.whole.whole c.whole.count c.whole.rest.now c.in-len1-up.len_at_least (sym c.is_ascii_digit.ensures.value ∙ w.if-not-is_ascii_digit.true) early)
-      | then-not-is_ascii_digit-via-else-not-is_ascii_digit+then-count-eq-WHOLE_DIGITS w ↦ sym (decimal_full_at c.whole.whole c.whole.count c.whole.rest.now w.if-count-eq-WHOLE_DIGITS.true c.in-len1-up.len_at_least (sym c.is_ascii_digit.ensures.value ∙ w.if-not-is_ascii_digit.false))
+      | then-not-is_ascii_digit-via-else-not-is_ascii_digit+then-count-eq-WHOLE_DIGITS w ↦ sym (decimal_full_at c.whole.whole c.whole.count c.whole.rest.now (omega (arith, w.if-count-eq-WHOLE_DIGITS.true)) c.in-len1-up.len_at_least (sym c.is_ascii_digit.ensures.value ∙ w.if-not-is_ascii_digit.false))
     ])
     ∙ c.whole.invariant.read ∙ sym (decimal_starts (slice_split (λ b. b == 46) c.args.text.now))
