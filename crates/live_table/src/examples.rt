@@ -19,5 +19,4 @@ fn worked_examples()
     ensures order { (b : Bounds) (m : Masks) → rises (given_again b m).entries ≡ true }
     ensures both_see { may (record { is = 1; sees = 2 }) (record { is = 2; sees = 1 }) ≡ true }
     ensures one_sees { may (record { is = 1; sees = 2 }) (record { is = 2; sees = 2 }) ≡ false }
-{
-}
+{}
