@@ -422,13 +422,6 @@ kept_take slots freed len given i s e kept live gives is =
       summed = omega (arith, kept.summed, sum_set slots i s lt, gives);
     }
 
--- a live box is counted
-pub counted_live : (slots : List Slot) (i : ℕ) (e : Live) → live_in slots i ≡ Some e → 0 < length (entries_of slots)
-counted_live slots i e live =
-    let before : length (option_to_list (live_in slots i)) ≡ 1 = rw live refl in
-    let after : length (option_to_list never_given.live) ≡ 0 = refl in
-    omega (arith, len_set slots i never_given (within_from_live slots i e live), before, after)
-
 -- ---- the slot that is opened
 
 vacant_within : (slots : List Slot) (k : ℕ) → get_or (vacant slots) k false ≡ true → k < length slots
