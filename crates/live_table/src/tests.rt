@@ -18,6 +18,14 @@ fn under(slot: u32, generation: u32) -> Handle {
     Handle { slot, generation }
 }
 
+fn live(handle: Handle, body: FBox, masks: Masks) -> Live {
+    Live {
+        handle,
+        body,
+        masks,
+    }
+}
+
 // Gives a box a slot of a table that has given few.
 fn give(rt: &impl Abort, table: &mut LiveTable, body: FBox) -> Result<Handle, Full> {
     assert!(rt; table.given() < 100_000);
@@ -49,15 +57,13 @@ fn each_change_shows_in_the_live_box(rt: HostRuntime) -> Result<(), Fail> {
     let there = body_at(65_536).ok_or("a flat box")?;
     let mut table = LiveTable::new(rt.alloc())?;
     let handle = give(&rt, &mut table, here)?;
-    let mut live = table.find(handle)?;
-    assert_eq!(rt; (live.body, live.masks), (here, ALL));
-    live.body = there;
-    live.masks = Masks { is: 2, sees: 4 };
-    table.set_box(handle, live.body)?;
-    table.set_masks(handle, live.masks)?;
-    assert_eq!(rt; table.at(0), Some(live));
+    let masks = Masks { is: 2, sees: 4 };
+    assert_eq!(rt; table.find(handle), Ok(live(handle, here, ALL)));
+    table.set_box(handle, there)?;
+    table.set_masks(handle, masks)?;
+    assert_eq!(rt; table.at(0), Some(live(handle, there, masks)));
     assert_eq!(rt; (table.len(), table.given()), (1, 1));
-    assert_eq!(rt; table.take(handle), Ok(live));
+    assert_eq!(rt; table.take(handle), Ok(live(handle, there, masks)));
     assert_eq!(rt; (table.at(0), table.len(), table.given()), (None, 0, 1));
     Ok(())
 }
