@@ -22,7 +22,7 @@ entered_first new (e ∷ later) h = rw (le-ltb (slot_of e) (slot_of new) (omega 
 pub length-entered : (new : Live) (es : List Live) → length (entered new es) ≡ length es + 1
 length-entered new [] = refl
 length-entered new (e ∷ later) =
-    elim (ltb (slot_of e) (slot_of new)) as (λ b. length (cond b (e ∷ entered new later) (new ∷ e ∷ later)) ≡ length (e ∷ later) + 1) [ | true ↦ omega (arith, length-entered new later) | false ↦ omega arith ]
+    elim (ltb (slot_of e) (slot_of new)) as (λ b. length (cond b (e ∷ entered new later) (new ∷ e ∷ later)) ≡ length (e ∷ later) + 1) [ true ↦ omega (arith, length-entered new later) | false ↦ omega arith ]
 
 pub least_above : (n : ℕ) (es : List Live) → Above (n + 1) es → least_from n es ≡ n
 least_above n [] h = refl
@@ -79,7 +79,7 @@ entry_by_slot handle (e ∷ later) h =
 pub of_generation-Some : (g : ℕ) (o : Option Live) (e : Live) → of_generation g o ≡ Some e → o ≡ Some e
 of_generation-Some g None e h = h
 of_generation-Some g (Some f) e h =
-    elim (eqb f.handle.generation g) as (λ b. cond b (Some f) None ≡ Some e → Some f ≡ Some e) [ | true ↦ λ same. same | false ↦ λ none. cc ] h
+    elim (eqb f.handle.generation g) as (λ b. cond b (Some f) None ≡ Some e → Some f ≡ Some e) [ true ↦ λ same. same | false ↦ λ none. cc ] h
 
 -- where no entry has the handle, there is nothing to change or to take out
 pub changed_none : (handle : Handle) (change : Live → Live) (es : List Live) → entry_at handle es ≡ None → changed handle change es ≡ es

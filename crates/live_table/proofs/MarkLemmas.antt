@@ -34,15 +34,15 @@ pub marks_of-set : (words : List ℕ) (k w : ℕ) (b : Bool) → k < 64 * length
     → marks_of (set words (k / 64) w) ≡ set (marks_of words) k b
 marks_of-set words k w b lt at others =
     ext_get_or false _ _ (length-marks_of (set words (k / 64) w) ∙ ap (λ n. 64 * n) (length-set words (k / 64) w) ∙ sym (length-marks_of words) ∙ sym (length-set (marks_of words) k b))
-      (λ j _. elim (cases_eq j k) [
-        | inl same ↦
-            let in_words : k / 64 < length words = omega arith in
-            let in_marks : k < length (marks_of words) = omega (arith, length-marks_of words) in
-            let word : get_or (set words (k / 64) w) (k / 64) 0 ≡ w = get_or-set_same words (k / 64) w 0 in_words in
-            rw same (get_or-marks_of (set words (k / 64) w) k ∙ ap (λ v. eqb (bit_at v (k % 64)) 1) word ∙ at ∙ sym (get_or-set_same (marks_of words) k b false in_marks))
-        | inr other ↦
-            get_or-marks_of (set words (k / 64) w) j ∙ unchanged j other ∙ sym (get_or-marks_of words j) ∙ sym (get_or-set_other (marks_of words) k j b false other)
-      ])
+    (λ j _. elim (cases_eq j k) [
+      | inl same ↦
+          let in_words : k / 64 < length words = omega arith in
+          let in_marks : k < length (marks_of words) = omega (arith, length-marks_of words) in
+          let word : get_or (set words (k / 64) w) (k / 64) 0 ≡ w = get_or-set_same words (k / 64) w 0 in_words in
+          rw same (get_or-marks_of (set words (k / 64) w) k ∙ ap (λ v. eqb (bit_at v (k % 64)) 1) word ∙ at ∙ sym (get_or-set_same (marks_of words) k b false in_marks))
+      | inr other ↦
+          get_or-marks_of (set words (k / 64) w) j ∙ unchanged j other ∙ sym (get_or-marks_of words j) ∙ sym (get_or-set_other (marks_of words) k j b false other)
+    ])
   where
     unchanged : (j : ℕ) → j ≢ k → eqb (bit_at (get_or (set words (k / 64) w) (j / 64) 0) (j % 64)) 1 ≡ eqb (bit_at (get_or words (j / 64) 0) (j % 64)) 1
     unchanged j other =
@@ -65,6 +65,7 @@ least_mark words word bit in_words in_word before at below =
   where
     here : get_or (marks_of words) (word * 64 + bit) false ≡ true
     here = get_or-marks_of words (word * 64 + bit) ∙ rw (div-mul-add word 64 bit in_word, mod-mul-add word 64 bit in_word, at) refl
+
     early : (k : ℕ) → k < word * 64 + bit → get_or (marks_of words) k false ≡ false
     early k lt =
         elim (cases_lt (k / 64) word) [
@@ -96,12 +97,12 @@ none_marked marks none k =
 pub zeros : (n k : ℕ) → get_or (replicate {A = ℕ} n 0) k 0 ≡ 0
 zeros n k =
     let none : ℕ = 0 in
-    elim (cases_lt k n) [ | inl lt ↦ get_or-replicate n k none none lt | inr past ↦ get_or_past (replicate n none) k none (omega (arith, length-replicate n none, past)) ]
+    elim (cases_lt k n) [ inl lt ↦ get_or-replicate n k none none lt | inr past ↦ get_or_past (replicate n none) k none (omega (arith, length-replicate n none, past)) ]
 
 -- a search that begins behind words of 0 passes only words of 0
 pub blank_before : (words read : List ℕ) (first word : ℕ) → read ≡ words → ((k : ℕ) → k < first → get_or words k 0 ≡ 0) → ((k : ℕ) → first ≤ k → k < word → get_or read k 0 ≡ 0) → (k : ℕ) → k < word → get_or words k 0 ≡ 0
 blank_before words read first word same early late k lt =
-    elim (cases_lt k first) [ | inl below ↦ early k below | inr above ↦ ap (λ xs. get_or xs k 0) (sym same) ∙ late k above lt ]
+    elim (cases_lt k first) [ inl below ↦ early k below | inr above ↦ ap (λ xs. get_or xs k 0) (sym same) ∙ late k above lt ]
 
 -- `marks_of-set` at a word and a bit
 pub marks_of-set_bit : (words : List ℕ) (word bit w : ℕ) (b : Bool) → word < length words → bit < 64 → eqb (bit_at w bit) 1 ≡ b → ((i : ℕ) → i < 64 → i ≢ bit → bit_at w i ≡ bit_at (get_or words word 0) i)
@@ -110,9 +111,9 @@ marks_of-set_bit words word bit w b in_words in_word at others =
     let d : (word * 64 + bit) / 64 ≡ word = div-mul-add word 64 bit in_word in
     let m : (word * 64 + bit) % 64 ≡ bit = mod-mul-add word 64 bit in_word in
     let e : marks_of (set words ((word * 64 + bit) / 64) w) ≡ set (marks_of words) (word * 64 + bit) b =
-      marks_of-set words (word * 64 + bit) w b (omega arith) (subst (λ i. eqb (bit_at w i) 1 ≡ b) (sym m) at)
-        (λ i lt other. others i lt (λ same. other (same ∙ sym m)) ∙ ap (λ q. bit_at (get_or words q 0) i) (sym d)) in
+    marks_of-set words (word * 64 + bit) w b (omega arith) (subst (λ i. eqb (bit_at w i) 1 ≡ b) (sym m) at)
+    (λ i lt other. others i lt (λ same. other (same ∙ sym m)) ∙ ap (λ q. bit_at (get_or words q 0) i) (sym d)) in
     subst (λ q. marks_of (set words q w) ≡ set (marks_of words) (word * 64 + bit) b) d e
 
 pub all_blank : (words : List ℕ) (n : ℕ) → length words ≡ n → ((k : ℕ) → k < n → get_or words k 0 ≡ 0) → (k : ℕ) → get_or words k 0 ≡ 0
-all_blank words n len before k = elim (cases_lt k n) [ | inl lt ↦ before k lt | inr past ↦ get_or_past words k 0 (omega (arith, len, past)) ]
+all_blank words n len before k = elim (cases_lt k n) [ inl lt ↦ before k lt | inr past ↦ get_or_past words k 0 (omega (arith, len, past)) ]

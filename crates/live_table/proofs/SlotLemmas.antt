@@ -26,7 +26,7 @@ live_in slots k = (get_or slots k never_given).live
 
 pub within_from_live : (slots : List Slot) (k : ℕ) (e : Live) → live_in slots k ≡ Some e → k < length slots
 within_from_live slots k e h =
-    elim (cases_lt k (length slots)) [ | inl lt ↦ lt | inr past ↦ absurd (let none : live_in slots k ≡ None = ap (λ s. s.live) (get_or_past slots k never_given past) in cc) ]
+    elim (cases_lt k (length slots)) [ inl lt ↦ lt | inr past ↦ absurd (let none : live_in slots k ≡ None = ap (λ s. s.live) (get_or_past slots k never_given past) in cc) ]
 
 pub rest_placed : (n : ℕ) (s : Slot) (more : List Slot) → IsPlaced n (s ∷ more) → IsPlaced (n + 1) more
 rest_placed n s more h k e live = let p = h (suc k) e live in (omega (arith, p.0), p.1)
@@ -36,7 +36,7 @@ pub entries_above : (n : ℕ) (slots : List Slot) → IsPlaced n slots → Above
 entries_above n [] h = tt
 entries_above n (s ∷ more) h =
     let later : Above n (entries_of more) = above_from n (n + 1) (entries_of more) (omega arith) (entries_above (n + 1) more (rest_placed n s more h)) in
-    elim s.live as (λ o. s.live ≡ o → Above n (cons_option o (entries_of more))) [ | None ↦ λ _. later | Some e ↦ λ is. (omega (arith, (h zero e is).0), later) ] refl
+    elim s.live as (λ o. s.live ≡ o → Above n (cons_option o (entries_of more))) [ None ↦ λ _. later | Some e ↦ λ is. (omega (arith, (h zero e is).0), later) ] refl
 
 -- ---- the entries after a write of one slot
 
@@ -125,7 +125,7 @@ pub all_entries : (P : Live → Type 0) (slots : List Slot) → ((k : ℕ) (e : 
 all_entries P [] h = λ k d lt. absurd (omega arith)
 all_entries P (s ∷ more) h =
     let rest : All P (entries_of more) = all_entries P more (λ k e live. h (suc k) e live) in
-    elim s.live as (λ o. s.live ≡ o → All P (cons_option o (entries_of more))) [ | None ↦ λ _. rest | Some e ↦ λ at. All-cons P e (entries_of more) (h zero e at) rest ] refl
+    elim s.live as (λ o. s.live ≡ o → All P (cons_option o (entries_of more))) [ None ↦ λ _. rest | Some e ↦ λ at. All-cons P e (entries_of more) (h zero e at) rest ] refl
 
 any_later : (P : Live → Type 0) (o : Option Live) (es : List Live) → Any P es → Any P (cons_option o es)
 any_later P None es h = h
@@ -156,6 +156,7 @@ len_set (t ∷ more) zero s lt = two s.live t.live (entries_of more)
     one : (o : Option Live) (es : List Live) → length (cons_option o es) ≡ length es + length (option_to_list o)
     one None es = omega arith
     one (Some e) es = omega arith
+
     two : (o p : Option Live) (es : List Live) → length (cons_option o es) + length (option_to_list p) ≡ length (cons_option p es) + length (option_to_list o)
     two o p es = omega (arith, one o es, one p es)
 len_set (t ∷ more) (suc i) s lt = on t.live _ _ _ _ (len_set more i s (omega arith))
@@ -167,19 +168,19 @@ len_set (t ∷ more) (suc i) s lt = on t.live _ _ _ _ (len_set more i s (omega a
 -- at most as many entries as slots; fewer where one is vacant; as many where none is
 pub len_le : (slots : List Slot) → length (entries_of slots) ≤ length slots
 len_le [] = omega arith
-len_le (s ∷ more) = elim s.live as (λ o. length (cons_option o (entries_of more)) ≤ length (s ∷ more)) [ | None ↦ omega (arith, len_le more) | Some e ↦ omega (arith, len_le more) ]
+len_le (s ∷ more) = elim s.live as (λ o. length (cons_option o (entries_of more)) ≤ length (s ∷ more)) [ None ↦ omega (arith, len_le more) | Some e ↦ omega (arith, len_le more) ]
 
 pub len_lt : (slots : List Slot) (i : ℕ) → get_or (vacant slots) i false ≡ true → length (entries_of slots) < length slots
 len_lt [] i h = absurd (cc)
 len_lt (s ∷ more) zero h =
-    elim s.live as (λ o. is_none o ≡ true → length (cons_option o (entries_of more)) < length (s ∷ more)) [ | None ↦ λ _. omega (arith, len_le more) | Some e ↦ λ none. cc ] h
-len_lt (s ∷ more) (suc i) h = elim s.live as (λ o. length (cons_option o (entries_of more)) < length (s ∷ more)) [ | None ↦ omega (arith, len_lt more i h) | Some e ↦ omega (arith, len_lt more i h) ]
+    elim s.live as (λ o. is_none o ≡ true → length (cons_option o (entries_of more)) < length (s ∷ more)) [ None ↦ λ _. omega (arith, len_le more) | Some e ↦ λ none. cc ] h
+len_lt (s ∷ more) (suc i) h = elim s.live as (λ o. length (cons_option o (entries_of more)) < length (s ∷ more)) [ None ↦ omega (arith, len_lt more i h) | Some e ↦ omega (arith, len_lt more i h) ]
 
 pub len_full : (slots : List Slot) → ((k : ℕ) → get_or (vacant slots) k false ≡ false) → length (entries_of slots) ≡ length slots
 len_full [] h = refl
 len_full (s ∷ more) h =
     let rest : length (entries_of more) ≡ length more = len_full more (λ k. h (suc k)) in
-    elim s.live as (λ o. is_none o ≡ false → length (cons_option o (entries_of more)) ≡ length (s ∷ more)) [ | None ↦ λ none. cc | Some e ↦ λ _. omega (arith, rest) ] (h zero)
+    elim s.live as (λ o. is_none o ≡ false → length (cons_option o (entries_of more)) ≡ length (s ∷ more)) [ None ↦ λ none. cc | Some e ↦ λ _. omega (arith, rest) ] (h zero)
 
 -- ---- gives
 
@@ -231,10 +232,10 @@ pub marked_set : (slots : List Slot) (freed : List Bool) (i k : ℕ) (s : Slot) 
     → get_or (set freed i b) k false ≡ get_or (vacant (set slots i s)) k false
 marked_set slots freed i k s b lt in_marks is same =
     rw (map-set (λ slot. is_none slot.live) slots i s) (
-      elim (cases_eq k i) [
-        | inl at ↦ rw at (get_or-set_same freed i b false in_marks ∙ is ∙ sym (get_or-set_same (vacant slots) i (is_none s.live) false (subst (λ n. i < n) (sym (length-vacant slots)) lt)))
-        | inr other ↦ get_or-set_other freed i k b false other ∙ same other ∙ sym (get_or-set_other (vacant slots) i k (is_none s.live) false other)
-      ])
+    elim (cases_eq k i) [
+      | inl at ↦ rw at (get_or-set_same freed i b false in_marks ∙ is ∙ sym (get_or-set_same (vacant slots) i (is_none s.live) false (subst (λ n. i < n) (sym (length-vacant slots)) lt)))
+      | inr other ↦ get_or-set_other freed i k b false other ∙ same other ∙ sym (get_or-set_other (vacant slots) i k (is_none s.live) false other)
+    ])
   where
     length-vacant : (slots : List Slot) → length (vacant slots) ≡ length slots
     length-vacant [] = refl
@@ -247,12 +248,12 @@ vacant_not (s ∷ more) (suc k) e live = vacant_not more k e live
 
 live_not : (slots : List Slot) (k : ℕ) → get_or (vacant slots) k false ≡ true → live_in slots k ≡ None
 live_not [] k h = refl
-live_not (s ∷ more) zero h = elim s.live as (λ o. is_none o ≡ true → o ≡ None) [ | None ↦ λ _. refl | Some e ↦ λ none. cc ] h
+live_not (s ∷ more) zero h = elim s.live as (λ o. is_none o ≡ true → o ≡ None) [ None ↦ λ _. refl | Some e ↦ λ none. cc ] h
 live_not (s ∷ more) (suc k) h = live_not more k h
 
 live_so : (slots : List Slot) (k : ℕ) → k < length slots → get_or (vacant slots) k false ≡ false → (e : Live) × (live_in slots k ≡ Some e)
 live_so [] k lt h = absurd (omega arith)
-live_so (s ∷ more) zero lt h = elim s.live as (λ o. is_none o ≡ false → (e : Live) × (o ≡ Some e)) [ | None ↦ λ none. absurd (cc) | Some e ↦ λ _. (e, refl) ] h
+live_so (s ∷ more) zero lt h = elim s.live as (λ o. is_none o ≡ false → (e : Live) × (o ≡ Some e)) [ None ↦ λ none. absurd (cc) | Some e ↦ λ _. (e, refl) ] h
 live_so (s ∷ more) (suc k) lt h = live_so more k (omega arith) h
 
 -- a write that keeps a live box keeps its mark
@@ -271,9 +272,9 @@ table_of {slots} {freed} {len} {given} kept = record {
   small = all_entries (λ e. slot_of e < 8192) slots (λ k e live. omega (arith, (kept.placed k e live).0, within_from_live slots k e live, kept.few));
   few = omega (arith, len_le slots, kept.few);
   newest = all_entries (λ e. e.handle.generation + 1 ≡ slice_index (gives_of slots) (slot_of e)) slots (λ k e live.
-    let p = kept.placed k e live in
-    let at : k ≡ slot_of e = omega (arith, p.0) in
-    p.1 ∙ sym (gives_at slots k) ∙ ap (slice_index (gives_of slots)) at);
+      let p = kept.placed k e live in
+      let at : k ≡ slot_of e = omega (arith, p.0) in
+      p.1 ∙ sym (gives_at slots k) ∙ ap (slice_index (gives_of slots)) at);
 }
 
 -- ---- the slot that is given next
@@ -313,7 +314,7 @@ entries_of-opened slots slot next = opened_as (λ all. entries_of all ≡ entrie
 raised-opened : (slots : List Slot) (slot : ℕ) → slot ≤ length slots → raised (gives_of slots) slot ≡ raised (gives_of (opened slot slots)) slot
 raised-opened slots slot next =
     opened_as (λ all. raised (gives_of slots) slot ≡ raised (gives_of all) slot) slots slot next (λ _. refl)
-      (λ e. subst (λ n. raised (gives_of slots) n ≡ raised (gives_of (slots ++ never_given ∷ [])) n) e (raised_push slots never_given refl))
+    (λ e. subst (λ n. raised (gives_of slots) n ≡ raised (gives_of (slots ++ never_given ∷ [])) n) e (raised_push slots never_given refl))
 
 sum-opened : (slots : List Slot) (slot : ℕ) → slot ≤ length slots → sum (gives_of (opened slot slots)) ≡ sum (gives_of slots)
 sum-opened slots slot next = opened_as (λ all. sum (gives_of all) ≡ sum (gives_of slots)) slots slot next (λ _. refl) (λ _. sum_push slots never_given refl)
@@ -330,7 +331,7 @@ placed_opened n slots slot next h k e live =
 
 live_in_vacant : (slots : List Slot) (slot : ℕ) → IsLeastVacant slots slot → live_in slots slot ≡ None
 live_in_vacant slots slot least =
-    elim (cases_lt slot (length slots)) [ | inl lt ↦ live_not slots slot (least.at lt) | inr past ↦ ap (λ s. s.live) (get_or_past slots slot never_given past) ]
+    elim (cases_lt slot (length slots)) [ inl lt ↦ live_not slots slot (least.at lt) | inr past ↦ ap (λ s. s.live) (get_or_past slots slot never_given past) ]
 
 -- it is the least free slot of the entries
 pub least_free_is : (slots : List Slot) (slot : ℕ) → IsPlaced 0 slots → IsLeastVacant slots slot → least_free (entries_of slots) ≡ slot
@@ -339,25 +340,25 @@ least_free_is slots slot placed least = least_is 0 slot slots placed least.next 
 pub least_free_so : (slots : List Slot) (slot : ℕ) → IsPlaced 0 slots → IsLeastVacant slots slot → IsLeastFree slot (entries_of slots)
 least_free_so slots slot placed least = record {
   free = all_entries (λ e. slot_of e ≢ slot) slots (λ k e live same.
-    let at : k ≡ slot = omega (arith, (placed k e live).0, same) in
-    let none : live_in slots slot ≡ None = live_in_vacant slots slot least in
-    let some : live_in slots slot ≡ Some e = subst (λ n. live_in slots n ≡ Some e) at live in
-    cc);
+      let at : k ≡ slot = omega (arith, (placed k e live).0, same) in
+      let none : live_in slots slot ≡ None = live_in_vacant slots slot least in
+      let some : live_in slots slot ≡ Some e = subst (λ n. live_in slots n ≡ Some e) at live in
+      cc);
   least = λ lower lt.
-    let found : (e : Live) × (live_in slots lower ≡ Some e) = live_so slots lower (omega (arith, least.next)) (least.least lower lt) in
-    any_entry (λ e. slot_of e ≡ lower) slots lower found.0 found.1 (omega (arith, (placed lower found.0 found.1).0));
+      let found : (e : Live) × (live_in slots lower ≡ Some e) = live_so slots lower (omega (arith, least.next)) (least.least lower lt) in
+      any_entry (λ e. slot_of e ≡ lower) slots lower found.0 found.1 (omega (arith, (placed lower found.0 found.1).0));
 }
 
 pub not_full : (slots : List Slot) (slot : ℕ) → IsLeastVacant slots slot → length slots ≤ 8192 → length (entries_of slots) < 8192
 not_full slots slot least few =
-    elim (cases_lt slot (length slots)) [ | inl lt ↦ omega (arith, len_lt slots slot (least.at lt)) | inr past ↦ omega (arith, len_le slots, least.small, least.next) ]
+    elim (cases_lt slot (length slots)) [ inl lt ↦ omega (arith, len_lt slots slot (least.at lt)) | inr past ↦ omega (arith, len_le slots, least.small, least.next) ]
 
 -- ---- what a give makes of the slots
 
 pub give_entries : (slots : List Slot) (slot : ℕ) (s : Slot) (new : Live) → IsPlaced 0 slots → IsLeastVacant slots slot → s.live ≡ Some new → slot_of new ≡ slot → entries_of (set (opened slot slots) slot s) ≡ entered new (entries_of slots)
 give_entries slots slot s new placed least is at =
     enter_set 0 slot (opened slot slots) s new (placed_opened 0 slots slot least.next placed) (length-opened slots slot least.next)
-      (ap (λ s. s.live) (get_or-opened slots slot slot least.next) ∙ live_in_vacant slots slot least) (omega (arith, at)) is
+    (ap (λ s. s.live) (get_or-opened slots slot slot least.next) ∙ live_in_vacant slots slot least) (omega (arith, at)) is
     ∙ ap (entered new) (entries_of-opened slots slot least.next)
 
 pub give_gives : (slots : List Slot) (slot : ℕ) (s : Slot) → IsLeastVacant slots slot → s.gives ≡ (get_or slots slot never_given).gives + 1 → gives_of (set (opened slot slots) slot s) ≡ raised (gives_of slots) slot
@@ -373,14 +374,14 @@ pub kept_give : (slots : List Slot) (freed : List Bool) (len given slot : ℕ) (
 kept_give slots freed len given slot s new kept least gives is at generation = record {
   few = omega (arith, length-set (opened slot slots) slot s, opened_few slots slot least.next least.small kept.few);
   placed = placed_set 0 slot (opened slot slots) s (placed_opened 0 slots slot least.next kept.placed) (length-opened slots slot least.next) (λ e live.
-    let same : new ≡ e = cc in
-    (ap slot_of (sym same) ∙ omega (arith, at), ap (λ e. e.handle.generation + 1) (sym same) ∙ generation));
+      let same : new ≡ e = cc in
+      (ap slot_of (sym same) ∙ omega (arith, at), ap (λ e. e.handle.generation + 1) (sym same) ∙ generation));
   marks = length-set freed slot false ∙ kept.marks;
   marked = λ k. marked_set (opened slot slots) freed slot k s false (length-opened slots slot least.next) (omega (arith, kept.marks, least.small)) (sym (ap is_none is)) (λ other. kept.marked k ∙ sym (vacant-opened slots slot k least.next other));
   counted =
-    let e = give_entries slots slot s new kept.placed least is at in
-    let grown : length (entered new (entries_of slots)) ≡ length (entries_of slots) + 1 = length-entered new (entries_of slots) in
-    omega (arith, kept.counted, ap length e, grown);
+      let e = give_entries slots slot s new kept.placed least is at in
+      let grown : length (entered new (entries_of slots)) ≡ length (entries_of slots) + 1 = length-entered new (entries_of slots) in
+      omega (arith, kept.counted, ap length e, grown);
   summed = omega (arith, kept.summed, give_sum slots slot s least gives);
 }
 
@@ -390,43 +391,36 @@ pub kept_change : (slots : List Slot) (freed : List Bool) (len given i : ℕ) (s
     → IsKept (set slots i s) freed len given
 kept_change slots freed len given i s e f kept live gives is same =
     let lt : i < length slots = within_from_live slots i e live in record {
-  few = omega (arith, length-set slots i s, kept.few);
-  placed = placed_set 0 i slots s kept.placed lt (λ g at.
-    let p = kept.placed i e live in
-    let h : g.handle ≡ e.handle = let g_is : f ≡ g = cc in ap (λ x. x.handle) (sym g_is) ∙ same in
-    (ap (λ h. h.slot) h ∙ p.0, ap (λ h. h.generation + 1) h ∙ p.1 ∙ sym gives));
-  marks = kept.marks;
-  marked = λ k.
-    ap (λ ms. get_or ms k false) (sym (marks_stay slots freed i e live (kept.marked i)))
-    ∙ marked_set slots freed i k s false lt (omega (arith, kept.marks, kept.few)) (sym (ap is_none is)) (λ _. kept.marked k);
-  counted =
-    let before : length (option_to_list (live_in slots i)) ≡ 1 = rw live refl in
-    let after : length (option_to_list s.live) ≡ 1 = rw is refl in
-    omega (arith, kept.counted, len_set slots i s lt, before, after);
-  summed = omega (arith, kept.summed, sum_set slots i s lt, gives);
-}
+      few = omega (arith, length-set slots i s, kept.few);
+      placed = placed_set 0 i slots s kept.placed lt (λ g at.
+          let p = kept.placed i e live in
+          let h : g.handle ≡ e.handle = let g_is : f ≡ g = cc in ap (λ x. x.handle) (sym g_is) ∙ same in
+          (ap (λ h. h.slot) h ∙ p.0, ap (λ h. h.generation + 1) h ∙ p.1 ∙ sym gives));
+      marks = kept.marks;
+      marked = λ k.
+          ap (λ ms. get_or ms k false) (sym (marks_stay slots freed i e live (kept.marked i)))
+          ∙ marked_set slots freed i k s false lt (omega (arith, kept.marks, kept.few)) (sym (ap is_none is)) (λ _. kept.marked k);
+      counted =
+          let before : length (option_to_list (live_in slots i)) ≡ 1 = rw live refl in
+          let after : length (option_to_list s.live) ≡ 1 = rw is refl in
+          omega (arith, kept.counted, len_set slots i s lt, before, after);
+      summed = omega (arith, kept.summed, sum_set slots i s lt, gives);
+    }
 
 pub kept_take : (slots : List Slot) (freed : List Bool) (len given i : ℕ) (s : Slot) (e : Live) → IsKept slots freed len given → live_in slots i ≡ Some e → s.gives ≡ (get_or slots i never_given).gives → s.live ≡ None
     → IsKept (set slots i s) (set freed i true) (len - 1) given
 kept_take slots freed len given i s e kept live gives is =
     let lt : i < length slots = within_from_live slots i e live in record {
-  few = omega (arith, length-set slots i s, kept.few);
-  placed = placed_set 0 i slots s kept.placed lt (λ g at. absurd (cc));
-  marks = length-set freed i true ∙ kept.marks;
-  marked = λ k. marked_set slots freed i k s true lt (omega (arith, kept.marks, kept.few)) (sym (ap is_none is)) (λ _. kept.marked k);
-  counted =
-    let before : length (option_to_list (live_in slots i)) ≡ 1 = rw live refl in
-    let after : length (option_to_list s.live) ≡ 0 = rw is refl in
-    omega (arith, kept.counted, len_set slots i s lt, before, after);
-  summed = omega (arith, kept.summed, sum_set slots i s lt, gives);
-}
-
--- a live box is counted
-pub counted_live : (slots : List Slot) (i : ℕ) (e : Live) → live_in slots i ≡ Some e → 0 < length (entries_of slots)
-counted_live slots i e live =
-    let before : length (option_to_list (live_in slots i)) ≡ 1 = rw live refl in
-    let after : length (option_to_list never_given.live) ≡ 0 = refl in
-    omega (arith, len_set slots i never_given (within_from_live slots i e live), before, after)
+      few = omega (arith, length-set slots i s, kept.few);
+      placed = placed_set 0 i slots s kept.placed lt (λ g at. absurd (cc));
+      marks = length-set freed i true ∙ kept.marks;
+      marked = λ k. marked_set slots freed i k s true lt (omega (arith, kept.marks, kept.few)) (sym (ap is_none is)) (λ _. kept.marked k);
+      counted =
+          let before : length (option_to_list (live_in slots i)) ≡ 1 = rw live refl in
+          let after : length (option_to_list s.live) ≡ 0 = rw is refl in
+          omega (arith, kept.counted, len_set slots i s lt, before, after);
+      summed = omega (arith, kept.summed, sum_set slots i s lt, gives);
+    }
 
 -- ---- the slot that is opened
 
@@ -484,7 +478,7 @@ pub given_is : (slots : List Slot) (slot : ℕ) (s : Slot) (body : Bounds) (mask
 given_is slots slot s body masks handle placed least named gives is =
     let free : least_free (entries_of slots) ≡ slot = least_free_is slots slot placed least in
     let entries : entries_of (set (opened slot slots) slot s) ≡ entered (record { handle = next_handle (table_in slots); body = body; masks = masks }) (entries_of slots) =
-      give_entries slots slot s (record { handle = handle; body = body; masks = masks }) placed least is (ap (λ h. h.slot) named ∙ free) ∙ ap (λ h. entered (record { handle = h; body = body; masks = masks }) (entries_of slots)) named in
+    give_entries slots slot s (record { handle = handle; body = body; masks = masks }) placed least is (ap (λ h. h.slot) named ∙ free) ∙ ap (λ h. entered (record { handle = h; body = body; masks = masks }) (entries_of slots)) named in
     let counts : gives_of (set (opened slot slots) slot s) ≡ raised (gives_of slots) (least_free (entries_of slots)) = give_gives slots slot s least gives ∙ ap (raised (gives_of slots)) (sym free) in
     rw (entries, counts) refl
 

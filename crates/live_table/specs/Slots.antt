@@ -26,12 +26,16 @@ abbrev pub IsPlaced : ℕ → List Slot → Type 0
 IsPlaced n slots = (k : ℕ) (entry : Live) → (slice_index_or slots k never_given).live ≡ Some entry
     → (slot_of entry ≡ n + k) × (entry.handle.generation + 1 ≡ (slice_index_or slots k never_given).gives)
 
+-- the slots with a mark are those without a live box
+abbrev pub MarksVacant : List Slot → List Bool → Type 0
+MarksVacant slots freed = (k : ℕ) → slice_index_or freed k false ≡ slice_index_or (vacant slots) k false
+
 -- the marks of the freed slots and the two counts are those of the slots
 pub record IsKept (slots : List Slot) (freed : List Bool) (len given : ℕ) : Type 0 where
   pub few : length slots ≤ 8192
   pub placed : IsPlaced 0 slots
   pub marks : length freed ≡ 8192
-  pub marked : (k : ℕ) → slice_index_or freed k false ≡ slice_index_or (vacant slots) k false
+  pub marked : MarksVacant slots freed
   pub counted : len ≡ length (entries_of slots)
   pub summed : given ≡ sum (gives_of slots)
 

@@ -7,7 +7,8 @@ use Rattle.live_table.specs.declared.masks.Masks.{Masks}
 use Rattle.live_table.specs.declared.live.Live.{Live}
 use Rattle.live_table.specs.Entries.{slot_of, least_free, entered, with_body, with_masks, without, rises}
 
--- The live boxes in order of their slots, and how often each slot was given, from slot 0 on. A slot past the end was never given.
+-- The live boxes in order of their slots, and how often each slot was given, from slot 0 on.
+-- A slot past the end was never given.
 pub record Table : Type 0 where
   pub entries : List Live
   pub gives : List ℕ
@@ -25,7 +26,10 @@ next_handle t = record { slot = least_free t.entries; generation = slice_index t
 
 -- a new box under the next handle, whose slot was given once more
 abbrev pub after_give : Table → Bounds → Masks → Table
-after_give t body masks = record { entries = entered (record { handle = next_handle t; body = body; masks = masks }) t.entries; gives = raised t.gives (least_free t.entries) }
+after_give t body masks = record {
+  entries = entered (record { handle = next_handle t; body = body; masks = masks }) t.entries;
+  gives = raised t.gives (least_free t.entries);
+}
 
 -- the handle's box is another
 abbrev pub after_set_box : Table → Handle → Bounds → Table
@@ -45,5 +49,5 @@ pub record IsTable (t : Table) : Type 0 where
   pub rising : IsTrue (rises t.entries)
   pub small : All (λ entry. slot_of entry < 8192) t.entries
   pub few : length t.entries ≤ 8192
-  -- The last give of a slot made its entry. So the slot was given, and each of its earlier boxes had a lower generation.
+  -- The last give of a slot made its entry. So the slot was given, and its generation is below the number of gives.
   pub newest : All (λ entry. entry.handle.generation + 1 ≡ slice_index t.gives (slot_of entry)) t.entries

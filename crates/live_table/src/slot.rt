@@ -1,5 +1,5 @@
 ghost use Rattle.std.specs.Prelude.{◌≡◌, ℕ, ◌≤◌, false, vec_len, vec_capacity, IfSome, OnSome, IfNone, slice_index_or, slice_set};
-ghost use Rattle.live_table.specs.Slots.{vacant, opened, IsLeastVacant};
+ghost use Rattle.live_table.specs.Slots.{vacant, opened, IsLeastVacant, MarksVacant};
 
 use crate::Live;
 use crate::freed_slots::FreedSlots;
@@ -19,7 +19,7 @@ pub(crate) struct Slot {
 pub(crate) fn open_slot(slots: &mut Vec<Slot>, freed: &mut FreedSlots) -> Option<u32>
     requires room { 8192 ≤ vec_capacity slots.old }
     requires few { vec_len slots.old ≤ 8192 }
-    requires marked { (k : ℕ) → slice_index_or freed.old k false ≡ slice_index_or (vacant slots.old.items) k false }
+    requires marked { MarksVacant slots.old.items freed.old }
     ensures least { IfSome result (IsLeastVacant slots.old.items) }
     ensures opened { IfSome result (λ slot. slots.new.items ≡ opened slot slots.old.items) }
     ensures unmarked { IfSome result (λ slot. freed.new ≡ slice_set freed.old slot false) }

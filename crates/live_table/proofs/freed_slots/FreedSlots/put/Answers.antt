@@ -14,6 +14,6 @@ returns c =
     let new = bit_or c.index_mut.result.now (1 * 2 ^ (slot % 64) % 2 ^ 64) in
     let in_word : slot % 64 < 64 = omega arith in
     marks_of-set words slot new true (omega (arith, c.self.invariant.whole, c.requires))
-      (ap (λ b. eqb b 1) (bit_at_set_same w64 c.index_mut.result.now (slot % 64) in_word))
-      (λ i lt other. bit_at_set_other w64 c.index_mut.result.now (slot % 64) in_word i other ∙ ap (λ w. bit_at w i) old)
+    (ap (λ b. eqb b 1) (bit_at_set_same w64 c.index_mut.result.now (slot % 64) in_word))
+    (λ i lt other. bit_at_set_other w64 c.index_mut.result.now (slot % 64) in_word i other ∙ ap (λ w. bit_at w i) old)
     ∙ ap (λ ms. slice_set ms slot true) c.self.view_is

@@ -23,7 +23,7 @@ returns-clause-least c =
     let bits : c.index-bits.result.now ≡ get_or words found.result 0 = get_or_read words found.result c.index-bits.result.now in_words c.index-bits.ensures 0 in
     let before = blank_before words c.deref.result.now c.self.inside.first found.result c.deref.ensures.value c.self.invariant.blank found.ensures.blank in
     sym (ap (position (λ mark. mark)) (sym c.self.view_is)
-      ∙ least_mark words found.result bit.result in_words bit.ensures.within before (ap (λ w. bit_at w bit.result) (sym bits) ∙ bit.ensures.set) (λ i lt. ap (λ w. bit_at w i) (sym bits) ∙ bit.ensures.lowest i lt))
+    ∙ least_mark words found.result bit.result in_words bit.ensures.within before (ap (λ w. bit_at w bit.result) (sym bits) ∙ bit.ensures.set) (λ i lt. ap (λ w. bit_at w i) (sym bits) ∙ bit.ensures.lowest i lt))
 
 pub returns-clause-taken : goal.returns-clause-taken
 returns-clause-taken c =
@@ -33,6 +33,6 @@ returns-clause-taken c =
     let in_words : found.result < length words = omega (arith, c.self.invariant.whole, c.if-word-eq-WORDS.false, found.ensures.bound, c.deref.ensures.len) in
     let bits : c.index-bits.result.now ≡ get_or words found.result 0 = get_or_read words found.result c.index-bits.result.now in_words c.index-bits.ensures 0 in
     marks_of-set_bit words found.result bit.result _ false in_words bit.ensures.within
-      (ap (λ b. eqb b 1) (bit_at_clear_same w64 c.index-bits.result.now bit.result bit.ensures.within))
-      (λ i lt other. bit_at_clear_other w64 c.index-bits.result.now bit.result bit.ensures.within i lt other ∙ ap (λ w. bit_at w i) bits)
+    (ap (λ b. eqb b 1) (bit_at_clear_same w64 c.index-bits.result.now bit.result bit.ensures.within))
+    (λ i lt other. bit_at_clear_other w64 c.index-bits.result.now bit.result bit.ensures.within i lt other ∙ ap (λ w. bit_at w i) bits)
     ∙ ap (λ ms. slice_set ms (found.result * 64 + bit.result) false) c.self.view_is

@@ -39,9 +39,11 @@ pub overflow_add-self : goal.overflow_add-self
 overflow_add-self c = omega (arith, c.self.invariant.1.counted, len_le c.self.inside.slots.items, c.self.invariant.1.few)
 
 pub invariant_of-self-2 : goal.invariant_of-self-2
-invariant_of-self-2 c =
-    (c.in-Some.ensures.room, kept_filled c.self.inside.slots.items c.open_slot.new.slots.items c.self.inside.freed c.open_slot.new.freed c.self.inside.len c.self.inside.given c.in-Some.slot c.index_mut-place.result.now c.args.body c.args.masks
-      c.self.invariant.1 c.in-Some.ensures.least c.in-Some.ensures.opened c.in-Some.ensures.unmarked c.index_mut-place.ensures.value)
+invariant_of-self-2 c = (
+  c.in-Some.ensures.room,
+  kept_filled c.self.inside.slots.items c.open_slot.new.slots.items c.self.inside.freed c.open_slot.new.freed c.self.inside.len c.self.inside.given c.in-Some.slot c.index_mut-place.result.now c.args.body c.args.masks
+      c.self.invariant.1 c.in-Some.ensures.least c.in-Some.ensures.opened c.in-Some.ensures.unmarked c.index_mut-place.ensures.value,
+)
 
 pub returns-clause-handle : goal.returns-clause-handle
 returns-clause-handle c =
@@ -83,4 +85,4 @@ returns-clause-count c =
 pub returns-clause-table : goal.returns-clause-table
 returns-clause-table c =
     table_of (kept_filled c.self.inside.slots.items c.open_slot.new.slots.items c.self.inside.freed c.open_slot.new.freed c.self.inside.len c.self.inside.given c.in-Some.slot c.index_mut-place.result.now c.args.body c.args.masks
-      c.self.invariant.1 c.in-Some.ensures.least c.in-Some.ensures.opened c.in-Some.ensures.unmarked c.index_mut-place.ensures.value)
+    c.self.invariant.1 c.in-Some.ensures.least c.in-Some.ensures.opened c.in-Some.ensures.unmarked c.index_mut-place.ensures.value)
