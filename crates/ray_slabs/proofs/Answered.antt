@@ -1,8 +1,8 @@
 -- What is left of an interval tells whether some candidate fits.
-use Rattle.std.proofs.Common.{◌≡◌, refl, sym, ap, ◌∙◌, Bool, true, false, ◌&&◌, pos, ◌<ℤ◌, int_le, List, Option, Some, None, is_some, IfSome}
+use Rattle.std.proofs.Common.{◌≡◌, refl, sym, ◌∙◌, true, ◌&&◌, pos, ◌<ℤ◌, int_le, List, Option, Some, None, is_some, IfSome}
 use Rattle.std.specs.List.{list_all, list_any}
 use Rattle.ray_slabs.specs.Crossing.{Slab, Fraction, fits, candidates, fits_ray, fits_seg}
-use Rattle.ray_slabs.specs.Interval.{at_most, is_before_end, contains, is_left, IsNotEmpty}
+use Rattle.ray_slabs.specs.Interval.{at_most, contains, is_left, IsNotEmpty}
 use Rattle.ray_slabs.specs.declared.interval.Interval.{Interval}
 use Rattle.ray_slabs.proofs.Narrowed.{false_unless, first_of, second_of, all_of}
 use Rattle.ray_slabs.proofs.Candidates.{Found, found_among, start, finish, from_start, to_finish, ray_candidate, seg_candidate}

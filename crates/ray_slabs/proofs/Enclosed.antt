@@ -1,5 +1,5 @@
 -- What meets a box meets each box that encloses it.
-use Rattle.std.proofs.Common.{◌≡◌, Bool, true, ◌&&◌, ℤ, pos, ◌≤ℤ◌, ◌<ℤ◌, ◌*ℤ◌, int_le, IsTrue, arith}
+use Rattle.std.proofs.Common.{◌≡◌, true, ◌&&◌, ℤ, pos, ◌≤ℤ◌, ◌<ℤ◌, ◌*ℤ◌, int_le, IsTrue, arith}
 use Rattle.std.specs.List.{list_all}
 use Rattle.std.proofs.lemmas.Int.{ints}
 use Rattle.ray_slabs.specs.Vector.{Vector, is_at_most, displacement}

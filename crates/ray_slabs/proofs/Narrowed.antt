@@ -1,5 +1,5 @@
 -- What an interval of fractions holds once it is narrowed.
-use Rattle.std.proofs.Common.{ℕ, List, [], ◌∷◌, length, get_or, arith, ◌≡◌, refl, sym, ap, ◌∙◌, subst, Bool, true, false, ◌&&◌, ℤ, pos, ◌<ℤ◌}
+use Rattle.std.proofs.Common.{List, [], ◌∷◌, length, get_or, arith, ◌≡◌, refl, sym, ◌∙◌, Bool, true, false, ◌&&◌, pos, ◌<ℤ◌}
 use Rattle.std.specs.List.{list_all}
 use Rattle.ray_slabs.specs.Crossing.{Slab, Fraction}
 use Rattle.ray_slabs.specs.Interval.{at_most, is_before_end, contains}

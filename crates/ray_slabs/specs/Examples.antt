@@ -1,15 +1,14 @@
 -- Points and boxes of the worked examples, in raw units of 1/65,536.
-use Rattle.std.specs.Prelude.{ℤ, pos}
+use Rattle.std.specs.Prelude.{ℕ, pos, neg_ℤ}
 use Rattle.ray_slabs.specs.Vector.{Vector}
 use Rattle.ray_slabs.specs.WideBounds.{WideBounds}
 
-abbrev pub at : ℤ → ℤ → ℤ → Vector
-at x y z = record { x = x; y = y; z = z }
+abbrev pub at : ℕ → ℕ → ℕ → Vector
+at x y z = record { x = pos x; y = pos y; z = pos z }
 
--- with the same bounds on each axis
-abbrev pub cube : ℤ → ℤ → WideBounds
-cube lo hi = record { lo = at lo lo lo; hi = at hi hi hi }
+-- on the other side of the origin
+abbrev pub opposite : Vector → Vector
+opposite p = record { x = neg_ℤ p.x; y = neg_ℤ p.y; z = neg_ℤ p.z }
 
--- from 10 to 11 on the x axis, and from 0 to 1 on the others
-abbrev pub far_cube : WideBounds
-far_cube = record { lo = at (pos 655360) (pos 0) (pos 0); hi = at (pos 720896) (pos 65536) (pos 65536) }
+abbrev pub between : Vector → Vector → WideBounds
+between lo hi = record { lo = lo; hi = hi }

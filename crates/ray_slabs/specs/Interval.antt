@@ -1,5 +1,5 @@
 -- Which fractions an interval of a line's fractions holds.
-use Rattle.std.specs.Prelude.{ℤ, pos, ◌*ℤ◌, ◌<ℤ◌, Bool, true, false, ◌&&◌, int_le, Option, Some, None, IsTrue}
+use Rattle.std.specs.Prelude.{pos, ◌*ℤ◌, ◌<ℤ◌, Bool, true, false, ◌&&◌, int_le, Option, Some, None, IsTrue}
 use Rattle.ray_slabs.specs.Crossing.{Fraction}
 use Rattle.ray_slabs.specs.declared.interval.Interval.{Interval}
 

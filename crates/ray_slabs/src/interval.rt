@@ -6,7 +6,7 @@ ghost use Rattle.ray_slabs.specs.Interval.{at_most, is_before_end, contains, is_
 use crate::ratio::Ratio;
 use crate::slab::Slab;
 
-// The fractions of a line from one on, up to another where there is an end.
+// The fractions of a line's direction from one on, up to another where there is an end. Each holds its start.
 #[derive(Clone, Copy)]
 pub(crate) struct Interval {
     enter: Ratio,

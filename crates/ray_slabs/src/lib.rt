@@ -1,4 +1,5 @@
-//! Whether a ray or a segment meets a box: the slab test in whole numbers, exact for parts up to 2^34.
+//! Whether a ray or a segment meets a box: the slab test (Ericson, Real-Time Collision Detection, 2005, 5.3.3) in whole
+//! numbers, exact for parts up to 2^34.
 #![tactic(auto)]
 
 mod interval;

@@ -1,9 +1,9 @@
-ghost use Rattle.std.specs.Prelude.{◌≡◌, ◌↔◌, IsTrue, true, false, pos, neg_ℤ};
+ghost use Rattle.std.specs.Prelude.{◌≡◌, ◌↔◌, IsTrue, true, false};
 ghost use Rattle.ray_slabs.specs.Crossing.{in_ray, slabs_of};
 ghost use Rattle.ray_slabs.specs.Vector.{Vector};
 ghost use Rattle.ray_slabs.specs.WideBounds.{WideBounds, encloses};
 ghost use Rattle.ray_slabs.specs.Law.{RayMeets};
-ghost use Rattle.ray_slabs.specs.Examples.{at, cube, far_cube};
+ghost use Rattle.ray_slabs.specs.Examples.{at, opposite, between};
 
 use crate::interval::Interval;
 use crate::slab::{Slab, any_leads_away};
@@ -52,8 +52,12 @@ fn slabs(ray: &Ray, body: &WBox) -> [Slab; 3]
 // A direction of zero asks whether the start is in the box, a ray may run along a face, and no ray goes back.
 #[tactic(auto, unfolding(crate::specs::Crossing::in_ray))]
 fn ray_examples()
-    ensures still_inside { in_ray (at (pos 65536) (pos 65536) (pos 65536)) (at (pos 0) (pos 0) (pos 0)) (cube (pos 0) (pos 131072)) ≡ true }
-    ensures still_outside { in_ray (at (pos 196608) (pos 65536) (pos 65536)) (at (pos 0) (pos 0) (pos 0)) (cube (pos 0) (pos 131072)) ≡ false }
-    ensures along_face { in_ray (at (pos 0) (pos 131072) (pos 65536)) (at (pos 65536) (pos 0) (pos 0)) (cube (pos 0) (pos 131072)) ≡ true }
-    ensures behind { in_ray (at (pos 0) (pos 32768) (pos 32768)) (at (neg_ℤ (pos 65536)) (pos 0) (pos 0)) far_cube ≡ false }
+    ensures still_inside { in_ray (at 65536 65536 65536) (at 0 0 0)
+        (between (at 0 0 0) (at 131072 131072 131072)) ≡ true }
+    ensures still_outside { in_ray (at 196608 65536 65536) (at 0 0 0)
+        (between (at 0 0 0) (at 131072 131072 131072)) ≡ false }
+    ensures along_face { in_ray (at 0 131072 65536) (at 65536 0 0)
+        (between (at 0 0 0) (at 131072 131072 131072)) ≡ true }
+    ensures behind { in_ray (at 0 32768 32768) (opposite (at 65536 0 0))
+        (between (at 655360 0 0) (at 720896 65536 65536)) ≡ false }
 {}

@@ -1,9 +1,9 @@
-ghost use Rattle.std.specs.Prelude.{◌≡◌, ◌↔◌, IsTrue, true, false, pos, neg_ℤ};
+ghost use Rattle.std.specs.Prelude.{◌≡◌, ◌↔◌, IsTrue, true, false};
 ghost use Rattle.ray_slabs.specs.Crossing.{in_seg, slabs_of};
 ghost use Rattle.ray_slabs.specs.Vector.{Vector, displacement};
 ghost use Rattle.ray_slabs.specs.WideBounds.{WideBounds, encloses};
 ghost use Rattle.ray_slabs.specs.Law.{SegMeets};
-ghost use Rattle.ray_slabs.specs.Examples.{at, cube, far_cube};
+ghost use Rattle.ray_slabs.specs.Examples.{at, opposite, between};
 
 use crate::interval::Interval;
 use crate::slab::{Slab, is_any_beside};
@@ -48,12 +48,14 @@ fn slabs(seg: &Seg, body: &WBox) -> [Slab; 3]
     ]
 }
 
-// A segment ends one raw unit before the box or on its face, and the longest one through all of the scene's space.
+// A segment that ends one raw unit before a box, one that ends on its face, and the longest one that a scene has: the
+// products that are compared for it lie on both sides of 2^63.
 #[tactic(auto, unfolding(crate::specs::Crossing::in_seg))]
 fn seg_examples()
-    ensures too_short { in_seg (at (pos 0) (pos 32768) (pos 32768)) (at (pos 655359) (pos 32768) (pos 32768)) far_cube ≡ false }
-    ensures touching { in_seg (at (pos 0) (pos 32768) (pos 32768)) (at (pos 655360) (pos 32768) (pos 32768)) far_cube ≡ true }
-    ensures diagonal { in_seg (at (neg_ℤ (pos 2147483648)) (neg_ℤ (pos 2147483648)) (neg_ℤ (pos 2147483648)))
-        (at (pos 2147483647) (pos 2147483647) (pos 2147483647))
-        (cube (neg_ℤ (pos 65536)) (pos 65536)) ≡ true }
+    ensures too_short { in_seg (at 0 32768 32768) (at 655359 32768 32768)
+        (between (at 655360 0 0) (at 720896 65536 65536)) ≡ false }
+    ensures touching { in_seg (at 0 32768 32768) (at 655360 32768 32768)
+        (between (at 655360 0 0) (at 720896 65536 65536)) ≡ true }
+    ensures diagonal { in_seg (opposite (at 2147483648 2147483648 2147483648)) (at 2147483647 2147483647 2147483647)
+        (between (opposite (at 65536 65536 65536)) (at 65536 65536 65536)) ≡ true }
 {}

@@ -1,5 +1,4 @@
 use Rattle.std.proofs.Common.{◌≡◌, ap, ◌∙◌, [], ◌∷◌}
-use Rattle.ray_slabs.specs.Crossing.{Slab}
 use Rattle.ray_slabs.specs.Vector.{Vector}
 use Rattle.ray_slabs.proofs.Read.{read_back}
 use Rattle.ray_slabs.proofs.ray.slabs.Goals as goal

@@ -1,4 +1,4 @@
-use Rattle.std.proofs.Common.{◌∙◌, sym}
+use Rattle.std.proofs.Common.{sym}
 use Rattle.ray_slabs.specs.Crossing.{fits}
 use Rattle.ray_slabs.specs.Interval.{contains}
 use Rattle.ray_slabs.proofs.Crossed.{along}
