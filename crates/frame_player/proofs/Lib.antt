@@ -1,4 +1,4 @@
-pub mod Merge
-pub mod Splitting
-pub mod Slots
-pub mod Asked
+pub mod Changes
+pub mod Counts
+pub mod InOrder
+pub mod Touches

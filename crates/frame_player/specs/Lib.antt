@@ -1,9 +1,2 @@
-pub mod PairEvents
-pub mod PairReport
-pub mod Play
-pub mod Reading
-pub mod SceneLines
-pub mod SceneWords
-pub mod Player
-pub mod Transfer
-pub mod World
+pub mod Indexed
+pub mod Pairs

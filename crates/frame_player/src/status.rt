@@ -1,4 +1,4 @@
-use crate::Cause;
+use pair_report::Cause;
 
 /// How a play ended.
 #[derive(Clone, Copy, Debug, PartialEq, Eq)]

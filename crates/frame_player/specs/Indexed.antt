@@ -1,0 +1,38 @@
+-- What an index of slots holds of the live boxes, and how its answers are told in handles.
+use Rattle.std.specs.Prelude.{ℕ, List, map, if◌then◌else◌, Option, Some, None}
+use Rattle.std.specs.Ordering.{nat_cmp}
+use Rattle.std.specs.FinMap.{FinMap, from_sorted}
+use Rattle.fixed_box.specs.Bounds.{Bounds}
+use Rattle.live_table.specs.declared.handle.Handle.{Handle}
+use Rattle.live_table.specs.declared.live.Live.{Live}
+use Rattle.live_table.specs.Entries.{slot_of, live_at}
+use Rattle.live_table.specs.Masks.{may}
+use Rattle.broad_index.specs.declared.pair.Pair.{Pair}
+use Rattle.pair_events.specs.declared.hpair.HPair.{HPair}
+use Rattle.frame_player.specs.Pairs.{is_asked_for}
+
+-- each live box under its slot
+abbrev pub slots_with_bodies : List Live → List (ℕ × Bounds)
+slots_with_bodies entries = map (λ entry. (slot_of entry, entry.body)) entries
+
+abbrev pub indexed : List Live → FinMap nat_cmp Bounds
+indexed entries = from_sorted (slots_with_bodies entries)
+
+-- two live boxes as a pair, where their masks allow it
+abbrev pub pair_of : Option Live → Option Live → Option HPair
+pair_of None b = None
+pair_of (Some a) None = None
+pair_of (Some a) (Some b) = if may a.masks b.masks then Some (record { a = a.handle; b = b.handle }) else None
+
+-- the pair of two slots
+abbrev pub touching : List Live → Pair → Option HPair
+touching entries pair = pair_of (live_at pair.a entries) (live_at pair.b entries)
+
+-- a live box by its handle, where it is in one of the groups that are asked for
+abbrev pub listed_of : ℕ → Option Live → Option Handle
+listed_of mask None = None
+listed_of mask (Some entry) = if is_asked_for mask entry then Some entry.handle else None
+
+-- the box of a slot
+abbrev pub listed : List Live → ℕ → ℕ → Option Handle
+listed entries mask slot = listed_of mask (live_at slot entries)
