@@ -1,7 +1,7 @@
 -- Entries whose slots are all from some number on, and entries whose slots rise.
-use Rattle.std.proofs.Common.{◌≡◌, ◌≢◌, ℕ, zero, suc, ◌+◌, ◌<◌, ◌≤◌, Bool, true, false, cond, not, ◌&&◌, List, [], ◌∷◌, Option, Some, None, length, get_or, map, eqb, ltb, refl, sym, ap, ◌∙◌, subst, arith, eq-eqb, ne_eqb, le-ltb, lt-ltb, ltb-true, eqb-true, inl, inr}
-use Rattle.std.specs.List.{All, Any, list_all, find, filter}
-use Rattle.std.proofs.lemmas.Bool.{and_parts, and_left, and_from, cases_eq, cases_Bool}
+use Rattle.std.proofs.Common.{◌≡◌, ◌≢◌, ℕ, ◌+◌, ◌≤◌, true, false, cond, not, List, [], ◌∷◌, Option, Some, None, length, eqb, ltb, refl, sym, ap, ◌∙◌, arith, eq-eqb, ne_eqb, le-ltb, lt-ltb, ltb-true, eqb-true, inl, inr}
+use Rattle.std.specs.List.{list_all}
+use Rattle.std.proofs.lemmas.Bool.{and_parts, and_left, and_from, cases_eq}
 use Rattle.live_table.specs.declared.handle.Handle.{Handle}
 use Rattle.live_table.specs.declared.live.Live.{Live}
 use Rattle.live_table.specs.Entries.{slot_of, has, live_at, entry_at, least_from, entered, changed, without, rises}

@@ -1,9 +1,9 @@
 -- What a table keeps, and the entries that its slots hold.
-use Rattle.std.proofs.Common.{◌≡◌, ◌≢◌, ℕ, zero, suc, ◌+◌, ◌<◌, ◌≤◌, Bool, true, false, cond, not, List, [], ◌∷◌, ◌++◌, Option, Some, None, is_none, length, get_or, set, map, refl, sym, ap, ◌∙◌, subst, arith, eq-eqb, ne_eqb, lt-ltb, le-ltb, ◌-◌, sum, slice_index, get_or-set_same, get_or-set_other, length-append, length-set, inl, inr}
-use Rattle.std.specs.List.{All, Any, filter_map, cons_option, sum_by, position}
+use Rattle.std.proofs.Common.{◌≡◌, ◌≢◌, ℕ, zero, suc, ◌+◌, ◌<◌, ◌≤◌, Bool, true, false, List, [], ◌∷◌, ◌++◌, Option, Some, None, is_none, length, get_or, set, refl, sym, ap, ◌∙◌, subst, arith, eq-eqb, ne_eqb, lt-ltb, le-ltb, ◌-◌, sum, slice_index, get_or-set_same, get_or-set_other, length-set, inl, inr}
+use Rattle.std.specs.List.{All, Any, cons_option, position}
 use Rattle.std.specs.Option.{option_to_list}
 use Rattle.std.proofs.lemmas.Bool.{and_from, cases_eq, cases_lt}
-use Rattle.std.proofs.lemmas.List.{get_or_past, get_or_read, set-get_or, map-set, map_push, get_or_push, get_or_append_left, length_push, get_or-map}
+use Rattle.std.proofs.lemmas.List.{get_or_past, get_or_read, set-get_or, map-set, map_push, length_push}
 use Rattle.std.proofs.lemmas.List.Elements.{All-cons}
 use Rattle.std.proofs.lemmas.List.Quantifiers.{position-Some}
 use Rattle.std.proofs.lemmas.List.Sums.{sum_by-set, sum_by_push}

@@ -1,5 +1,5 @@
 -- What a table keeps: the slots that were given, and numbers that are known from them.
-use Rattle.std.specs.Prelude.{◌≡◌, ℕ, ◌+◌, ◌<◌, ◌≤◌, Bool, true, false, if◌then◌else◌, nat_lt, List, [], ◌∷◌, ◌++◌, length, map, get_or, Option, Some, None, is_none, slice_index_or}
+use Rattle.std.specs.Prelude.{◌≡◌, ℕ, ◌+◌, ◌<◌, ◌≤◌, Bool, true, false, if◌then◌else◌, nat_lt, List, [], ◌∷◌, ◌++◌, length, map, Some, None, is_none, slice_index_or}
 use Rattle.std.specs.List.{filter_map, sum}
 use Rattle.live_table.specs.declared.live.Live.{Live}
 use Rattle.live_table.specs.declared.slot.Slot.{Slot}

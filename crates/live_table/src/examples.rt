@@ -15,14 +15,11 @@ fn slots_are_given_again()
     ensures gives { (b : Bounds) (m : Masks) → (given_again b m).gives ≡ 2 ∷ 2 ∷ 1 ∷ [] }
     ensures order { (b : Bounds) (m : Masks) → rises (given_again b m).entries ≡ true }
     ensures stale { (b : Bounds) (m : Masks) → entry_at (under 1 0) (given_again b m).entries ≡ None }
-    ensures unchanged {
-        (b : Bounds) (m other : Masks) → after_set_masks (given_again b m) (under 1 0) other ≡ given_again b m }
-{
-}
+    ensures unchanged { (b : Bounds) (m other : Masks) → after_set_masks (given_again b m) (under 1 0) other ≡ given_again b m }
+{}
 
 // Each of two boxes has to see the other.
 fn both_have_to_see()
     ensures both { may (record { is = 1; sees = 2 }) (record { is = 2; sees = 1 }) ≡ true }
     ensures one { may (record { is = 1; sees = 2 }) (record { is = 2; sees = 2 }) ≡ false }
-{
-}
+{}

@@ -1,4 +1,4 @@
-use Rattle.std.proofs.Common.{◌≡◌, ◌<◌, false, arith, length, set, sym, subst, ◌∙◌}
+use Rattle.std.proofs.Common.{◌≡◌, ◌<◌, arith, length, sym, subst, ◌∙◌}
 use Rattle.live_table.specs.Slots.{IsLeastVacant}
 use Rattle.live_table.proofs.MarkLemmas.{none_marked}
 use Rattle.live_table.proofs.SlotLemmas.{least_marked, least_next, opened_marked, unmarked_stays}

@@ -1,4 +1,4 @@
-use Rattle.std.proofs.Common.{◌≡◌, ℕ, ◌/◌, ◌∙◌, get_or, length, ap, arith}
+use Rattle.std.proofs.Common.{◌≡◌, ◌/◌, ◌∙◌, get_or, ap, arith}
 use Rattle.live_table.proofs.MarkLemmas.{length-marks_of, unmarked, zeros}
 use Rattle.live_table.proofs.freed_slots.FreedSlots.new.Goals as goal
 

@@ -1,4 +1,4 @@
-use Rattle.std.proofs.Common.{◌≡◌, ◌<◌, arith, length, get_or, ap, sym, subst, ◌∙◌, None}
+use Rattle.std.proofs.Common.{◌≡◌, ◌<◌, arith, length, ap, sym, subst, ◌∙◌, None}
 use Rattle.std.proofs.lemmas.List.{get_or_read, get_or_past}
 use Rattle.live_table.specs.Entries.{live_at}
 use Rattle.live_table.specs.Slots.{never_given}

@@ -1,12 +1,10 @@
-use Rattle.std.proofs.Common.{◌≡◌, ℕ, Bool, false, ◌+◌, ◌<◌, ◌≤◌, List, Some, arith, length, get_or, set, sum, ap, sym, subst, ◌∙◌, refl}
+use Rattle.std.proofs.Common.{◌≡◌, ℕ, Bool, false, ◌+◌, List, Some, arith, length, get_or, set, sum, ap, sym, subst, ◌∙◌, refl}
 use Rattle.fixed_box.specs.Bounds.{Bounds}
-use Rattle.live_table.specs.declared.handle.Handle.{Handle}
 use Rattle.live_table.specs.declared.masks.Masks.{Masks}
-use Rattle.live_table.specs.declared.live.Live.{Live}
 use Rattle.live_table.specs.declared.slot.Slot.{Slot}
 use Rattle.live_table.specs.Entries.{IsLeastFree}
-use Rattle.live_table.specs.Slots.{never_given, opened, entries_of, gives_of, IsKept, IsLeastVacant}
-use Rattle.live_table.specs.Table.{Table, next_handle, after_give, IsTable}
+use Rattle.live_table.specs.Slots.{opened, entries_of, gives_of, IsKept, IsLeastVacant}
+use Rattle.live_table.specs.Table.{next_handle, after_give, IsTable}
 use Rattle.live_table.proofs.SlotLemmas.{table_in, table_of, len_full, len_le, not_full, opened_place, gives_le, next_is, given_is, kept_give, give_sum, least_free_so}
 use Rattle.live_table.proofs.table.LiveTable.give.Goals as goal
 

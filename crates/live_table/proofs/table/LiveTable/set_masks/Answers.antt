@@ -1,4 +1,4 @@
-use Rattle.std.proofs.Common.{◌≡◌, ◌<◌, Some, arith, length, ap, sym, ◌∙◌, refl}
+use Rattle.std.proofs.Common.{arith, ap, sym, ◌∙◌, refl}
 use Rattle.live_table.specs.Table.{after_set_masks}
 use Rattle.live_table.proofs.EntryLemmas.{changed_none, has_found}
 use Rattle.live_table.proofs.SlotLemmas.{table_of, found_in, within_from_live, place_gives, changed_is, kept_change}

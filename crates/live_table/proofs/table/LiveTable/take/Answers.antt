@@ -1,4 +1,4 @@
-use Rattle.std.proofs.Common.{◌≡◌, ◌<◌, Some, None, arith, length, ap, sym, ◌∙◌, refl}
+use Rattle.std.proofs.Common.{None, arith, ap, sym, ◌∙◌, refl}
 use Rattle.live_table.specs.Table.{after_take}
 use Rattle.live_table.proofs.EntryLemmas.{without_none, has_found}
 use Rattle.live_table.proofs.SlotLemmas.{table_of, found_in, within_from_live, place_gives, taken_is, kept_take}
