@@ -1,13 +1,13 @@
 -- What comes next of the bytes that are coming, and what an answer says.
-use Rattle.std.specs.Prelude.{ℕ, ◌+◌, Bool, true, false, nat_le, nat_lt, List, [], ◌∷◌, length, if◌then◌else◌}
+use Rattle.std.specs.Prelude.{ℕ, ◌+◌, Bool, true, false, ◌==◌, nat_le, nat_lt, List, length, if◌then◌else◌}
 use Rattle.scene_lines.specs.declared.next.Next.{Next}
 use Rattle.scene_lines.specs.declared.next.Next.TheVariants.{Line, End, Long, TooMany, ReadFault}
 use Rattle.scene_lines.specs.SceneLines.{line_ahead}
 
 -- The answer at bytes with which the input ends, after so many lines. A line past the limit is refused whatever its length.
 abbrev pub answer_at : ℕ → ℕ → List ℕ → Next
-answer_at limit number [] = End
-answer_at limit number (b ∷ bs) = if nat_le limit number then TooMany else if nat_lt 1024 (length (line_ahead (b ∷ bs))) then Long else Line
+answer_at limit number bytes =
+    if length bytes == 0 then End else if nat_le limit number then TooMany else if nat_lt 1024 (length (line_ahead bytes)) then Long else Line
 
 -- the number of the last line, or of the line refused
 abbrev pub number_after : Next → ℕ → ℕ

@@ -87,6 +87,7 @@ impl LineBuffer {
         ensures unsettled { OnErr result ((has_feed self.new.held ≡ false) × (length self.new.held ≤ most)) }
         ensures coming { coming self.new.held (S.left source.new) ≡ coming self.old.held (S.left source.old) }
         ensures line { self.new.line ≡ self.old.line }
+        ensures small { length self.new.held ≤ 65536 }
         ensures at_end { self.new.over ≡ true → IfSome (S.left source.new) (λ left. left ≡ []) }
         ensures over { self.old.over ≡ true → (source.new ≡ source.old) × (self.new ≡ self.old) }
         ensures found { has_feed self.old.held ≡ true → (source.new ≡ source.old) × (self.new ≡ self.old) }

@@ -1,6 +1,6 @@
-ghost use Rattle.std.specs.Prelude.{◌≡◌, ◌≢◌, ◌+◌, ◌-◌, ◌^◌, ◌<◌, ◌≤◌, ◌∷◌, [], length, true, false, IfOk, IfSome, option_map};
+ghost use Rattle.std.specs.Prelude.{◌≡◌, ◌≢◌, ◌+◌, ◌-◌, ◌^◌, ◌<◌, ◌≤◌, ◌∷◌, [], length, true, false, IfOk, IfSome, option_map, nat_lt, if◌then◌else◌};
 ghost use Rattle.scene_lines.specs.Next.{answer_at, number_after, is_last, OnLine, OnLast, OnFault, UnlessFault};
-ghost use Rattle.scene_lines.specs.Reading.{coming};
+ghost use Rattle.scene_lines.specs.Reading.{coming, IsSound};
 ghost use Rattle.scene_lines.specs.SceneLines.{lines, has_feed, length_ahead, line_ahead, past_line};
 
 use crate::line_buffer::{line_len, LineBuffer};
@@ -23,14 +23,13 @@ pub struct LineReader {
 }
 
 impl Model for LineReader {
-    ghost use Rattle.std.specs.Prelude.{◌+◌, ◌≤◌};
-    ghost use Rattle.scene_lines.specs.Reading.{Reading};
+    ghost use Rattle.scene_lines.specs.Reading.{Reading, IsSound};
 
     ghost Value = { Reading };
 
     ghost view = { λ r. record { limit = r.limit; line = r.buffer.line; number = r.number; ended = r.ended; over = r.buffer.over; held = r.buffer.held } };
 
-    ghost invariant = { λ r. (r.limit ≤ 268435456) × (r.number ≤ r.limit + 1) };
+    ghost invariant = { λ r. IsSound record { limit = r.limit; line = r.buffer.line; number = r.number; ended = r.ended; over = r.buffer.over; held = r.buffer.held } };
 }
 
 impl LineReader {
@@ -96,20 +95,69 @@ impl LineReader {
         ensures long_unread { 1025 < length self.old.held → source.new ≡ source.old }
         ensures too_many_unread { self.old.limit ≤ self.old.number → 0 < length self.old.held → source.new ≡ source.old }
     {
-        let most = if self.number < self.limit { LONGEST + 1 } else { 0 };
-        let next = match self.buffer.seek(source, most) {
+        let most = self.most_unsettled();
+        match self.buffer.seek(source, most) {
             Ok(len) => self.settle(len),
-            Err(Failed) => Next::ReadFault,
-        };
-        self.ended = !matches!(next, Next::Line);
+            Err(Failed) => {
+                self.ended = true;
+                Next::ReadFault
+            }
+        }
+    }
+
+    // How many bytes may be held with no line feed among them, and not settle the answer: none past the limit, and else
+    // those of the longest line with a carriage return.
+    fn most_unsettled(&self) -> usize
+        ensures { result ≡ (if nat_lt self.now.number self.now.limit then 1025 else 0) }
+    {
+        if self.number < self.limit {
+            LONGEST + 1
+        } else {
+            0
+        }
+    }
+
+    // Answers the bytes held, `len` of which stand before the first line feed, and hands out their first line.
+    fn settle(&mut self, len: usize) -> Next
+        requires ahead { len ≡ length_ahead self.old.held }
+        requires open { self.old.ended ≡ false }
+        ensures answer { result ≡ answer_at self.old.limit self.old.number self.old.held }
+        ensures line { OnLine result (self.new ≡ record self.old { line = line_ahead self.old.held; held = past_line self.old.held; number = self.old.number + 1 }) }
+        ensures last { OnLast result (self.new ≡ record self.old { number = number_after result self.old.number; ended = true }) }
+        ensures sound { IsSound self.new }
+    {
+        let next = self.answer(len);
+        match next {
+            Next::Line => {
+                self.buffer.hand_out(len);
+                self.number += 1;
+            }
+            Next::Long | Next::TooMany => {
+                self.number += 1;
+                self.ended = true;
+            }
+            Next::End | Next::ReadFault => self.ended = true,
+        }
         next
     }
 
-    // Answers the bytes held, of which `len` stand before the first line feed, and hands out their first line.
-    fn settle(&mut self, len: usize) -> Next
-        requires ahead { len ≡ length_ahead self.old.held }
+    // The answer at the bytes held, `len` of which stand before the first line feed.
+    fn answer(&self, len: usize) -> Next
+        requires { len ≡ length_ahead self.now.held }
+        ensures answer { result ≡ answer_at self.now.limit self.now.number self.now.held }
+        ensures short { OnLine result (length (line_ahead self.now.held) ≤ 1024) }
+        ensures within { OnLine result (self.now.number < self.now.limit) }
     {
-        Next::End
+        let held = self.buffer.held();
+        if held.is_empty() {
+            Next::End
+        } else if self.number >= self.limit {
+            Next::TooMany
+        } else if line_len(held, len) > LONGEST {
+            Next::Long
+        } else {
+            Next::Line
+        }
     }
 
     /// The last line handed out, without its end. Empty before the first.
