@@ -1,9 +1,9 @@
 -- Bytes cut at line feeds: the first line, and what follows it.
-use Rattle.std.proofs.Common.{◌≡◌, ℕ, zero, suc, ◌+◌, ◌<◌, ◌≤◌, Bool, true, false, cond, not, ◌||◌, List, [], ◌∷◌, ◌++◌, length, take, drop, refl, sym, ap, ◌∙◌, arith, nat_eq, ⊎_elim, get_or, slice_index}
-use Rattle.std.specs.List.{slice_split, position_or_len, before_first, after_first, onto_first, list_any}
+use Rattle.std.proofs.Common.{◌≡◌, ℕ, zero, suc, ◌+◌, ◌<◌, ◌≤◌, Bool, true, false, cond, not, ◌||◌, List, [], ◌∷◌, ◌++◌, length, take, drop, refl, sym, ap, ◌∙◌, arith, ⊎_elim, slice_index}
+use Rattle.std.specs.List.{slice_split, position_or_len, before_first, after_first, onto_first}
 use Rattle.std.specs.Str.Lines.{strip_carriage_return}
-use Rattle.std.proofs.lemmas.Bool.{cases_lt, cases_Bool, cond_both}
-use Rattle.std.proofs.lemmas.List.{length-drop, length-take, take_all, drop_all, take-append-le, drop-append-le, length-append, take-append-drop}
+use Rattle.std.proofs.lemmas.Bool.{cases_lt, cases_Bool}
+use Rattle.std.proofs.lemmas.List.{length-drop, take_all, drop_all, take-append-le, drop-append-le, length-append, take-append-drop}
 use Rattle.std.proofs.lemmas.List.Sums.{position_or_len_is, prefix_len-le-length}
 use Rattle.std.proofs.lemmas.List.Splits.{slice_split_first}
 use Rattle.memchr.specs.Find.{NoneBefore, Nowhere, Passes, is_byte}
@@ -50,9 +50,9 @@ pub lines_first : (bs : List ℕ) → 0 < length bs → lines bs true ≡ line_a
 lines_first bs some =
     ⊎_elim (λ h. lines_at_feed true bs h)
     (λ h.
-        let all : take (length_ahead bs) bs ≡ bs = take_all (length_ahead bs) bs h in
-        let none : drop (length_ahead bs + 1) bs ≡ [] = drop_all (length_ahead bs + 1) bs (omega arith) in
-        lines_without_feed bs some h ∙ rw (all, none) refl)
+    let all : take (length_ahead bs) bs ≡ bs = take_all (length_ahead bs) bs h in
+    let none : drop (length_ahead bs + 1) bs ≡ [] = drop_all (length_ahead bs + 1) bs (omega arith) in
+    lines_without_feed bs some h ∙ rw (all, none) refl)
     (cases_lt (length_ahead bs) (length bs))
 
 -- what follows a line feed doesn't move it
@@ -91,10 +91,10 @@ lines_prefix zero front rest small =
 lines_prefix (suc n) front rest small =
     ⊎_elim
     (λ h.
-        let later = lines_prefix n (past_line front) rest (omega (arith, length-drop (length_ahead front + 1) front)) in
-        let whole : lines (front ++ rest) true ≡ line_ahead front ∷ lines (past_line front ++ rest) true =
-        lines_at_feed true (front ++ rest) (omega (arith, length_ahead-append front rest h, length-append front rest)) ∙ rw (line_ahead-append front rest h, past_line-append front rest h) refl in
-        rw (lines_at_feed false front h, whole) (later.0, ap (λ ls. line_ahead front ∷ ls) later.1))
+    let later = lines_prefix n (past_line front) rest (omega (arith, length-drop (length_ahead front + 1) front)) in
+    let whole : lines (front ++ rest) true ≡ line_ahead front ∷ lines (past_line front ++ rest) true =
+    lines_at_feed true (front ++ rest) (omega (arith, length_ahead-append front rest h, length-append front rest)) ∙ rw (line_ahead-append front rest h, past_line-append front rest h) refl in
+    rw (lines_at_feed false front h, whole) (later.0, ap (λ ls. line_ahead front ∷ ls) later.1))
     (λ h. rw (lines_unended front h) (lines (front ++ rest) true, refl))
     (cases_lt (length_ahead front) (length front))
 

@@ -1,8 +1,8 @@
 -- Ranges of a buffer, and bytes known to come.
-use Rattle.std.proofs.Common.{◌≡◌, ℕ, ◌+◌, ◌-◌, ◌<◌, ◌≤◌, min, List, [], ◌∷◌, ◌++◌, length, take, drop, refl, ⊎_elim, sym, ap, ◌∙◌, arith, Some, None, slice_range, append-nil, nat_eq, true}
+use Rattle.std.proofs.Common.{◌≡◌, ℕ, ◌+◌, ◌-◌, ◌≤◌, min, List, ◌++◌, length, take, drop, refl, ⊎_elim, sym, ap, ◌∙◌, arith, Some, None, slice_range, append-nil, nat_eq, true}
 use Rattle.std.specs.Prelude.{Option}
 use Rattle.std.specs.Io.KnownBytes.{prepend_known}
-use Rattle.std.proofs.lemmas.List.{take-take, drop-drop, drop-take, append_assoc, take-append-drop, length-drop, length-take, take_all, drop_all, take_at}
+use Rattle.std.proofs.lemmas.List.{take-take, drop-drop, drop-take, append_assoc, take-append-drop, length-take, take_all, drop_all, take_at}
 use Rattle.std.proofs.lemmas.Bool.{cases_lt, eqb-true}
 use Rattle.std.proofs.lemmas.Slice.{between_is}
 
@@ -15,13 +15,13 @@ pub range_back : (xs : List ℕ) (at end n : ℕ) → at ≤ end → slice_range
 range_back xs at end n h =
     ⊎_elim
     (λ below.
-        let here : min (at + n + 1) end ≡ at + (n + 1) = omega arith in
-        let len : end - at ≡ n + 1 + (end - (at + (n + 1))) = omega arith in
-        rw (here, len, drop-take (n + 1) (end - (at + (n + 1))) (drop at xs), drop-drop (n + 1) at xs) refl)
+    let here : min (at + n + 1) end ≡ at + (n + 1) = omega arith in
+    let len : end - at ≡ n + 1 + (end - (at + (n + 1))) = omega arith in
+    rw (here, len, drop-take (n + 1) (end - (at + (n + 1))) (drop at xs), drop-drop (n + 1) at xs) refl)
     (λ past.
-        let here : min (at + n + 1) end ≡ end = omega arith in
-        let none : end - end ≡ 0 = omega arith in
-        rw (here, none) (sym (drop_all (n + 1) (take (end - at) (drop at xs)) (omega (arith, length-take (end - at) (drop at xs))))))
+    let here : min (at + n + 1) end ≡ end = omega arith in
+    let none : end - end ≡ 0 = omega arith in
+    rw (here, none) (sym (drop_all (n + 1) (take (end - at) (drop at xs)) (omega (arith, length-take (end - at) (drop at xs))))))
     (cases_lt (at + n + 1) end)
 
 -- a range of the bytes that stay

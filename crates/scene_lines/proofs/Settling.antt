@@ -2,13 +2,13 @@
 use Rattle.std.proofs.Common.{◌≡◌, ℕ, ◌+◌, ◌-◌, ◌<◌, ◌≤◌, Bool, true, false, cond, List, [], ◌∷◌, ◌++◌, length, take, refl, sym, ap, ◌∙◌, subst, arith, nat_eq, nat_lt, nat_le, inl, inr, ⊎_elim, ◌⊎◌, Some, None, IfSome, Option, slice_index, append-nil}
 use Rattle.std.specs.Option.{option_map}
 use Rattle.std.specs.Str.Lines.{strip_carriage_return}
-use Rattle.std.proofs.lemmas.Bool.{cases_Bool, cases_lt, cond_both, ne_eqb, eqb-false, leb-false, ltb-false, lt-ltb, le-ltb, lt-leb, le-leb}
+use Rattle.std.proofs.lemmas.Bool.{cases_Bool, cases_lt, cond_both, ne_eqb, eqb-false, leb-false, ltb-false, lt-ltb, le-leb}
 use Rattle.std.proofs.lemmas.List.{length-take, length-append}
 use Rattle.scene_lines.specs.declared.next.Next.{Next}
 use Rattle.scene_lines.specs.declared.next.Next.TheVariants.{Line, End, Long, TooMany, ReadFault}
 use Rattle.scene_lines.specs.Next.{answer_at, OnLine, UnlessFault}
 use Rattle.scene_lines.specs.Reading.{coming}
-use Rattle.scene_lines.specs.SceneLines.{lines, is_feed, has_feed, length_ahead, line_ahead, past_line}
+use Rattle.scene_lines.specs.SceneLines.{lines, has_feed, length_ahead, line_ahead, past_line}
 use Rattle.scene_lines.proofs.Cutting.{length_ahead-append, length_ahead-le, length_ahead-within, line_ahead-append, past_line-append, no_feed_below, feed_below, lines_first}
 
 -- a line is shorter by one carriage return at most
@@ -53,8 +53,8 @@ module _ (limit number : ℕ) where
       answer_some xs (omega (arith, length_ahead-within xs))
       ∙ ⊎_elim
       (λ within.
-          let enough : most ≡ 1025 = rw (lt-ltb number limit within) refl in
-          rw (lt-ltb 1024 (length (line_ahead xs)) (omega (arith, line_ahead_len xs, enough))) refl)
+      let enough : most ≡ 1025 = rw (lt-ltb number limit within) refl in
+      rw (lt-ltb 1024 (length (line_ahead xs)) (omega (arith, line_ahead_len xs, enough))) refl)
       (λ past. rw (le-leb limit number past) refl)
       (cases_lt number limit)
 
@@ -66,7 +66,7 @@ module _ (limit number : ℕ) where
   answer_settled held more over =
       ⊎_elim
       (λ ends.
-          answer_some (held ++ more) (omega (arith, length-append held more)) ∙ rw (line_ahead-append held more ends) (sym (answer_some held (omega arith))))
+      answer_some (held ++ more) (omega (arith, length-append held more)) ∙ rw (line_ahead-append held more ends) (sym (answer_some held (omega arith))))
       (⊎_elim (λ none. let nothing = none.0 in rw nothing (ap (answer_at limit number) (append-nil held)))
       (λ many. answer_refused (held ++ more) (length held) many.1 (length_ahead-le held more many.0) ∙ sym (answer_refused held (length held) many.1 many.0)))
 
@@ -132,9 +132,9 @@ module _ (limit number : ℕ) where
         some = omega (arith, settled.0);
         line = ⊎_elim (λ ends. line_ahead-append held more ends) (λ none. ap line_ahead (ap (λ bytes. held ++ bytes) none.0 ∙ append-nil held)) settled.1;
         rest = ⊎_elim (λ ends. past_line-append held more ends)
-          (λ none. ap past_line (ap (λ bytes. held ++ bytes) none.0 ∙ append-nil held) ∙ sym (ap (λ bytes. past_line held ++ bytes) none.0 ∙ append-nil (past_line held))) settled.1;
+            (λ none. ap past_line (ap (λ bytes. held ++ bytes) none.0 ∙ append-nil held) ∙ sym (ap (λ bytes. past_line held ++ bytes) none.0 ∙ append-nil (past_line held))) settled.1;
         at_end = λ no_feed.
-          ⊎_elim (λ ends. absurd (omega (arith, no_feed_below (held ++ more) no_feed, length_ahead-append held more ends, len))) (λ none. none.1) settled.1;
+            ⊎_elim (λ ends. absurd (omega (arith, no_feed_below (held ++ more) no_feed, length_ahead-append held more ends, len))) (λ none. none.1) settled.1;
       }
 
   module _ (held : List ℕ) (over : Bool) (line rest : List ℕ) (after : Bool) where

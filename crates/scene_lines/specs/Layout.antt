@@ -1,5 +1,5 @@
 -- Where the last line and the bytes held stand in a buffer of 65,536 bytes.
-use Rattle.std.specs.Prelude.{ℕ, ◌+◌, ◌≤◌}
+use Rattle.std.specs.Prelude.{◌+◌, ◌≤◌}
 use Rattle.scene_lines.specs.declared.layout.Layout.{Layout}
 
 -- The last line has at most 1,024 bytes. The bytes held begin past its end, which has at most two.

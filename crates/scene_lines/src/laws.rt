@@ -7,5 +7,4 @@ pub fn line_laws()
     ensures first { (bytes : List ℕ) → 0 < length bytes → lines bytes true ≡ line_ahead bytes ∷ lines (past_line bytes) true }
     // The lines that have ended already stay as they are, whatever bytes follow.
     ensures prefix { (front whole : List ℕ) → IsPrefix front whole → IsPrefix (lines front false) (lines whole true) }
-{
-}
+{}

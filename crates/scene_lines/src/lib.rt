@@ -10,4 +10,3 @@ mod next;
 pub use laws::line_laws;
 pub use line_reader::LineReader;
 pub use next::Next;
-

@@ -3,7 +3,7 @@ ghost use Rattle.play_io.specs.Source.{TakesNext, IsReadOf, ReadCount, CountsFau
 ghost use Rattle.scene_lines.specs.Reading.{coming};
 ghost use Rattle.scene_lines.specs.SceneLines.{has_feed, length_ahead, line_ahead, past_line};
 
-use crate::layout::{make_room, Layout, CAPACITY};
+use crate::layout::{CAPACITY, Layout, make_room};
 use fixed_box::NoMemory;
 use memchr::memchr;
 use play_io::{Failed, Source};
@@ -75,11 +75,7 @@ impl LineBuffer {
 
     /// Reads until the bytes held have a line feed, are more than `most`, or the input has ended. Answers how many of
     /// them stand before the first line feed.
-    pub(crate) fn seek<S: Source>(
-        &mut self,
-        source: &mut S,
-        most: usize,
-    ) -> Result<usize, Failed>
+    pub(crate) fn seek<S: Source>(&mut self, source: &mut S, most: usize) -> Result<usize, Failed>
         requires few { most ≤ 1025 }
         requires at_end { self.old.over ≡ true → IfSome (S.left source.old) (λ left. left ≡ []) }
         ensures ahead { IfOk result (λ len. len ≡ length_ahead self.new.held) }

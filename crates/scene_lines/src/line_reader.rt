@@ -3,8 +3,8 @@ ghost use Rattle.scene_lines.specs.Next.{answer_at, number_after, is_last, OnLin
 ghost use Rattle.scene_lines.specs.Reading.{coming, IsSound};
 ghost use Rattle.scene_lines.specs.SceneLines.{lines, has_feed, length_ahead, line_ahead, past_line};
 
-use crate::line_buffer::{line_len, LineBuffer};
 use crate::Next;
+use crate::line_buffer::{LineBuffer, line_len};
 use fixed_box::NoMemory;
 use play_io::{Failed, Source};
 use std::alloc::Global;

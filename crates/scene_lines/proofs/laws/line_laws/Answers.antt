@@ -1,4 +1,4 @@
-use Rattle.std.proofs.Common.{length, le_refl, ◌≡◌, true, List, ℕ, subst, sym, false}
+use Rattle.std.proofs.Common.{length, le_refl, true, List, ℕ, subst, sym, false}
 use Rattle.scene_lines.specs.SceneLines.{lines, IsPrefix}
 use Rattle.scene_lines.proofs.Cutting.{lines_first, lines_prefix}
 use Rattle.scene_lines.proofs.laws.line_laws.Goals as goal

@@ -1,4 +1,4 @@
-use Rattle.std.proofs.Common.{◌≡◌, ◌+◌, length, arith, ap, ◌∙◌}
+use Rattle.std.proofs.Common.{◌≡◌, length, arith, ap}
 use Rattle.scene_lines.specs.SceneLines.{length_ahead}
 use Rattle.scene_lines.proofs.Cutting.{length_ahead-within, length_ahead-drop, length_ahead_found, length_ahead_missed}
 use Rattle.scene_lines.proofs.line_buffer.place_of_feed.Goals as goal

@@ -1,6 +1,6 @@
-use Rattle.std.proofs.Common.{◌≡◌, ◌+◌, ◌-◌, ◌≤◌, length, take, drop, min, refl, sym, ap, ◌∙◌, arith, slice_range}
+use Rattle.std.proofs.Common.{◌≡◌, ◌+◌, ◌-◌, ◌≤◌, length, take, drop, sym, ap, ◌∙◌, arith, slice_range}
 use Rattle.std.proofs.lemmas.List.{length-take}
-use Rattle.scene_lines.specs.SceneLines.{length_ahead, line_ahead, past_line}
+use Rattle.scene_lines.specs.SceneLines.{line_ahead, past_line}
 use Rattle.scene_lines.proofs.Cutting.{length_ahead-within}
 use Rattle.scene_lines.proofs.Ranges.{range_front, range_back}
 use Rattle.scene_lines.proofs.line_buffer.LineBuffer.hand_out.Goals as goal

@@ -1,4 +1,4 @@
-use Rattle.std.proofs.Common.{◌≡◌, arith, ap, ◌∙◌}
+use Rattle.std.proofs.Common.{arith, ap, ◌∙◌}
 use Rattle.std.proofs.lemmas.List.{take_at}
 use Rattle.std.proofs.lemmas.Result.{err_from_is_err_and}
 use Rattle.scene_lines.proofs.Ranges.{range_through, coming_read, kept_read, none_read, coming_same, kept_same}
@@ -20,8 +20,11 @@ returns-in_err-count-clause-kept g c = kept_same _ _ (range_through _ _ _ _ _ _ 
 pub returns-in_err-count-clause-err : goal.returns-in_err-count-clause-err
 returns-in_err-count-clause-err g c =
     let p = err_from_is_err_and c.from_residual.result c.from_residual.ensures.1 in
-    rw p.1 (range_through _ _ _ _ _ _ _ _ _ _ _ _ c.deref_mut.ensures.value (c.make_room-self-inside.auto.bytes ∙ c.deref_mut.ensures.len) c.make_room-self-inside.ensures.held
-    c.deref_mut-2.ensures.value (c.fill.auto.bytes ∙ c.deref_mut-2.ensures.len) c.fill.ensures.kept (omega (arith, c.make_room-self-inside.ensures.laid_out)) ∙ ap (λ b. b.held) c.self.view_is, ap (λ b. b.over) c.self.view_is)
+    rw p.1 (
+      range_through _ _ _ _ _ _ _ _ _ _ _ _ c.deref_mut.ensures.value (c.make_room-self-inside.auto.bytes ∙ c.deref_mut.ensures.len) c.make_room-self-inside.ensures.held
+          c.deref_mut-2.ensures.value (c.fill.auto.bytes ∙ c.deref_mut-2.ensures.len) c.fill.ensures.kept (omega (arith, c.make_room-self-inside.ensures.laid_out)) ∙ ap (λ b. b.held) c.self.view_is,
+      ap (λ b. b.over) c.self.view_is,
+    )
 
 pub returns-clause-line : goal.returns-clause-line
 returns-clause-line g c =

@@ -1,4 +1,4 @@
-use Rattle.std.proofs.Common.{rules, ◌≡◌, ◌≤◌, ◌<◌, arith, ap, sym, ◌∙◌, length, false}
+use Rattle.std.proofs.Common.{◌≡◌, arith, ap, sym, ◌∙◌, length}
 use Rattle.std.proofs.lemmas.Result.{err_from_is_err_and}
 use Rattle.std.proofs.lemmas.Bool.{false≢true}
 use Rattle.scene_lines.specs.Reading.{Buffered}
