@@ -1,0 +1,4 @@
+pub mod Layout
+pub mod Next
+pub mod Reading
+pub mod SceneLines
