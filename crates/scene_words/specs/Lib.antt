@@ -1,0 +1,4 @@
+pub mod Reads
+pub mod SceneWords
+pub mod Values
+pub mod Verbs
