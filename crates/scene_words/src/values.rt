@@ -1,7 +1,7 @@
 ghost use Rattle.std.specs.Prelude.{◌≡◌, ◌<◌, ◌≤◌, ◌^◌, ◌==◌, not, length, if◌then◌else◌, IfSome};
-ghost use Rattle.std.specs.List.{prefix_len};
+ghost use Rattle.std.specs.List.{prefix_len, before_first, after_first};
 ghost use Rattle.std.specs.Str.Parse.{digits_value};
-ghost use Rattle.scene_words.specs.Values.{is_numeral, number_of_word, index_of_digits, handle_of_word, mask_of_word};
+ghost use Rattle.scene_words.specs.Values.{is_numeral, number_of_word, index_of_digits, is_colon, handle_of_word, mask_of_word};
 
 use crate::LineFault;
 use fixed_box::{Fix, FixFault, read_fix};
@@ -22,10 +22,7 @@ pub(crate) fn number_of_word(word: &[u8]) -> Result<Fix, LineFault>
 pub(crate) fn handle_of_word(word: &[u8]) -> Result<Handle, LineFault>
     ensures { result ≡ handle_of_word word.now }
 {
-    let (slot, rest) = word.split_at(colon_place(word));
-    let [_, generation @ ..] = rest else {
-        return Err(LineFault::Handle);
-    };
+    let (slot, generation) = around_colon(word);
     match (index_of_digits(slot), index_of_digits(generation)) {
         (Some(slot), Some(generation)) => Ok(Handle { slot, generation }),
         _ => Err(LineFault::Handle),
@@ -71,6 +68,18 @@ fn numeral(radix: u32, most: usize, text: &[u8]) -> Option<u64>
         value = value * u64::from(radix) + u64::from(digit);
     }
     Some(value)
+}
+
+// What stands before the first colon and what stands after it, or all and nothing where there is none.
+fn around_colon(word: &[u8]) -> (&[u8], &[u8])
+    ensures before { result.0.now ≡ before_first is_colon word.now }
+    ensures after { result.1.now ≡ after_first is_colon word.now }
+{
+    let (before, rest) = word.split_at(colon_place(word));
+    match rest.split_first() {
+        None => (before, rest),
+        Some((_, after)) => (before, after),
+    }
 }
 
 // Where the first colon stands, and the length where there is none.
