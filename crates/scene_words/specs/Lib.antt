@@ -1,3 +1,4 @@
+pub mod Examples
 pub mod Reads
 pub mod SceneWords
 pub mod Values

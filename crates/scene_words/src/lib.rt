@@ -2,6 +2,7 @@
 #![tactic(auto)]
 
 mod command;
+mod examples;
 mod line_fault;
 mod line_words;
 mod reading;
@@ -14,3 +15,5 @@ pub use line_fault::LineFault;
 pub use reading::read_command;
 pub use version::Version;
 
+#[cfg(test)]
+mod tests;
