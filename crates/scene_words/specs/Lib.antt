@@ -1,0 +1,5 @@
+pub mod Examples
+pub mod Reads
+pub mod SceneWords
+pub mod Values
+pub mod Verbs
