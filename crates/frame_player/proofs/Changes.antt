@@ -85,11 +85,12 @@ absent_slot (e ∷ es) slot free = rw (apart slot (slot_of e) (first_so _ _ free
   where
     differ : (k x : ℕ) → not (nat_eq x k) ≡ true → k ≢ x
     differ k x h e = let same : nat_eq x k ≡ true = grind (arith, nat_tests) in cc
+
     apart : (k x : ℕ) → not (nat_eq x k) ≡ true → eq_by_cmp nat_cmp k x ≡ false
     apart k x h = elim (nat_lt k x) as (λ t. nat_lt k x ≡ t → eq_by_cmp nat_cmp k x ≡ false) [
-        | true ↦ λ lt. ap is_eq (less k x (lt_of k x lt))
-        | false ↦ λ ge. let gt : x < k = grind (arith, nat_tests, differ k x h) in ap is_eq (greater k x gt)
-      ] refl
+      | true ↦ λ lt. ap is_eq (less k x (lt_of k x lt))
+      | false ↦ λ ge. let gt : x < k = grind (arith, nat_tests, differ k x h) in ap is_eq (greater k x gt)
+    ] refl
 
 pub indexed_absent : (es : List Live) (slot : ℕ) → rises es ≡ true → IsLeastFree slot es → contains_key (indexed es) slot ≡ false
 indexed_absent es slot r free = ap is_some (get-from_sorted nat_cmp (slots_with_bodies es) slot (sorted es r) ∙ absent_slot es slot (free_slots es slot free.free))
@@ -121,7 +122,7 @@ put_body : (h : Handle) (body : Bounds) (es : List Live) → rises es ≡ true �
 put_body h body [] r some = cc
 put_body h body (e ∷ es) r some =
     elim (has h e) as (λ t. has h e ≡ t → is_some (cond t (Some e) (entry_at h es)) ≡ true
-        → put nat_cmp h.slot body (slots_with_bodies (e ∷ es)) ≡ (slot_of (cond t (record e { body = body }) e), (cond t (record e { body = body }) e).body) ∷ slots_with_bodies (with_body h body es)) [
+    → put nat_cmp h.slot body (slots_with_bodies (e ∷ es)) ≡ (slot_of (cond t (record e { body = body }) e), (cond t (record e { body = body }) e).body) ∷ slots_with_bodies (with_body h body es)) [
       | true ↦ λ is _.
           let same : slot_of e ≡ h.slot = same_slot h e is in
           rw (equal h.slot (slot_of e) (sym same)) (ap (λ xs. (slot_of e, body) ∷ xs) (sym (body_above h body es (subst (λ s. above s es ≡ true) same (first_so _ _ r)))))
@@ -150,9 +151,9 @@ indexed-with_masks h masks es = ap (λ xs. from_sorted {R = nat_cmp} xs) (same e
     same : (es : List Live) → slots_with_bodies (with_masks h masks es) ≡ slots_with_bodies es
     same [] = refl
     same (e ∷ es) = elim (has h e) as (λ t. (slot_of (cond t (record e { masks = masks }) e), (cond t (record e { masks = masks }) e).body) ∷ slots_with_bodies (with_masks h masks es) ≡ (slot_of e, e.body) ∷ slots_with_bodies es) [
-        | true ↦ ap (λ xs. (slot_of e, e.body) ∷ xs) (same es)
-        | false ↦ ap (λ xs. (slot_of e, e.body) ∷ xs) (same es)
-      ]
+      | true ↦ ap (λ xs. (slot_of e, e.body) ∷ xs) (same es)
+      | false ↦ ap (λ xs. (slot_of e, e.body) ∷ xs) (same es)
+    ]
 
 -- a box that is gone
 abbrev other_than : ℕ → ℕ → Bool
@@ -167,7 +168,7 @@ left_out : (h : Handle) (es : List Live) → rises es ≡ true → lives h es �
 left_out h [] r some = cc
 left_out h (e ∷ es) r some =
     elim (has h e) as (λ t. has h e ≡ t → is_some (cond t (Some e) (entry_at h es)) ≡ true
-        → where_key nat_cmp (other_than h.slot) (slots_with_bodies (e ∷ es)) ≡ slots_with_bodies (cond (not t) (e ∷ without h es) (without h es))) [
+    → where_key nat_cmp (other_than h.slot) (slots_with_bodies (e ∷ es)) ≡ slots_with_bodies (cond (not t) (e ∷ without h es) (without h es))) [
       | true ↦ λ is _.
           let same : slot_of e ≡ h.slot = same_slot h e is in
           rw (equal h.slot (slot_of e) (sym same)) (left_above h es (subst (λ s. above s es ≡ true) same (first_so _ _ r)))
@@ -184,7 +185,11 @@ remove-indexed h es r some =
     let xs = slots_with_bodies es in
     let left : T (is_sorted nat_cmp (where_key nat_cmp (other_than h.slot) xs)) = is_sorted-where_key nat_cmp (other_than h.slot) xs (sorted es r) in
     same_map nat_cmp_total nat_cmp-IsAntisymmetric _ _ (λ q.
-        get-remove nat_cmp_total (indexed es) h.slot q ∙ ap (cond (eq_by_cmp nat_cmp q h.slot) None) (get-from_sorted nat_cmp xs q (sorted es r))
-        ∙ ap (λ b. cond b None (find nat_cmp q xs)) ((eq_by_cmp_equiv nat_cmp_total).symm q h.slot) ∙ sym (turned (eq_by_cmp nat_cmp h.slot q) _ _)
-        ∙ sym (get-from_sorted nat_cmp (where_key nat_cmp (other_than h.slot) xs) q left ∙ find-where_key nat_cmp (other_than h.slot) q (λ x t. ap (λ o. not (is_eq o)) (sym (alike_right nat_cmp_total q x h.slot t))) xs))
+    get-remove nat_cmp_total (indexed es) h.slot q ∙ ap (cond (eq_by_cmp nat_cmp q h.slot) None) (get-from_sorted nat_cmp xs q (sorted es r))
+    ∙ ap (λ b. cond b None (find nat_cmp q xs)) ((eq_by_cmp_equiv nat_cmp_total).symm q h.slot) ∙ sym (turned (eq_by_cmp nat_cmp h.slot q) _ _)
+    ∙ sym (get-from_sorted nat_cmp (where_key nat_cmp (other_than h.slot) xs) q left ∙ find-where_key nat_cmp (other_than h.slot) q (λ x t. ap (λ o. not (is_eq o)) (sym (alike_right nat_cmp_total q x h.slot t))) xs))
     ∙ ap (λ ys. from_sorted {R = nat_cmp} ys) (left_out h es r some)
+
+-- an empty index has the boxes of an empty table
+pub opening_boxes : (bodies : FinMap nat_cmp Bounds) → bodies ≡ empty → bodies ≡ indexed []
+opening_boxes bodies e = e ∙ sym indexed-nil

@@ -15,9 +15,9 @@ use Rattle.frame_player.specs.Pairs.{may_touch, partners, pairs_of}
 kept_le : {A : Type 0} (p : A → Bool) (xs : List A) → length (filter p xs) ≤ length xs
 kept_le p [] = omega arith
 kept_le p (x ∷ xs) = elim (p x) as (λ t. length (cond t (x ∷ filter p xs) (filter p xs)) ≤ length (x ∷ xs)) [
-    | true ↦ omega (arith, kept_le p xs)
-    | false ↦ omega (arith, kept_le p xs)
-  ]
+  | true ↦ omega (arith, kept_le p xs)
+  | false ↦ omega (arith, kept_le p xs)
+]
 
 partners_few : (a : Live) (later : List Live) → length (partners a later) ≤ length later
 partners_few a later =
@@ -53,13 +53,13 @@ six_walks f g few_f few_g = omega (arith, few_f (λ p. p.x), few_f (λ p. p.y), 
 pub added_few : (bodies : FinMap nat_cmp Bounds) (slot : ℕ) (body : Bounds) → length (entries bodies) ≤ 8192 → passed_by_add bodies slot body ≤ 98304
 added_few bodies slot body le =
     six_walks (λ axis. count_by (key_lt (min_key axis slot body)) (keys axis (others slot (entries bodies)))) (λ axis. count_by (key_lt (max_key axis slot body)) (keys axis (others slot (entries bodies))))
-      (λ axis. counted_keys (key_lt (min_key axis slot body)) axis slot (entries bodies) le) (λ axis. counted_keys (key_lt (max_key axis slot body)) axis slot (entries bodies) le)
+    (λ axis. counted_keys (key_lt (min_key axis slot body)) axis slot (entries bodies) le) (λ axis. counted_keys (key_lt (max_key axis slot body)) axis slot (entries bodies) le)
 
 moved_few : (old : Option Bounds) (es : List (ℕ × Bounds)) (slot : ℕ) (new : Bounds) → length es ≤ 8192 → passed_from old es slot new ≤ 98304
 moved_few None es slot new le = omega arith
 moved_few (Some old) es slot new le =
     six_walks (λ axis. count_by (is_between (min_key axis slot old) (min_key axis slot new)) (keys axis (others slot es))) (λ axis. count_by (is_between (max_key axis slot old) (max_key axis slot new)) (keys axis (others slot es)))
-      (λ axis. counted_keys (is_between (min_key axis slot old) (min_key axis slot new)) axis slot es le) (λ axis. counted_keys (is_between (max_key axis slot old) (max_key axis slot new)) axis slot es le)
+    (λ axis. counted_keys (is_between (min_key axis slot old) (min_key axis slot new)) axis slot es le) (λ axis. counted_keys (is_between (max_key axis slot old) (max_key axis slot new)) axis slot es le)
 
 pub shifted_few : (bodies : FinMap nat_cmp Bounds) (slot : ℕ) (body : Bounds) → length (entries bodies) ≤ 8192 → passed_by_shift bodies slot body ≤ 98304
 shifted_few bodies slot body le = moved_few (get bodies slot) (entries bodies) slot body le

@@ -15,14 +15,17 @@ use Rattle.broad_index.specs.Near.{near_of, partners as slot_partners}
 use Rattle.broad_index.specs.Found.{found_of, query_meets}
 use Rattle.pair_events.specs.declared.hpair.HPair.{HPair}
 use Rattle.frame_player.specs.Pairs.{may_touch, partners, pairs_of, is_asked_for, hits_of}
-use Rattle.frame_player.specs.Indexed.{slots_with_bodies, touching, listed, listed_of, pair_of}
+use Rattle.broad_index.specs.Near.{near}
+use Rattle.broad_index.specs.Found.{found}
+use Rattle.frame_player.proofs.Changes.{entries-indexed}
+use Rattle.frame_player.specs.Indexed.{indexed, slots_with_bodies, touching, listed, listed_of, pair_of}
 
 filter_map-append : {A B : Type 0} (f : A → Option B) (xs ys : List A) → filter_map f (xs ++ ys) ≡ filter_map f xs ++ filter_map f ys
 filter_map-append f [] ys = refl
 filter_map-append f (x ∷ xs) ys = elim (f x) as (λ o. cons_option o (filter_map f (xs ++ ys)) ≡ cons_option o (filter_map f xs) ++ filter_map f ys) [
-    | None ↦ filter_map-append f xs ys
-    | Some y ↦ ap (λ zs. y ∷ zs) (filter_map-append f xs ys)
-  ]
+  | None ↦ filter_map-append f xs ys
+  | Some y ↦ ap (λ zs. y ∷ zs) (filter_map-append f xs ys)
+]
 
 -- each of some entries is found by its slot
 abbrev AreFound : List Live → List Live → Type 0
@@ -50,11 +53,11 @@ module _ (all : List Live) where
       let rest : filter_map (touching all) (slot_partners (slot_of a) a.body (slots_with_bodies later)) ≡ partners a later = partners_touch a later here found.1 in
       let pair : touching all (record { a = slot_of a; b = slot_of b }) ≡ pair_of (Some a) (Some b) = rw (here, found.0) refl in
       elim (meets a.body b.body) as (λ m. filter_map (touching all) (map (λ e. record { a = slot_of a; b = e.0 }) (cond m ((slot_of b, b.body) ∷ filter (λ e. meets a.body e.1) (slots_with_bodies later)) (filter (λ e. meets a.body e.1) (slots_with_bodies later))))
-          ≡ map (λ x. record { a = a.handle; b = x.handle }) (cond (m && may a.masks b.masks) (b ∷ filter (may_touch a) later) (filter (may_touch a) later))) [
+      ≡ map (λ x. record { a = a.handle; b = x.handle }) (cond (m && may a.masks b.masks) (b ∷ filter (may_touch a) later) (filter (may_touch a) later))) [
         | false ↦ rest
         | true ↦ ap (λ o. cons_option o (filter_map (touching all) (slot_partners (slot_of a) a.body (slots_with_bodies later)))) pair
             ∙ elim (may a.masks b.masks) as (λ t. cons_option (cond t (Some (record { a = a.handle; b = b.handle })) None) (filter_map (touching all) (slot_partners (slot_of a) a.body (slots_with_bodies later)))
-                ≡ map (λ x. record { a = a.handle; b = x.handle }) (cond t (b ∷ filter (may_touch a) later) (filter (may_touch a) later))) [
+            ≡ map (λ x. record { a = a.handle; b = x.handle }) (cond t (b ∷ filter (may_touch a) later) (filter (may_touch a) later))) [
               | true ↦ ap (λ ps. record { a = a.handle; b = b.handle } ∷ ps) rest
               | false ↦ rest
             ]
@@ -72,11 +75,11 @@ module _ (all : List Live) where
   hits_listed query mask (e ∷ es) found =
       let rest : filter_map (listed all mask) (found_of (slots_with_bodies es) query) ≡ hits_of es query mask = hits_listed query mask es found.1 in
       elim (query_meets query e.body) as (λ m. filter_map (listed all mask) (map (λ x. x.0) (cond m ((slot_of e, e.body) ∷ filter (λ x. query_meets query x.1) (slots_with_bodies es)) (filter (λ x. query_meets query x.1) (slots_with_bodies es))))
-          ≡ map (λ x. x.handle) (cond (m && is_asked_for mask e) (e ∷ filter (λ x. query_meets query x.body && is_asked_for mask x) es) (filter (λ x. query_meets query x.body && is_asked_for mask x) es))) [
+      ≡ map (λ x. x.handle) (cond (m && is_asked_for mask e) (e ∷ filter (λ x. query_meets query x.body && is_asked_for mask x) es) (filter (λ x. query_meets query x.body && is_asked_for mask x) es))) [
         | false ↦ rest
         | true ↦ ap (λ o. cons_option (listed_of mask o) (filter_map (listed all mask) (found_of (slots_with_bodies es) query))) found.0
             ∙ elim (is_asked_for mask e) as (λ t. cons_option (cond t (Some e.handle) None) (filter_map (listed all mask) (found_of (slots_with_bodies es) query))
-                ≡ map (λ x. x.handle) (cond t (e ∷ filter (λ x. query_meets query x.body && is_asked_for mask x) es) (filter (λ x. query_meets query x.body && is_asked_for mask x) es))) [
+            ≡ map (λ x. x.handle) (cond t (e ∷ filter (λ x. query_meets query x.body && is_asked_for mask x) es) (filter (λ x. query_meets query x.body && is_asked_for mask x) es))) [
               | true ↦ ap (λ hs. e.handle ∷ hs) rest
               | false ↦ rest
             ]
@@ -88,3 +91,10 @@ touching-near es r = pairs_touch es es (all_found es r)
 
 pub listed-found : (es : List Live) (query : Query) (mask : ℕ) → rises es ≡ true → filter_map (listed es mask) (found_of (slots_with_bodies es) query) ≡ hits_of es query mask
 listed-found es query mask r = hits_listed es query mask es (all_found es r)
+
+-- the same, of the index that has the live boxes
+pub pairs_from_near : (es : List Live) (pairs : List Pair) → rises es ≡ true → pairs ≡ near (indexed es) → filter_map (touching es) pairs ≡ pairs_of es
+pairs_from_near es pairs r e = ap (filter_map (touching es)) (e ∙ ap near_of (entries-indexed es r)) ∙ touching-near es r
+
+pub hits_from_found : (es : List Live) (slots : List ℕ) (query : Query) (mask : ℕ) → rises es ≡ true → slots ≡ found (indexed es) query → filter_map (listed es mask) slots ≡ hits_of es query mask
+hits_from_found es slots query mask r e = ap (filter_map (listed es mask)) (e ∙ ap (λ xs. found_of xs query) (entries-indexed es r)) ∙ listed-found es query mask r

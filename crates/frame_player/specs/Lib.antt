@@ -1,2 +1,5 @@
 pub mod Indexed
 pub mod Pairs
+pub mod Play
+pub mod Player
+pub mod World

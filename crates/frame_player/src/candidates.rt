@@ -1,14 +1,50 @@
-ghost use Rattle.std.specs.Prelude.{◌≡◌, ◌++◌, true, OnOk};
+ghost use Rattle.std.specs.Prelude.{◌≡◌, ◌*◌, ◌≤◌, ◌++◌, [], true, length, OnOk};
 ghost use Rattle.std.specs.List.{filter_map};
-ghost use Rattle.frame_player.specs.Indexed.{touching, listed};
+ghost use Rattle.live_table.specs.Table.{IsTable};
+ghost use Rattle.broad_index.specs.Found.{found};
+ghost use Rattle.broad_index.specs.Near.{near};
+ghost use Rattle.pair_events.specs.PairEvents.{is_in_order};
+ghost use Rattle.frame_player.specs.Indexed.{indexed, touching, listed};
+ghost use Rattle.frame_player.specs.Pairs.{pairs_of, hits_of};
 
-use broad_index::Pair;
+use broad_index::{Pair, Query};
 use fixed_box::NoMemory;
 use live_table::{Handle, LiveTable, may_pair};
 use pair_events::HPair;
 
+// Appends the pairs of live boxes, of those that an index has.
+pub(crate) fn push_pairs(
+    table: &LiveTable,
+    pairs: &[Pair],
+    out: &mut Vec<HPair>,
+) -> Result<(), NoMemory>
+    requires table { IsTable table.now }
+    requires near { pairs.now ≡ near (indexed table.now.entries) }
+    requires none { out.old.items ≡ [] }
+    ensures pairs { OnOk result (out.new.items ≡ pairs_of table.now.entries) }
+    ensures order { OnOk result (is_in_order out.new.items ≡ true) }
+    ensures few { OnOk result (length out.new.items ≤ 8192 * 8192) }
+{
+    push_touching(table, pairs, out)
+}
+
+// Appends the handles of the live boxes that meet a query, of the groups that it asks for, among the slots that an index has found.
+pub(crate) fn push_hits(
+    table: &LiveTable,
+    query: &Query,
+    mask: u32,
+    slots: &[u32],
+    out: &mut Vec<Handle>,
+) -> Result<(), NoMemory>
+    requires table { IsTable table.now }
+    requires found { slots.now ≡ found (indexed table.now.entries) query.now }
+    ensures { OnOk result (out.new.items ≡ out.old.items ++ hits_of table.now.entries query.now mask) }
+{
+    push_listed(table, mask, slots, out)
+}
+
 // Appends the pairs of an index whose masks allow them, in handles.
-pub(crate) fn push_touching(table: &LiveTable, pairs: &[Pair], out: &mut Vec<HPair>) -> Result<(), NoMemory>
+fn push_touching(table: &LiveTable, pairs: &[Pair], out: &mut Vec<HPair>) -> Result<(), NoMemory>
     ensures { OnOk result (out.new.items ≡ out.old.items ++ filter_map (touching table.now.entries) pairs.now) }
 {
     let mut rest = pairs;
@@ -37,7 +73,7 @@ fn touching(table: &LiveTable, pair: &Pair) -> Option<HPair>
 }
 
 // Appends the handles of the slots whose boxes are in one of the groups that are asked for.
-pub(crate) fn push_listed(
+fn push_listed(
     table: &LiveTable,
     mask: u32,
     slots: &[u32],
