@@ -1,3 +1,4 @@
+mod Kept
 pub mod Changes
 pub mod Counts
 pub mod InOrder

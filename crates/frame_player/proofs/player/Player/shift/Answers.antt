@@ -1,10 +1,33 @@
+use Rattle.std.proofs.Common.{ap, ◌∙◌, sym, arith, true}
+use Rattle.std.specs.List.{sum}
+use Rattle.std.specs.FinMap.{contains_key}
+use Rattle.frame_player.proofs.Changes.{indexed_present}
+use Rattle.frame_player.proofs.Counts.{shifted_few}
+use Rattle.frame_player.proofs.Kept.{few_bodies, moved_boxes, on_both, on_given}
 use Rattle.frame_player.proofs.player.Player.shift.Goals as goal
 
 pub shift-requires-clause-present : goal.shift-requires-clause-present
-shift-requires-clause-present g c = ?
+shift-requires-clause-present g c _ =
+    let playing = c.requires.playing in
+    ap (λ b. contains_key b c.args.handle.slot) playing.boxes ∙ indexed_present c.args.handle c.args.self.now.table.entries playing.table.rising (sym c.in-Ok.ensures.known)
 
 pub returns-in-Ok-clause-playing : goal.returns-in-Ok-clause-playing
-returns-in-Ok-clause-playing g c = ?
+returns-in-Ok-clause-playing g c =
+    let playing = c.requires.playing in
+    let moved = c.in-Ok.ensures in
+    on_both c.shift.result (λ sound put. record {
+      sound = sound;
+      boxes = moved_boxes _ _ c.args.self.now.table c.set_box.new.self c.args.handle c.args.body playing.boxes put moved.after playing.table moved.table moved.known;
+      table = moved.table;
+    }) c.shift.ensures.sound c.shift.ensures.ok
 
 pub returns-in-Ok-clause-counts : goal.returns-in-Ok-clause-counts
-returns-in-Ok-clause-counts g c = ?
+returns-in-Ok-clause-counts g c =
+    let playing = c.requires.playing in
+    let bodies = g.B.BroadPhase.bodies c.args.self.now.index in
+    let few = shifted_few bodies c.args.handle.slot c.args.body (few_bodies bodies c.args.self.now.table.entries playing.boxes playing.table.rising playing.table.few) in
+    on_given c.shift.result (λ passed. record {
+      exchanged = λ on. let counted = passed on in omega (arith, few, counted);
+      gives = let same = ap (λ t. sum t.gives) c.in-Ok.ensures.after in omega (arith, same);
+      frames = omega arith;
+    }) c.shift.ensures.counted

@@ -1,0 +1,60 @@
+-- An index keeps the boxes of the table, and a line counts little, whichever way the call ends.
+use Rattle.std.proofs.Common.{◌≡◌, ℕ, ◌≤◌, ◌+◌, true, List, map, length, is_some, Result, Ok, Err, OnOk, refl, sym, ap, ◌∙◌, subst, arith}
+use Rattle.std.specs.Ordering.{nat_cmp}
+use Rattle.std.specs.FinMap.{FinMap, entries, insert, remove}
+use Rattle.std.proofs.lemmas.List.{length-map}
+use Rattle.fixed_box.specs.Bounds.{Bounds}
+use Rattle.live_table.specs.declared.live.Live.{Live}
+use Rattle.live_table.specs.declared.handle.Handle.{Handle}
+use Rattle.live_table.specs.declared.masks.Masks.{Masks}
+use Rattle.live_table.specs.Entries.{slot_of, rises, entry_at, IsLeastFree}
+use Rattle.live_table.specs.Table.{Table, IsTable, next_handle, after_give, after_set_box, after_set_masks, after_take}
+use Rattle.frame_player.specs.Indexed.{indexed}
+use Rattle.frame_player.proofs.Changes.{entries-indexed, insert-entered, insert-with_body, indexed-with_masks, remove-indexed}
+
+pub always : {T E : Type 0} {P : Type 0} (r : Result T E) → P → OnOk r P
+always (Ok x) p = p
+always (Err e) p = tt
+
+-- as many entries as live boxes
+pub few_bodies : (bodies : FinMap nat_cmp Bounds) (es : List Live) → bodies ≡ indexed es → rises es ≡ true → length es ≤ 8192 → length (entries bodies) ≤ 8192
+few_bodies bodies es e r few =
+    let at : Live → (ℕ × Bounds) = λ entry. (slot_of entry, entry.body) in
+    subst (λ n. n ≤ 8192) (sym (ap (λ b. length (entries b)) e ∙ ap length (entries-indexed es r) ∙ length-map es at)) few
+
+-- a box under the next handle
+pub added_boxes : (old new : FinMap nat_cmp Bounds) (t u : Table) (handle : Handle) (body : Bounds) (masks : Masks)
+  → old ≡ indexed t.entries → new ≡ insert old handle.slot body → handle ≡ next_handle t → u ≡ after_give t body masks → IsTable t → IsTable u → IsLeastFree handle.slot t.entries → new ≡ indexed u.entries
+added_boxes old new t u handle body masks boxes inserted next given is_t is_u free =
+    let es = t.entries in
+    let entry : Live = record { handle = next_handle t; body = body; masks = masks } in
+    inserted ∙ ap (λ b. insert b handle.slot body) boxes ∙ ap (λ k. insert (indexed es) k.slot body) next
+    ∙ insert-entered es entry is_t.rising (subst (λ v. rises v.entries ≡ true) given is_u.rising) (subst (λ k. IsLeastFree k.slot es) next free)
+    ∙ ap (λ v. indexed v.entries) (sym given)
+
+-- a box that moved
+pub moved_boxes : (old new : FinMap nat_cmp Bounds) (t u : Table) (handle : Handle) (body : Bounds)
+  → old ≡ indexed t.entries → new ≡ insert old handle.slot body → u ≡ after_set_box t handle body → IsTable t → IsTable u → true ≡ is_some (entry_at handle t.entries) → new ≡ indexed u.entries
+moved_boxes old new t u handle body boxes inserted after is_t is_u known =
+    inserted ∙ ap (λ b. insert b handle.slot body) boxes
+    ∙ insert-with_body handle body t.entries is_t.rising (subst (λ v. rises v.entries ≡ true) after is_u.rising) (sym known)
+    ∙ ap (λ v. indexed v.entries) (sym after)
+
+-- a box with other masks
+pub masked_boxes : (old : FinMap nat_cmp Bounds) (t u : Table) (handle : Handle) (masks : Masks)
+  → old ≡ indexed t.entries → u ≡ after_set_masks t handle masks → old ≡ indexed u.entries
+masked_boxes old t u handle masks boxes after = boxes ∙ sym (indexed-with_masks handle masks t.entries) ∙ ap (λ v. indexed v.entries) (sym after)
+
+-- a box that is gone
+pub removed_boxes : (old new : FinMap nat_cmp Bounds) (t u : Table) (handle : Handle)
+  → old ≡ indexed t.entries → new ≡ remove old handle.slot → u ≡ after_take t handle → IsTable t → is_some (entry_at handle t.entries) ≡ true → new ≡ indexed u.entries
+removed_boxes old new t u handle boxes removed after is_t known =
+    removed ∙ ap (λ b. remove b handle.slot) boxes ∙ remove-indexed handle t.entries is_t.rising known ∙ ap (λ v. indexed v.entries) (sym after)
+
+pub on_both : {T E : Type 0} {P Q R : Type 0} (r : Result T E) → (P → Q → R) → OnOk r P → OnOk r Q → OnOk r R
+on_both (Ok x) f p q = f p q
+on_both (Err e) f p q = tt
+
+pub on_given : {T E : Type 0} {P Q R : Type 0} (r : Result T E) → ((Q → P) → R) → (Q → OnOk r P) → OnOk r R
+on_given (Ok x) f p = f p
+on_given (Err e) f p = tt
