@@ -1,4 +1,4 @@
-ghost use Rattle.std.specs.Prelude.{◌≡◌, ◌↔◌, IsTrue, ◌+◌, ◌<◌, ◌≤◌, true, false, [], length, take, drop, IfOk, OnOk, OnErr, IfSome, vec_len, MatchResult};
+ghost use Rattle.std.specs.Prelude.{◌≡◌, ◌+◌, ◌<◌, ◌≤◌, ◌↔◌, true, false, [], length, take, drop, vec_len, IsTrue, IfOk, OnOk, OnErr, IfSome, MatchResult};
 ghost use Rattle.play_io.specs.Source.{TakesNext, IsReadOf, ReadCount, CountsFault};
 ghost use Rattle.scene_lines.specs.Reading.{coming};
 ghost use Rattle.scene_lines.specs.SceneLines.{has_feed, length_ahead, line_ahead, past_line};
@@ -19,7 +19,7 @@ pub(crate) struct LineBuffer {
 }
 
 impl Model for LineBuffer {
-    ghost use Rattle.std.specs.Prelude.{◌≡◌, ◌↔◌, IsTrue, slice_range, vec_len};
+    ghost use Rattle.std.specs.Prelude.{◌≡◌, slice_range, vec_len};
     ghost use Rattle.scene_lines.specs.Reading.{Buffered};
     ghost use Rattle.scene_lines.specs.Layout.{IsLaidOut};
 
