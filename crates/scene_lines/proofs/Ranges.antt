@@ -1,9 +1,9 @@
 -- Ranges of a buffer, and bytes known to come.
-use Rattle.std.proofs.Common.{◌≡◌, ℕ, ◌+◌, ◌-◌, ◌≤◌, min, List, ◌++◌, length, take, drop, refl, ⊎_elim, sym, ap, ◌∙◌, arith, Some, None, slice_range, append-nil, nat_eq, true}
+use Rattle.std.proofs.Common.{◌≡◌, ℕ, ◌+◌, ◌-◌, ◌≤◌, min, List, ◌++◌, length, take, drop, refl, ⊎_elim, sym, ap, ◌∙◌, arith, Some, None, slice_range, append-nil}
 use Rattle.std.specs.Prelude.{Option}
 use Rattle.std.specs.Io.KnownBytes.{prepend_known}
 use Rattle.std.proofs.lemmas.List.{take-take, drop-drop, drop-take, append_assoc, take-append-drop, length-take, take_all, drop_all, take_at}
-use Rattle.std.proofs.lemmas.Bool.{cases_lt, eqb-true}
+use Rattle.std.proofs.lemmas.Bool.{cases_lt}
 use Rattle.std.proofs.lemmas.Slice.{between_is}
 
 -- the front of a range
@@ -68,8 +68,8 @@ pub kept_read : (xs held : List ℕ) (at end n : ℕ) → at ≤ end → slice_r
 kept_read xs held at end n h e = rw (range_read xs held at end n h e) (take_at held (take n (drop end xs)) (length held) refl)
 
 -- a read of no byte leaves them as they are
-pub none_read : (xs held : List ℕ) (at end n : ℕ) → at ≤ end → slice_range xs at end ≡ held → nat_eq n 0 ≡ true → slice_range xs at (end + n) ≡ held
-none_read xs held at end n h e none = range_read xs held at end n h e ∙ rw (eqb-true n 0 none) (append-nil held)
+pub none_read : (xs held : List ℕ) (at end n : ℕ) → at ≤ end → slice_range xs at end ≡ held → n ≡ 0 → slice_range xs at (end + n) ≡ held
+none_read xs held at end n h e none = range_read xs held at end n h e ∙ rw none (append-nil held)
 
 -- the same bytes held, and the same left
 pub coming_same : (bytes held : List ℕ) (was now : Option (List ℕ)) → bytes ≡ held → now ≡ was → prepend_known bytes now ≡ prepend_known held was

@@ -38,6 +38,12 @@ at_line ReadFault P is p = absurd (cc)
 pub OnLine-weaker : (answer : Next) (P Q : Type 0) → (P → Q) → OnLine answer P → OnLine answer Q
 OnLine-weaker answer P Q f p = on_line answer Q (λ is. f (at_line answer P is p))
 
+-- what is handed out of the bytes held, and what is left of them
+pub record Hands (held : List ℕ) (over : Bool) (line rest : List ℕ) (after : Bool) : Type 0 where
+  pub line_is : line ≡ line_ahead held
+  pub rest_is : rest ≡ past_line held
+  pub over_is : after ≡ over
+
 module _ (limit number : ℕ) where
   -- how many bytes may be held with no line feed and settle nothing
   abbrev most : ℕ
@@ -138,21 +144,15 @@ module _ (limit number : ℕ) where
       }
 
   module _ (held : List ℕ) (over : Bool) (line rest : List ℕ) (after : Bool) where
-    -- what is handed out of the bytes held, and what is left of them
-    pub record Hands : Type 0 where
-      pub line_is : line ≡ line_ahead held
-      pub rest_is : rest ≡ past_line held
-      pub over_is : after ≡ over
-
-    line_held : (left : Option (List ℕ)) → Settles held over left → Line ≡ answer_at limit number held → Hands → IfSome (coming held left) (λ bytes. line ≡ line_ahead bytes)
+    line_held : (left : Option (List ℕ)) → Settles held over left → Line ≡ answer_at limit number held → Hands held over line rest after → IfSome (coming held left) (λ bytes. line ≡ line_ahead bytes)
     line_held None s h hands = tt
     line_held (Some more) s h hands = hands.line_is ∙ sym (is_first held more over s h).line
 
-    rest_held : (left : Option (List ℕ)) → Settles held over left → Line ≡ answer_at limit number held → Hands → coming rest left ≡ option_map past_line (coming held left)
+    rest_held : (left : Option (List ℕ)) → Settles held over left → Line ≡ answer_at limit number held → Hands held over line rest after → coming rest left ≡ option_map past_line (coming held left)
     rest_held None s h hands = refl
     rest_held (Some more) s h hands = ap Some (ap (λ bytes. bytes ++ more) hands.rest_is ∙ sym (is_first held more over s h).rest)
 
-    first_held : (left : Option (List ℕ)) → Settles held over left → Line ≡ answer_at limit number held → Hands
+    first_held : (left : Option (List ℕ)) → Settles held over left → Line ≡ answer_at limit number held → Hands held over line rest after
         → IfSome (coming held left) (λ bytes. IfSome (coming rest left) (λ past. lines bytes true ≡ line ∷ lines past true))
     first_held None s h hands = tt
     first_held (Some more) s h hands =
@@ -161,27 +161,27 @@ module _ (limit number : ℕ) where
         let ahead : line_ahead (held ++ more) ≡ line = first.line ∙ sym hands.line_is in
         lines_first (held ++ more) first.some ∙ rw (past, ahead) refl
 
-    over_held : (left : Option (List ℕ)) → Settles held over left → Line ≡ answer_at limit number held → Hands → IfSome (coming held left) (λ bytes. has_feed bytes ≡ false → after ≡ true)
+    over_held : (left : Option (List ℕ)) → Settles held over left → Line ≡ answer_at limit number held → Hands held over line rest after → IfSome (coming held left) (λ bytes. has_feed bytes ≡ false → after ≡ true)
     over_held None s h hands = tt
     over_held (Some more) s h hands = λ no_feed. hands.over_is ∙ (is_first held more over s h).at_end no_feed
 
-    module _ (answer : Next) (left was : Option (List ℕ)) (s : Settles held over left) (same : coming held left ≡ was) (h : answer ≡ answer_at limit number held) (handed : OnLine answer Hands) where
+    module _ (answer : Next) (left was : Option (List ℕ)) (s : Settles held over left) (same : coming held left ≡ was) (h : answer ≡ answer_at limit number held) (handed : OnLine answer (Hands held over line rest after)) where
       pub line_answer : OnLine answer (IfSome was (λ bytes. line ≡ line_ahead bytes))
       line_answer =
           on_line answer (IfSome was (λ bytes. line ≡ line_ahead bytes))
-          (λ is. subst (λ (w : Option (List ℕ)). IfSome w (λ bytes. line ≡ line_ahead bytes)) same (line_held left s (sym is ∙ h) (at_line answer Hands is handed)))
+          (λ is. subst (λ (w : Option (List ℕ)). IfSome w (λ bytes. line ≡ line_ahead bytes)) same (line_held left s (sym is ∙ h) (at_line answer (Hands held over line rest after) is handed)))
 
       pub rest_answer : OnLine answer (coming rest left ≡ option_map past_line was)
       rest_answer =
           on_line answer (coming rest left ≡ option_map past_line was)
-          (λ is. rest_held left s (sym is ∙ h) (at_line answer Hands is handed) ∙ ap (option_map past_line) same)
+          (λ is. rest_held left s (sym is ∙ h) (at_line answer (Hands held over line rest after) is handed) ∙ ap (option_map past_line) same)
 
       pub first_answer : OnLine answer (IfSome was (λ bytes. IfSome (coming rest left) (λ past. lines bytes true ≡ line ∷ lines past true)))
       first_answer =
           on_line answer (IfSome was (λ bytes. IfSome (coming rest left) (λ past. lines bytes true ≡ line ∷ lines past true)))
-          (λ is. subst (λ (w : Option (List ℕ)). IfSome w (λ bytes. IfSome (coming rest left) (λ past. lines bytes true ≡ line ∷ lines past true))) same (first_held left s (sym is ∙ h) (at_line answer Hands is handed)))
+          (λ is. subst (λ (w : Option (List ℕ)). IfSome w (λ bytes. IfSome (coming rest left) (λ past. lines bytes true ≡ line ∷ lines past true))) same (first_held left s (sym is ∙ h) (at_line answer (Hands held over line rest after) is handed)))
 
       pub over_answer : OnLine answer (IfSome was (λ bytes. has_feed bytes ≡ false → after ≡ true))
       over_answer =
           on_line answer (IfSome was (λ bytes. has_feed bytes ≡ false → after ≡ true))
-          (λ is. subst (λ (w : Option (List ℕ)). IfSome w (λ bytes. has_feed bytes ≡ false → after ≡ true)) same (over_held left s (sym is ∙ h) (at_line answer Hands is handed)))
+          (λ is. subst (λ (w : Option (List ℕ)). IfSome w (λ bytes. has_feed bytes ≡ false → after ≡ true)) same (over_held left s (sym is ∙ h) (at_line answer (Hands held over line rest after) is handed)))

@@ -4,7 +4,7 @@ use Rattle.scene_lines.specs.declared.next.Next.{Next}
 use Rattle.scene_lines.specs.declared.next.Next.TheVariants.{Line, End, Long, TooMany, ReadFault}
 use Rattle.scene_lines.specs.SceneLines.{line_ahead}
 
--- The answer at bytes with which the input ends, after so many lines. A line past the limit is refused whatever its length.
+-- The answer after so many lines, where these bytes come and then the input ends. A line past the limit is refused whatever its length.
 abbrev pub answer_at : ℕ → ℕ → List ℕ → Next
 answer_at limit number bytes =
     if length bytes == 0 then End else if nat_le limit number then TooMany else if nat_lt 1024 (length (line_ahead bytes)) then Long else Line

@@ -7,6 +7,9 @@ mod line_buffer;
 mod line_reader;
 mod next;
 
-pub use laws::line_laws;
+pub use laws::{line_laws, worked_lines};
 pub use line_reader::LineReader;
 pub use next::Next;
+
+#[cfg(test)]
+mod tests;

@@ -1,4 +1,4 @@
-ghost use Rattle.std.specs.Prelude.{◌≡◌, ◌+◌, ◌<◌, ◌≤◌, true, false, [], length, take, drop, IfOk, OnOk, OnErr, IfSome, vec_len, MatchResult};
+ghost use Rattle.std.specs.Prelude.{◌≡◌, ◌+◌, ◌<◌, ◌≤◌, ◌↔◌, true, false, [], length, take, drop, vec_len, IsTrue, IfOk, OnOk, OnErr, IfSome, MatchResult};
 ghost use Rattle.play_io.specs.Source.{TakesNext, IsReadOf, ReadCount, CountsFault};
 ghost use Rattle.scene_lines.specs.Reading.{coming};
 ghost use Rattle.scene_lines.specs.SceneLines.{has_feed, length_ahead, line_ahead, past_line};
@@ -67,12 +67,6 @@ impl LineBuffer {
         &all[self.layout.at..self.layout.end]
     }
 
-    fn is_over(&self) -> bool
-        ensures { result ≡ self.now.over }
-    {
-        self.over
-    }
-
     /// Reads until the bytes held have a line feed, are more than `most`, or the input has ended. Answers how many of
     /// them stand before the first line feed.
     pub(crate) fn seek<S: Source>(&mut self, source: &mut S, most: usize) -> Result<usize, Failed>
@@ -91,11 +85,25 @@ impl LineBuffer {
         ensures count { MatchResult result (λ _. S.faults source.new ≡ S.faults source.old) (λ _. CountsFault (S.faults source.old) (S.faults source.new)) }
     {
         let mut len = place_of_feed(self.held(), 0);
-        'reads: while len == self.held().len() && len <= most && !self.is_over() {
+        'reads: while self.is_unsettled(len, most) {
             self.read_more(source)?;
             len = place_of_feed(self.held(), len);
         }
         Ok(len)
+    }
+
+    // Whether more is to be read, where `len` bytes stand before the first line feed: there is none, the input goes on,
+    // and no more than `most` bytes are held.
+    #[tactic(auto, using(crate::proofs::Cutting::no_feed_from, crate::proofs::Cutting::no_feed_below))]
+    fn is_unsettled(&self, len: usize, most: usize) -> bool
+        requires { len ≡ length_ahead self.now.held }
+        ensures { IsTrue result ↔ ((has_feed self.now.held ≡ false) × (self.now.over ≡ false) × (length self.now.held ≤ most)) }
+    {
+        let held = self.held().len();
+        if self.over || held > most {
+            return false;
+        }
+        len == held
     }
 
     // Reads once. No byte is taken only at the end of the input.

@@ -48,7 +48,8 @@ impl LineReader {
     }
 
     /// Seeks the next line: the bytes up to a line feed, or up to the end of the input where bytes remain there, without
-    /// one carriage return at their end. The source is read only where the bytes held don't settle the answer.
+    /// one carriage return at their end. The source is read only where the bytes held don't settle the answer. Any answer
+    /// but `Line` is the last.
     pub fn next<S: Source>(&mut self, source: &mut S) -> Next
         requires open { self.old.ended ≡ false }
         requires countable { S.faults source.old < 2 ^ 64 - 1 }
@@ -136,7 +137,7 @@ impl LineReader {
                 self.number += 1;
                 self.ended = true;
             }
-            Next::End | Next::ReadFault => self.ended = true,
+            _ => self.ended = true,
         }
         next
     }

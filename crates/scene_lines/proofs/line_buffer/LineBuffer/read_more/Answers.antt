@@ -1,4 +1,5 @@
-use Rattle.std.proofs.Common.{arith, ap, ◌∙◌}
+use Rattle.std.proofs.Common.{◌≡◌, arith, ap, ◌∙◌}
+use Rattle.std.proofs.lemmas.Bool.Decides.{nat_tests}
 use Rattle.std.proofs.lemmas.List.{take_at}
 use Rattle.std.proofs.lemmas.Result.{err_from_is_err_and}
 use Rattle.scene_lines.proofs.Ranges.{range_through, coming_read, kept_read, none_read, coming_same, kept_same}
@@ -40,5 +41,7 @@ returns-clause-kept g c = kept_read _ _ _ _ _ c.make_room-self-inside.ensures.la
     c.deref_mut-2.ensures.value (c.fill.auto.bytes ∙ c.deref_mut-2.ensures.len) c.fill.ensures.kept (omega (arith, c.make_room-self-inside.ensures.laid_out)) ∙ ap (λ b. b.held) c.self.view_is)
 
 pub returns-clause-end : goal.returns-clause-end
-returns-clause-end g c none = none_read _ _ _ _ _ c.make_room-self-inside.ensures.laid_out.held (range_through _ _ _ _ _ _ _ _ _ _ _ _ c.deref_mut.ensures.value (c.make_room-self-inside.auto.bytes ∙ c.deref_mut.ensures.len) c.make_room-self-inside.ensures.held
-    c.deref_mut-2.ensures.value (c.fill.auto.bytes ∙ c.deref_mut-2.ensures.len) c.fill.ensures.kept (omega (arith, c.make_room-self-inside.ensures.laid_out)) ∙ ap (λ b. b.held) c.self.view_is) none
+returns-clause-end g c none =
+    let nothing : c.in_ok-count.count ≡ 0 = grind (arith, nat_tests) in
+    none_read _ _ _ _ _ c.make_room-self-inside.ensures.laid_out.held (range_through _ _ _ _ _ _ _ _ _ _ _ _ c.deref_mut.ensures.value (c.make_room-self-inside.auto.bytes ∙ c.deref_mut.ensures.len) c.make_room-self-inside.ensures.held
+    c.deref_mut-2.ensures.value (c.fill.auto.bytes ∙ c.deref_mut-2.ensures.len) c.fill.ensures.kept (omega (arith, c.make_room-self-inside.ensures.laid_out)) ∙ ap (λ b. b.held) c.self.view_is) nothing

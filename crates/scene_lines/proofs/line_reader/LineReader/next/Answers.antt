@@ -21,7 +21,7 @@ answer : (g : given.Over) (c : goal.After-settle g) → c.settle.result ≡ answ
 answer g c = c.settle.ensures.answer ∙ ap (λ (r : Reading). answer_at r.limit r.number c.seek.new.self.held) c.self.view_is
 
 -- and a line is handed out of them
-handed : (g : given.Over) (c : goal.After-settle g) → OnLine c.settle.result (Hands c.args.self.now.limit c.args.self.now.number c.seek.new.self.held c.seek.new.self.over c.settle.new.self.line c.settle.new.self.held c.settle.new.self.over)
+handed : (g : given.Over) (c : goal.After-settle g) → OnLine c.settle.result (Hands c.seek.new.self.held c.seek.new.self.over c.settle.new.self.line c.settle.new.self.held c.settle.new.self.over)
 handed g c = OnLine-weaker c.settle.result _ _
     (λ is. record { line_is = ap (λ (r : Reading). r.line) is; rest_is = ap (λ (r : Reading). r.held) is; over_is = ap (λ (r : Reading). r.over) is })
     c.settle.ensures.line
