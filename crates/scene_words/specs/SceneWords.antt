@@ -38,7 +38,7 @@ abbrev pub ◌>>=◌ : {A B : Type 0} → Result A LineFault → (A → Result B
 (Ok x) >>= f = f x
 (Err e) >>= f = Err e
 
--- the value of the first word, and the words after it
+-- the value of the first word, and the words after it. Where there is none, their number was wrong.
 abbrev pub first_as : {A : Type 0} → (List ℕ → Result A LineFault) → List (List ℕ) → Result (A × List (List ℕ)) LineFault
 first_as value [] = Err fault.Count
 first_as value (word ∷ more) = value word >>= λ x. Ok (x, more)
@@ -65,7 +65,7 @@ point_at ws = number_at ws >>= λ x. number_at x.1 >>= λ y. number_at y.1 >>= �
 abbrev pub box_between : Point → Point → Result Bounds LineFault
 box_between lo hi = if is_at_most lo hi then Ok (record { lo = lo; hi = hi }) else Err fault.Inverted
 
--- a group of its own, where none is named
+-- the group that a new box is in, where none is named
 abbrev pub first_group : ℕ
 first_group = 1
 

@@ -10,7 +10,7 @@ use Rattle.live_table.specs.declared.handle.Handle.{Handle}
 use Rattle.scene_words.specs.declared.line_fault.LineFault.{LineFault}
 use Rattle.scene_words.specs.declared.line_fault.LineFault.TheVariants as fault
 
--- what a text that is no coordinate makes of its line
+-- a number, or the fault of the line that it stands in
 abbrev pub line_number : Result ℤ FixFault → Result ℤ LineFault
 line_number (Ok raw) = Ok raw
 line_number (Err Form) = Err fault.Number

@@ -13,6 +13,24 @@ fn at(x: Fix, y: Fix, z: Fix) -> Point {
     Point { x, y, z }
 }
 
+fn masks(is: u32, sees: u32) -> Masks {
+    Masks { is, sees }
+}
+
+fn ray(from: Point, dir: Point) -> Ray {
+    Ray {
+        from: WPoint::of(&from),
+        dir: WPoint::of(&dir),
+    }
+}
+
+fn seg(a: Point, b: Point) -> Seg {
+    Seg {
+        a: WPoint::of(&a),
+        b: WPoint::of(&b),
+    }
+}
+
 #[test]
 fn lines_read_as_commands(rt: HostRuntime) -> Result<(), Fail> {
     let origin = at(0, 0, 0);
@@ -26,147 +44,132 @@ fn lines_read_as_commands(rt: HostRuntime) -> Result<(), Fail> {
         slot: 4294967295,
         generation: 4294967295,
     };
-    let masks = Masks { is: 171, sees: 171 };
-    let ray = Ray {
-        from: WPoint::of(&origin),
-        dir: WPoint::of(&corner),
-    };
-    let seg = Seg {
-        a: WPoint::of(&origin),
-        b: WPoint::of(&corner),
-    };
-    let cases: [(&[u8], Command); 24] = [
-        (b"", Command::Blank),
-        (b" \t # scene 1", Command::Blank),
-        (
-            b"scene 1",
-            Command::Header {
-                version: Version::One,
-            },
-        ),
-        (
-            b"\tscene  1#x",
-            Command::Header {
-                version: Version::One,
-            },
-        ),
+    let version = Version::One;
+    let cases: [(&[u8], Result<Command, LineFault>); 24] = [
+        (b"", Ok(Command::Blank)),
+        (b" \t # scene 1", Ok(Command::Blank)),
+        (b"scene 1", Ok(Command::Header { version })),
+        (b"\tscene  1#x", Ok(Command::Header { version })),
         (
             b"add 0 0 0 1 2 3",
-            Command::Add {
+            Ok(Command::Add {
                 body,
-                masks: Masks {
-                    is: 1,
-                    sees: EVERY_GROUP,
-                },
-            },
+                masks: masks(1, EVERY_GROUP),
+            }),
         ),
         (
             b"add 0 0 0 1 2 3 2",
-            Command::Add {
+            Ok(Command::Add {
                 body,
-                masks: Masks {
-                    is: 2,
-                    sees: EVERY_GROUP,
-                },
-            },
+                masks: masks(2, EVERY_GROUP),
+            }),
         ),
         (
             b" add 0 0 0\t1 2 3 aB 000000Ab # a",
-            Command::Add { body, masks },
+            Ok(Command::Add {
+                body,
+                masks: masks(171, 171),
+            }),
         ),
         (
             b"move 007:00 0 0 0 1 2 3",
-            Command::Move {
+            Ok(Command::Move {
                 handle: first,
                 body,
-            },
+            }),
         ),
         (
             b"move 4294967295:4294967295 0 0 0 1 2 3",
-            Command::Move { handle: last, body },
+            Ok(Command::Move { handle: last, body }),
         ),
         (
-            b"mask 7:0 AB ab",
-            Command::Mask {
+            b"mask 7:0 AB 1",
+            Ok(Command::Mask {
                 handle: first,
-                masks,
-            },
+                masks: masks(171, 1),
+            }),
         ),
         (
-            b"mask 0000000007:0000000000 000000ab AB",
-            Command::Mask {
+            b"mask 0000000007:0000000000 00000001 ab",
+            Ok(Command::Mask {
                 handle: first,
-                masks,
-            },
+                masks: masks(1, 171),
+            }),
         ),
-        (b"remove 7:0", Command::Remove { handle: first }),
+        (b"remove 7:0", Ok(Command::Remove { handle: first })),
         (
             b"remove 4294967295:4294967295",
-            Command::Remove { handle: last },
+            Ok(Command::Remove { handle: last }),
         ),
-        (b"frame", Command::Frame),
-        (b"frame\t#1", Command::Frame),
+        (b"frame", Ok(Command::Frame)),
+        (b"frame\t#1", Ok(Command::Frame)),
         (
             b"box 0 0 0 1 2 3",
-            Command::BoxQ {
+            Ok(Command::BoxQ {
                 body,
                 mask: EVERY_GROUP,
-            },
+            }),
         ),
-        (b"box 0 0 0 1 2 3 2", Command::BoxQ { body, mask: 2 }),
+        (b"box 0 0 0 1 2 3 2", Ok(Command::BoxQ { body, mask: 2 })),
         (
             b"point 1 2 3",
-            Command::PointQ {
+            Ok(Command::PointQ {
                 at: corner,
                 mask: EVERY_GROUP,
-            },
+            }),
         ),
         (
             b"point 1 2 3 FFFFFFFF",
-            Command::PointQ {
+            Ok(Command::PointQ {
                 at: corner,
                 mask: EVERY_GROUP,
-            },
+            }),
         ),
         (
             b"ray 0 0 0 1 2 3",
-            Command::RayQ {
-                ray,
+            Ok(Command::RayQ {
+                ray: ray(origin, corner),
                 mask: EVERY_GROUP,
-            },
+            }),
         ),
-        (b"ray 0 0 0 1 2 3 0", Command::RayQ { ray, mask: 0 }),
+        (
+            b"ray 0 0 0 1 2 3 0",
+            Ok(Command::RayQ {
+                ray: ray(origin, corner),
+                mask: 0,
+            }),
+        ),
         (
             b"seg 0 0 0 1 2 3",
-            Command::SegQ {
-                seg,
+            Ok(Command::SegQ {
+                seg: seg(origin, corner),
                 mask: EVERY_GROUP,
-            },
+            }),
         ),
         (
             b"seg 0 0 0 1 2 3 80000000",
-            Command::SegQ {
-                seg,
+            Ok(Command::SegQ {
+                seg: seg(origin, corner),
                 mask: 2147483648,
-            },
+            }),
         ),
         (
-            b"seg 0 0 0 1 2 3 ffffffff",
-            Command::SegQ {
-                seg,
-                mask: EVERY_GROUP,
-            },
+            b"seg 0 0 0 1 2 3 fedcba98",
+            Ok(Command::SegQ {
+                seg: seg(origin, corner),
+                mask: 4275878552,
+            }),
         ),
     ];
     for (line, want) in cases {
-        assert_eq!(rt; read_command(Version::One, line), Ok(want));
+        assert_eq!(rt; read_command(Version::One, line), want);
     }
     Ok(())
 }
 
 #[test]
 fn the_first_fault_is_answered(rt: HostRuntime) {
-    let cases: [(&[u8], LineFault); 40] = [
+    let cases: [(&[u8], LineFault); 49] = [
         (b"scene", LineFault::Header),
         (b"scene 2", LineFault::Header),
         (b"scene 01", LineFault::Header),
@@ -202,6 +205,15 @@ fn the_first_fault_is_answered(rt: HostRuntime) {
         (b"remove 7:0:0", LineFault::Handle),
         (b"add x 99999 0 1 1 1", LineFault::Number),
         (b"add 99999 x 0 1 1 1", LineFault::Range),
+        (b"add 32767.999999 0 0 1 1 1", LineFault::Range),
+        (b"add 32768 0 0 1 1 1", LineFault::Range),
+        (b"add -32768.00001 0 0 1 1 1", LineFault::Range),
+        (b"add 9999999999 0 0 1 1 1", LineFault::Range),
+        (b"add +1 0 0 1 1 1", LineFault::Number),
+        (b"add .5 0 0 1 1 1", LineFault::Number),
+        (b"add 1. 0 0 1 1 1", LineFault::Number),
+        (b"add 12345678901 0 0 1 1 1", LineFault::Number),
+        (b"add 1.0000000001 0 0 1 1 1", LineFault::Number),
         (b"mask 0:0 g 1", LineFault::Mask),
         (b"mask 0:0 0x1 1", LineFault::Mask),
         (b"add 1 0 0 0 1 1 123456789", LineFault::Mask),
@@ -214,29 +226,25 @@ fn the_first_fault_is_answered(rt: HostRuntime) {
 }
 
 #[test]
-fn numbers_of_a_box_are_read_to_the_nearest_raw_number(rt: HostRuntime) {
-    let cases: [(&[u8], Result<Fix, LineFault>); 14] = [
-        (b"add -0.00001 0 0 1 1 1", Ok(-1)),
-        (b"add -0.000005 0 0 1 1 1", Ok(0)),
-        (b"add -0 0 0 1 1 1", Ok(0)),
-        (b"add 32767.99999 0 0 32767.99999 1 1", Ok(2147483647)),
-        (b"add -32768 0 0 1 1 1", Ok(-2147483648)),
-        (b"add 32767.999999 0 0 1 1 1", Err(LineFault::Range)),
-        (b"add 32768 0 0 1 1 1", Err(LineFault::Range)),
-        (b"add -32768.00001 0 0 1 1 1", Err(LineFault::Range)),
-        (b"add 9999999999 0 0 1 1 1", Err(LineFault::Range)),
-        (b"add +1 0 0 1 1 1", Err(LineFault::Number)),
-        (b"add .5 0 0 1 1 1", Err(LineFault::Number)),
-        (b"add 1. 0 0 1 1 1", Err(LineFault::Number)),
-        (b"add 12345678901 0 0 1 1 1", Err(LineFault::Number)),
-        (b"add 1.0000000001 0 0 1 1 1", Err(LineFault::Number)),
+fn numbers_of_a_box_are_read_to_the_nearest_raw_number(rt: HostRuntime) -> Result<(), Fail> {
+    let cases: [(&[u8], Fix, Fix); 5] = [
+        (b"add -0.00001 0 0 1 1 1", -1, ONE),
+        (b"add -0.000005 0 0 1 1 1", 0, ONE),
+        (b"add -0 0 0 1 1 1", 0, ONE),
+        (
+            b"add 32767.99999 0 0 32767.99999 1 1",
+            2147483647,
+            2147483647,
+        ),
+        (b"add -32768 0 0 1 1 1", -2147483648, ONE),
     ];
-    for (line, want) in cases {
-        let got = match read_command(Version::One, line) {
-            Ok(Command::Add { body, .. }) => Ok(body.lo().x),
-            Ok(_) => Ok(7),
-            Err(fault) => Err(fault),
-        };
-        assert_eq!(rt; got, want);
+    for (line, low, high) in cases {
+        let body = FBox::new(at(low, 0, 0), at(high, ONE, ONE)).ok_or("the corners are inverted")?;
+        let want = Ok(Command::Add {
+            body,
+            masks: masks(1, EVERY_GROUP),
+        });
+        assert_eq!(rt; read_command(Version::One, line), want);
     }
+    Ok(())
 }

@@ -1,4 +1,4 @@
-use Rattle.std.proofs.Common.{◌≡◌, ◌<◌, sym, ◌∙◌, refl, arith}
+use Rattle.std.proofs.Common.{◌<◌, sym, ◌∙◌, refl, arith}
 use Rattle.std.specs.List.{prefix_len}
 use Rattle.std.proofs.lemmas.List.Sums.{prefix_len-le-length}
 use Rattle.scene_words.proofs.WordSplits.{in_word, words_ahead, words_none}
