@@ -3,7 +3,7 @@ use Rattle.std.proofs.Common.{◌≡◌, ℕ, zero, suc, ◌+◌, ◌<◌, ◌�
 use Rattle.std.specs.List.{slice_split, position_or_len, before_first, after_first, onto_first}
 use Rattle.std.specs.Str.Lines.{strip_carriage_return}
 use Rattle.std.proofs.lemmas.Bool.{cases_lt, cases_Bool}
-use Rattle.std.proofs.lemmas.List.{length-drop, take_all, drop_all, take-append-le, drop-append-le, length-append, take-append-drop}
+use Rattle.std.proofs.lemmas.List.{length-drop, length-take-le, take_all, drop_all, take-append-le, drop-append-le, length-append, take-append-drop}
 use Rattle.std.proofs.lemmas.List.Sums.{position_or_len_is, prefix_len-le-length}
 use Rattle.std.proofs.lemmas.List.Splits.{slice_split_first}
 use Rattle.memchr.specs.Find.{NoneBefore, Nowhere, Passes, is_byte}
@@ -147,3 +147,30 @@ pub seen_within : (xs ys : List ℕ) → take (length xs) ys ≡ xs → length_a
 seen_within xs ys kept none =
     let whole : ys ≡ xs ++ drop (length xs) ys = sym (take-append-drop (length xs) ys) ∙ ap (λ front. front ++ drop (length xs) ys) kept in
     rw whole (length_ahead-le xs (drop (length xs) ys) (omega arith))
+
+-- a line feed stays where the bytes behind it go
+ahead_taken : (bs : List ℕ) → length_ahead bs < length bs → length_ahead (take (suc (length_ahead bs)) bs) ≡ length_ahead bs
+ahead_taken [] h = absurd (omega arith)
+ahead_taken (b ∷ bs) h =
+    elim (is_feed b) as (λ t. cond (not t) (1 + length_ahead bs) 0 < length (b ∷ bs) → cond (not t) (1 + length_ahead (take (cond (not t) (1 + length_ahead bs) 0) bs)) 0 ≡ cond (not t) (1 + length_ahead bs) 0) [
+      | true ↦ λ h. refl
+      | false ↦ λ h. let after : 1 + length_ahead bs ≡ suc (length_ahead bs) = omega arith in ap (λ n. 1 + n) (ap (λ n. length_ahead (take n bs)) after ∙ ahead_taken bs (omega arith))
+    ] h
+
+-- a line that has ended, and what stands behind it
+pub lines_ended : (bs more : List ℕ) → has_feed bs ≡ true → lines (take (length_ahead bs + 1) bs ++ more) false ≡ line_ahead bs ∷ lines more false
+lines_ended bs more some =
+    let below = feed_below bs some in
+    let front = take (length_ahead bs + 1) bs in
+    let after : length_ahead bs + 1 ≡ suc (length_ahead bs) = omega arith in
+    let same : length_ahead front ≡ length_ahead bs = ap (λ n. length_ahead (take n bs)) after ∙ ahead_taken bs below in
+    let size : length front ≡ length_ahead bs + 1 = length-take-le (length_ahead bs + 1) bs (omega (arith, below)) in
+    let within : length_ahead front < length front = omega (arith, same, size) in
+    let whole : front ++ drop (length_ahead bs + 1) bs ≡ bs = take-append-drop (length_ahead bs + 1) bs in
+    let past : past_line front ≡ [] = drop_all (length_ahead front + 1) front (omega (arith, same, size)) in
+    lines_at_feed false (front ++ more) (omega (arith, length_ahead-append front more within, length-append front more))
+    ∙ rw (line_ahead-append front more within, past_line-append front more within, past)
+    (ap (λ l. l ∷ lines more false) (sym (line_ahead-append front (drop (length_ahead bs + 1) bs) within) ∙ ap line_ahead whole))
+
+pub lines_open : (bs : List ℕ) → has_feed bs ≡ false → lines bs false ≡ []
+lines_open bs none = lines_unended bs (omega (arith, no_feed_below bs none))

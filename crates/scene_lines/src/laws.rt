@@ -1,6 +1,6 @@
-ghost use Rattle.std.specs.Prelude.{◌≡◌, ◌<◌, ℕ, List, [], ◌∷◌, ◌++◌, length, true, false, codes, replicate};
+ghost use Rattle.std.specs.Prelude.{◌≡◌, ◌+◌, ◌<◌, ℕ, List, [], ◌∷◌, ◌++◌, length, take, true, false, codes, replicate};
 ghost use Rattle.scene_lines.specs.Next.{answer_at};
-ghost use Rattle.scene_lines.specs.SceneLines.{lines, line_ahead, past_line, IsPrefix};
+ghost use Rattle.scene_lines.specs.SceneLines.{lines, has_feed, length_ahead, line_ahead, past_line, IsPrefix};
 
 use crate::Next;
 
@@ -10,6 +10,10 @@ pub fn line_laws()
     ensures first { (bytes : List ℕ) → 0 < length bytes → lines bytes true ≡ line_ahead bytes ∷ lines (past_line bytes) true }
     // The lines that have ended already stay as they are, whatever bytes follow.
     ensures prefix { (front whole : List ℕ) → IsPrefix front whole → IsPrefix (lines front false) (lines whole true) }
+    // A line that has ended comes before those of the bytes behind its line feed.
+    ensures ended { (bytes more : List ℕ) → has_feed bytes ≡ true → lines (take (length_ahead bytes + 1) bytes ++ more) false ≡ line_ahead bytes ∷ lines more false }
+    // Bytes with no line feed have no line before the input has ended.
+    ensures unended { (bytes : List ℕ) → has_feed bytes ≡ false → lines bytes false ≡ [] }
 {}
 
 /// Bytes with their lines and the answers at them, computed from the definitions. It does nothing.
