@@ -1,4 +1,5 @@
-mod Kept
+pub mod Kept
+pub mod Whole
 pub mod Changes
 pub mod Counts
 pub mod InOrder

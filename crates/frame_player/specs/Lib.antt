@@ -2,4 +2,5 @@ pub mod Indexed
 pub mod Pairs
 pub mod Play
 pub mod Player
+pub mod Reached
 pub mod World

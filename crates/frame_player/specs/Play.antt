@@ -1,8 +1,10 @@
 -- A whole play: what is reported, and how it ends.
-use Rattle.std.specs.Prelude.{ℕ, ◌+◌, ◌-◌, List, [], ◌∷◌, ◌++◌, length, if◌then◌else◌, Result, Ok, Err}
+use Rattle.std.specs.Prelude.{◌≡◌, ℕ, ◌+◌, ◌-◌, ◌<◌, true, false, List, [], ◌∷◌, ◌++◌, length, if◌then◌else◌, Option, Some, Result, Ok, Err}
+use Rattle.std.specs.Io.KnownBytes.{append_known, prepend_known}
 use Rattle.pair_report.specs.declared.cause.Cause.{Cause}
 use Rattle.pair_report.specs.declared.cause.Cause.TheVariants as cause
 use Rattle.pair_report.specs.PairReport.{end_line, refused_line}
+use Rattle.scene_lines.specs.SceneLines.{lines, IsPrefix}
 use Rattle.scene_words.specs.declared.command.Command.{Command}
 use Rattle.frame_player.specs.declared.status.Status.{Status}
 use Rattle.frame_player.specs.declared.status.Status.TheVariants.{Done, Refused, Usage, ReadFault, WriteFault, NoMemory}
@@ -52,3 +54,49 @@ IsEnding Usage = ⊥
 IsEnding ReadFault = ⊥
 IsEnding WriteFault = ⊥
 IsEnding NoMemory = ⊥
+
+-- A text of the lines that ended in the bytes taken, where a read failed after these.
+pub record IsToldOf (limit : ℕ) (given : List ℕ) (left : Option (List ℕ)) (text : List ℕ) : Type 0 where
+  pub taken : List ℕ
+  pub split : Some given ≡ prepend_known taken left
+  pub told : text ≡ (played limit (lines taken false)).told
+
+-- what is reported of the bytes that were given, as the play ends, where these are left
+abbrev pub IsReported : ℕ → List ℕ → Option (List ℕ) → List ℕ → Status → Type 0
+IsReported limit given left text Done = ((played limit (lines given true)).status ≡ Done) × (text ≡ report limit (lines given true)) × (left ≡ Some [])
+IsReported limit given left text (Refused n c) = ((played limit (lines given true)).status ≡ Refused n c) × (text ≡ report limit (lines given true))
+IsReported limit given left text ReadFault = IsToldOf limit given left text
+IsReported limit given left text Usage = ⊥
+IsReported limit given left text WriteFault = ⊥
+IsReported limit given left text NoMemory = ⊥
+
+-- the first bytes of a text, and nothing else, are written behind what was there
+pub record IsBegun (before now : Option (List ℕ)) (text : List ℕ) : Type 0 where
+  pub part : List ℕ
+  pub prefix : IsPrefix part text
+  pub written : now ≡ append_known before part
+
+-- what is written after a read fault: all where nothing else failed
+pub record IsWrittenOf (limit : ℕ) (given : List ℕ) (left : Option (List ℕ)) (before now : Option (List ℕ)) (unfailed : Type 0) : Type 0 where
+  pub text : List ℕ
+  pub told : IsToldOf limit given left text
+  pub begun : IsBegun before now text
+  pub whole : unfailed → now ≡ append_known before text
+
+-- the answer where the sink failed: a read fault stays one
+abbrev pub after_fault : Status → Status
+after_fault ReadFault = ReadFault
+after_fault Done = WriteFault
+after_fault (Refused n c) = WriteFault
+after_fault Usage = WriteFault
+after_fault WriteFault = WriteFault
+after_fault NoMemory = WriteFault
+
+-- how a play of a source ends, and what that does to its count of faults
+abbrev pub StatusCount : ℕ → ℕ → Status → Type 0
+StatusCount before now Done = now ≡ before
+StatusCount before now (Refused n c) = now ≡ before
+StatusCount before now ReadFault = before < now
+StatusCount before now Usage = ⊥
+StatusCount before now WriteFault = ⊥
+StatusCount before now NoMemory = ⊥

@@ -5,6 +5,9 @@ mod allowed;
 mod candidates;
 mod frame_lines;
 mod player;
+mod scene_play;
 mod status;
+mod transfer;
 
+pub use scene_play::play;
 pub use status::{Limits, Status};
