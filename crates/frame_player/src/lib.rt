@@ -8,6 +8,8 @@ mod player;
 mod scene_play;
 mod status;
 mod transfer;
+mod worked;
 
 pub use scene_play::play;
 pub use status::{Limits, Status};
+pub use worked::worked_scenes;
