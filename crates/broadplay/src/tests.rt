@@ -1,7 +1,8 @@
 use super::*;
 use broad_index::PlainIndex;
-use frame_player::{Cause, Limits, play};
-use play_io::{HonestSink, HonestSource};
+use frame_player::{Limits, play};
+use pair_report::Cause;
+use play_io::{HonestSink, HonestSource, MemSink, MemSource};
 use std::alloc::{AllocError, Global};
 use std::process::Abort;
 use std::test::Fail;
@@ -49,53 +50,210 @@ fn scenes_give_their_reports(rt: HostRuntime) -> Result<(), Fail> {
             Status::Done,
         ),
         (
-            b"scene 1\nscene 1\n",
-            b"refused 2 header\n",
-            refused(2, Cause::Header),
+            b"scene 1\nadd 0 0 0 1 1 1\nadd 1.00002 0 0 2 1 1\nframe\n",
+            b"add 0:0\nadd 1:0\nframe 1 0\nend 4 1 2\n",
+            Status::Done,
         ),
         (
-            b"scene 1\nmov\n",
-            b"refused 2 word\n",
-            refused(2, Cause::Word),
+            b"scene 1\nadd 0 0 0 1 1 1\nadd 1.000007 0 0 2 1 1\nframe\n",
+            b"add 0:0\nadd 1:0\nframe 1 1\nbegin 0:0 1:0\nend 4 1 2\n",
+            Status::Done,
         ),
         (
-            b"scene 1\nframe\nframe 1\n",
-            b"frame 1 0\nrefused 3 word\n",
-            refused(3, Cause::Word),
+            b"scene 1\nadd 0 0 0 1 1 1\nadd 1 0 0 2 1 1\nframe\nmove 1:0 5 0 0 6 1 1\nmove 1:0 1 0 0 2 1 1\nframe\n",
+            b"add 0:0\nadd 1:0\nframe 1 1\nbegin 0:0 1:0\nframe 2 1\nstay 0:0 1:0\nend 7 2 2\n",
+            Status::Done,
         ),
         (
-            b"scene 1\nadd 1 0 0 0 1\n",
-            b"refused 2 word\n",
-            refused(2, Cause::Word),
+            b"scene 1\nadd 0 0 0 1 1 1\nadd 1 0 0 2 1 1\nframe\nremove 0:0\nadd 0 0 0 1 1 1\nframe\n",
+            b"add 0:0\nadd 1:0\nframe 1 1\nbegin 0:0 1:0\nadd 0:1\nframe 2 1\nbegin 0:1 1:0\nover 0:0 1:0\nend 7 2 2\n",
+            Status::Done,
         ),
         (
-            b"scene 1\nadd 0 0 0 1 1 0.5\n",
-            b"refused 2 number\n",
-            refused(2, Cause::Number),
+            b"scene 1\nadd 0 0 0 1 1 1\nadd 1 0 0 2 1 1\nframe\nremove 0:0\nadd 0 0 0 1 1 1\nframe\nmove 0:0 9 9 9 9 9 9\nremove 77:0\nmask 007:00 1 1\nframe\n",
+            b"add 0:0\nadd 1:0\nframe 1 1\nbegin 0:0 1:0\nadd 0:1\nframe 2 1\nbegin 0:1 1:0\nover 0:0 1:0\nstale 0:0\nstale 77:0\nstale 7:0\nframe 3 1\nstay 0:1 1:0\nend 11 3 2\n",
+            Status::Done,
         ),
         (
-            b"scene 1\nadd 0 0 0 1 1 32768\n",
-            b"refused 2 number\n",
-            refused(2, Cause::Number),
+            b"scene 1\nadd 0 0 0 1 1 1 1 2\nadd 0 0 0 1 1 1 2 4\nframe\nmask 1:0 2 1\nframe\n",
+            b"add 0:0\nadd 1:0\nframe 1 0\nframe 2 1\nbegin 0:0 1:0\nend 6 2 2\n",
+            Status::Done,
         ),
         (
-            b"scene 1\nadd 0 0 0 1 1 000001\n",
-            b"refused 2 number\n",
-            refused(2, Cause::Number),
+            b"scene 1\nadd -32768 -32768 -32768 32767.99999 32767.99999 32767.99999\nadd 5 5 5 5 5 5\nframe\n",
+            b"add 0:0\nadd 1:0\nframe 1 1\nbegin 0:0 1:0\nend 4 1 2\n",
+            Status::Done,
         ),
         (
-            b"scene 1\nadd 1 0 0 0 1 1\n",
-            b"refused 2 number\n",
-            refused(2, Cause::Number),
+            b"scene 1\nadd 1 2 3 1 2 3\nadd 1 2 3.00002 1 2 3.00002\nray 0 0 0 1 2 3\n",
+            b"add 0:0\nadd 1:0\nray 1 0:0\nend 4 0 2\n",
+            Status::Done,
         ),
         (
-            b"# a comment, then a header\n\n\tscene\t1 # the version\r\nadd -32768 -0 0 32767 00001 1\nframe",
-            b"add 0:0\nframe 1 0\nend 5 1 1\n",
+            b"scene 1\nadd 0 0 0 2 2 2\nray 1 1 1 0 0 0\nray 3 1 1 0 0 0\nray 0 2 1 1 0 0\n",
+            b"add 0:0\nray 1 0:0\nray 0\nray 1 0:0\nend 5 0 1\n",
+            Status::Done,
+        ),
+        (
+            b"scene 1\nadd 10 0 0 11 1 1\nray 0 0.5 0.5 -1 0 0\nseg 0 0.5 0.5 9.99998 0.5 0.5\nseg 0 0.5 0.5 10 0.5 0.5\n",
+            b"add 0:0\nray 0\nseg 0\nseg 1 0:0\nend 5 0 1\n",
+            Status::Done,
+        ),
+        (
+            b"scene 1\nadd -1 -1 -1 1 1 1\nseg -32768 -32768 -32768 32767.99999 32767.99999 32767.99999\n",
+            b"add 0:0\nseg 1 0:0\nend 3 0 1\n",
+            Status::Done,
+        ),
+        (
+            b"scene 1\nadd 0 0 0 0 0 0\nadd 100 0 0 100 0 0\nadd -100 0 0 -100 0 0\nadd 0 100 0 0 100 0\nadd 0 0 100 0 0 100 2\nbox -32768 -32768 -32768 32767.99999 32767.99999 32767.99999\nbox -32768 -32768 -32768 32767.99999 32767.99999 32767.99999 1\n",
+            b"add 0:0\nadd 1:0\nadd 2:0\nadd 3:0\nadd 4:0\nbox 5 0:0 1:0 2:0 3:0 4:0\nbox 4 0:0 1:0 2:0 3:0\nend 8 0 5\n",
+            Status::Done,
+        ),
+        (
+            b"scene 1\nadd 0 0 0 1 1 1\nframe\n\nadd 1 0 0 0 1 1\n",
+            b"add 0:0\nframe 1 0\nrefused 5 inverted\n",
+            refused(5, Cause::Inverted),
+        ),
+        (
+            b"scene 1\n# floor, two crates, a player\nadd -100 -1 -100 100 0 100 1 6\nadd 2 0 2 3 1 3 2 7\nadd 2.5 1 2.5 3.5 2 3.5 2 7\nadd 10 0.5 10 10.8 2.3 10.8 4 3\nframe\nmove 3:0 3 0.5 3 3.8 2.3 3.8\nray 0 1.5 3 1 0 0 4\nframe\nremove 2:0\nframe\n",
+            b"add 0:0\nadd 1:0\nadd 2:0\nadd 3:0\nframe 1 2\nbegin 0:0 1:0\nbegin 1:0 2:0\nray 1 3:0\nframe 2 4\nstay 0:0 1:0\nstay 1:0 2:0\nbegin 1:0 3:0\nbegin 2:0 3:0\nframe 3 2\nstay 0:0 1:0\nstay 1:0 3:0\nover 1:0 2:0\nover 2:0 3:0\nend 12 3 3\n",
+            Status::Done,
+        ),
+        (
+            b"\tscene  1\r\n#\xff\xfe\r\n add 0 0 0\t1 1 1 # a\r\nadd 1 0 0 2 1 1\r\nframe",
+            b"add 0:0\nadd 1:0\nframe 1 1\nbegin 0:0 1:0\nend 5 1 2\n",
             Status::Done,
         ),
     ];
     for (scene, report, status) in rows {
         written(&rt, rt.alloc(), &["play"], scene, report, status)?;
+    }
+    Ok(())
+}
+
+#[test]
+fn bad_lines_are_refused(rt: HostRuntime) -> Result<(), Fail> {
+    let rows = [
+        ("scene 1", "header", Cause::Header),
+        ("mov 0:0", "word", Cause::Word),
+        ("frame 1", "count", Cause::Count),
+        ("add 1 0 0 0 1", "count", Cause::Count),
+        ("move 0-0 x 0 0 1 1 1", "handle", Cause::Handle),
+        ("remove 4294967296:0", "handle", Cause::Handle),
+        ("add x 99999 0 1 1 1", "number", Cause::Number),
+        ("add 99999 x 0 1 1 1", "range", Cause::Range),
+        ("mask 0:0 g 1", "mask", Cause::Mask),
+        ("add 1 0 0 0 1 1 123456789", "mask", Cause::Mask),
+        ("move 0:0 1 0 0 0 1 1", "inverted", Cause::Inverted),
+    ];
+    for (line, word, cause) in rows {
+        let mut scene = String::from_str(rt.alloc(), "scene 1\n")?;
+        writeln!(scene, "{line}")?;
+        let mut report = String::new(rt.alloc());
+        writeln!(report, "refused 2 {word}")?;
+        let status = refused(2, cause);
+        written(
+            &rt,
+            rt.alloc(),
+            &["play"],
+            scene.as_bytes(),
+            report.as_bytes(),
+            status,
+        )?;
+    }
+    Ok(())
+}
+
+// A comment line of `#` and so many bytes after the header.
+fn commented(alloc: Global, bytes: u32, end: &str) -> Result<String, AllocError> {
+    let mut scene = String::from_str(alloc, "scene 1\n#")?;
+    for _ in 0..bytes {
+        scene.push_str("x")?;
+    }
+    scene.push_str(end)?;
+    Ok(scene)
+}
+
+#[test]
+fn a_line_has_at_most_1024_bytes(rt: HostRuntime) -> Result<(), Fail> {
+    let passes = b"end 2 0 0\n".as_slice();
+    let rows = [
+        (1023, "\n", passes, Status::Done),
+        (1023, "\r\n", passes, Status::Done),
+        (1024, "\n", b"refused 2 long\n", refused(2, Cause::Long)),
+    ];
+    for (bytes, end, report, status) in rows {
+        let scene = commented(rt.alloc(), bytes, end)?;
+        written(&rt, rt.alloc(), &["play"], scene.as_bytes(), report, status)?;
+    }
+    Ok(())
+}
+
+// What `play` writes for a scene where calls of the source and of the sink fail, a byte at a time.
+fn written_with_faults<R: Threads + Sync + Abort>(
+    rt: &R,
+    alloc: Global,
+    scene: &[u8],
+    failing: (&[u32], &[u32]),
+    report: &[u8],
+    status: Status,
+) -> Result<(), Fail> {
+    let mut list = Vec::new(alloc);
+    list.push(String::from_str(alloc, "play")?)?;
+    let mut source = MemSource::new(alloc, scene, 1, failing.0)?;
+    let mut sink = MemSink::new(alloc, 1, failing.1)?;
+    let answer = broadplay(rt, alloc, &list, &mut source, &mut sink);
+    assert_eq!(rt; sink.bytes(), report);
+    assert_eq!(rt; answer, status);
+    Ok(())
+}
+
+#[test]
+fn faults_end_a_play(rt: HostRuntime) -> Result<(), Fail> {
+    let none: &[u32] = &[];
+    let cut = b"scene 1\nframe\nfra".as_slice();
+    let whole = b"scene 1\nframe\n".as_slice();
+    let rows = [
+        (
+            cut,
+            [17].as_slice(),
+            none,
+            b"frame 1 0\n".as_slice(),
+            Status::ReadFault,
+        ),
+        (whole, none, [0].as_slice(), b"", Status::WriteFault),
+        (whole, none, [3].as_slice(), b"fra", Status::WriteFault),
+        (
+            whole,
+            none,
+            [20].as_slice(),
+            b"frame 1 0\nend 2 1 0\n",
+            Status::WriteFault,
+        ),
+        (
+            whole,
+            [14].as_slice(),
+            [0].as_slice(),
+            b"",
+            Status::ReadFault,
+        ),
+        (
+            whole,
+            [14].as_slice(),
+            none,
+            b"frame 1 0\n",
+            Status::ReadFault,
+        ),
+        (
+            whole,
+            [15].as_slice(),
+            none,
+            b"frame 1 0\nend 2 1 0\n",
+            Status::Done,
+        ),
+    ];
+    for (scene, reads, writes, report, status) in rows {
+        written_with_faults(&rt, rt.alloc(), scene, (reads, writes), report, status)?;
     }
     Ok(())
 }
@@ -194,5 +352,20 @@ fn so_many_boxes_live_and_no_more(rt: HostRuntime) -> Result<(), Fail> {
         scene.as_bytes(),
         report.as_bytes(),
         status,
+    )
+}
+
+#[test]
+fn a_slot_that_is_free_again_takes_the_next_box(rt: HostRuntime) -> Result<(), Fail> {
+    let (mut scene, mut report) = crowd(rt.alloc(), 8192, 8192)?;
+    scene.push_str("remove 5:0\nadd 8192 8192 8192 8192 8192 8192\n")?;
+    report.push_str("add 5:1\nend 8195 0 8192\n")?;
+    written(
+        &rt,
+        rt.alloc(),
+        &["play"],
+        scene.as_bytes(),
+        report.as_bytes(),
+        Status::Done,
     )
 }
