@@ -1,12 +1,12 @@
 -- What an index holds after a change of the live boxes.
-use Rattle.std.proofs.Common.{◌≡◌, ◌≢◌, ℕ, suc, ◌<◌, ◌≤◌, Bool, true, false, cond, not, T, ◌&&◌, List, [], ◌∷◌, ◌++◌, map, filter, length, Option, Some, None, is_some, refl, sym, ap, ◌∙◌, subst, arith, nat_eq, nat_lt}
+use Rattle.std.proofs.Common.{◌≡◌, ◌≢◌, ℕ, suc, ◌<◌, Bool, true, false, cond, not, T, List, [], ◌∷◌, length, Some, None, is_some, refl, sym, ap, ◌∙◌, subst, arith, nat_eq, nat_lt}
 use Rattle.std.specs.List.{list_all, All}
 use Rattle.std.specs.Ordering.{nat_cmp, is_lt, is_eq, eq_by_cmp}
 use Rattle.std.specs.declared.cmp.Ordering.TheVariants.{Less, Equal, Greater}
 use Rattle.std.specs.Cmp.{first_so, second_so, nat_cmp_is, eq_by_cmp_equiv, alike_right}
 use Rattle.std.specs.Cmp.Derive.{both_true}
 use Rattle.std.specs.FinMap.{FinMap, entries, entries-insert, entries-from_sorted, from_sorted, is_sorted, insert, remove, find, put, contains_key, get-from_sorted, get-remove, same_entries_map, same_map, nat_cmp-IsAntisymmetric, empty, empty_of_len, len-entries}
-use Rattle.std.specs.FinMap.Entries.{below_all, is_sorted-put, where_key, is_sorted-where_key, find-where_key}
+use Rattle.std.specs.FinMap.Entries.{below_all, where_key, is_sorted-where_key, find-where_key}
 use Rattle.std.proofs.lemmas.Bool.{eqb-true}
 use Rattle.std.proofs.lemmas.Bool.Decides.{nat_tests}
 use Rattle.std.proofs.lemmas.Cmp.{nat_cmp_total}
@@ -14,7 +14,7 @@ use Rattle.fixed_box.specs.Bounds.{Bounds}
 use Rattle.live_table.specs.declared.handle.Handle.{Handle}
 use Rattle.live_table.specs.declared.live.Live.{Live}
 use Rattle.live_table.specs.declared.masks.Masks.{Masks}
-use Rattle.live_table.specs.Entries.{slot_of, has, entry_at, entered, changed, with_body, with_masks, without, rises, IsLeastFree}
+use Rattle.live_table.specs.Entries.{slot_of, has, entry_at, entered, with_body, with_masks, without, rises, IsLeastFree}
 use Rattle.frame_player.specs.Indexed.{slots_with_bodies, indexed}
 
 true_to : (b : Bool) → b ≡ true → T b

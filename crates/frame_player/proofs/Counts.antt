@@ -1,6 +1,6 @@
 -- How many pairs there can be, and how many exchanges a line can make.
-use Rattle.std.proofs.Common.{◌≡◌, ℕ, ℤ, ◌+◌, ◌*◌, ◌≤◌, Bool, true, false, cond, not, List, [], ◌∷◌, ◌++◌, map, filter, length, refl, sym, ap, ◌∙◌, arith, Option, Some, None, nat_eq}
-use Rattle.std.specs.List.{count_by, flat_map}
+use Rattle.std.proofs.Common.{ℕ, ℤ, ◌+◌, ◌*◌, ◌≤◌, Bool, true, false, cond, not, List, [], ◌∷◌, filter, length, arith, Option, Some, None, nat_eq}
+use Rattle.std.specs.List.{count_by}
 use Rattle.std.specs.Ordering.{nat_cmp}
 use Rattle.std.specs.FinMap.{FinMap, entries, get}
 use Rattle.std.proofs.lemmas.List.{length-append, length-map}
@@ -9,7 +9,7 @@ use Rattle.fixed_box.specs.Bounds.{Bounds}
 use Rattle.fixed_box.specs.declared.point.Point.{Point}
 use Rattle.live_table.specs.declared.live.Live.{Live}
 use Rattle.pair_events.specs.declared.hpair.HPair.{HPair}
-use Rattle.broad_index.specs.Exchanges.{Key, key_lt, is_between, min_key, max_key, keys, others, over_axes, passed_by_add, passed_between, passed_from, passed_by_shift}
+use Rattle.broad_index.specs.Exchanges.{Key, key_lt, is_between, min_key, max_key, keys, others, over_axes, passed_by_add, passed_from, passed_by_shift}
 use Rattle.frame_player.specs.Pairs.{may_touch, partners, pairs_of}
 
 kept_le : {A : Type 0} (p : A → Bool) (xs : List A) → length (filter p xs) ≤ length xs

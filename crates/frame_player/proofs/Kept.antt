@@ -1,5 +1,5 @@
 -- An index keeps the boxes of the table, and a line counts little, whichever way the call ends.
-use Rattle.std.proofs.Common.{◌≡◌, ℕ, ◌≤◌, ◌+◌, true, List, map, length, is_some, Result, Ok, Err, OnOk, refl, sym, ap, ◌∙◌, subst, arith}
+use Rattle.std.proofs.Common.{◌≡◌, ℕ, ◌≤◌, true, List, length, is_some, Result, Ok, Err, OnOk, sym, ap, ◌∙◌, subst}
 use Rattle.std.specs.Ordering.{nat_cmp}
 use Rattle.std.specs.FinMap.{FinMap, entries, insert, remove}
 use Rattle.std.proofs.lemmas.List.{length-map}
@@ -24,7 +24,7 @@ few_bodies bodies es e r few =
 
 -- a box under the next handle
 pub added_boxes : (old new : FinMap nat_cmp Bounds) (t u : Table) (handle : Handle) (body : Bounds) (masks : Masks)
-  → old ≡ indexed t.entries → new ≡ insert old handle.slot body → handle ≡ next_handle t → u ≡ after_give t body masks → IsTable t → IsTable u → IsLeastFree handle.slot t.entries → new ≡ indexed u.entries
+    → old ≡ indexed t.entries → new ≡ insert old handle.slot body → handle ≡ next_handle t → u ≡ after_give t body masks → IsTable t → IsTable u → IsLeastFree handle.slot t.entries → new ≡ indexed u.entries
 added_boxes old new t u handle body masks boxes inserted next given is_t is_u free =
     let es = t.entries in
     let entry : Live = record { handle = next_handle t; body = body; masks = masks } in
@@ -34,7 +34,7 @@ added_boxes old new t u handle body masks boxes inserted next given is_t is_u fr
 
 -- a box that moved
 pub moved_boxes : (old new : FinMap nat_cmp Bounds) (t u : Table) (handle : Handle) (body : Bounds)
-  → old ≡ indexed t.entries → new ≡ insert old handle.slot body → u ≡ after_set_box t handle body → IsTable t → IsTable u → true ≡ is_some (entry_at handle t.entries) → new ≡ indexed u.entries
+    → old ≡ indexed t.entries → new ≡ insert old handle.slot body → u ≡ after_set_box t handle body → IsTable t → IsTable u → true ≡ is_some (entry_at handle t.entries) → new ≡ indexed u.entries
 moved_boxes old new t u handle body boxes inserted after is_t is_u known =
     inserted ∙ ap (λ b. insert b handle.slot body) boxes
     ∙ insert-with_body handle body t.entries is_t.rising (subst (λ v. rises v.entries ≡ true) after is_u.rising) (sym known)
@@ -42,12 +42,12 @@ moved_boxes old new t u handle body boxes inserted after is_t is_u known =
 
 -- a box with other masks
 pub masked_boxes : (old : FinMap nat_cmp Bounds) (t u : Table) (handle : Handle) (masks : Masks)
-  → old ≡ indexed t.entries → u ≡ after_set_masks t handle masks → old ≡ indexed u.entries
+    → old ≡ indexed t.entries → u ≡ after_set_masks t handle masks → old ≡ indexed u.entries
 masked_boxes old t u handle masks boxes after = boxes ∙ sym (indexed-with_masks handle masks t.entries) ∙ ap (λ v. indexed v.entries) (sym after)
 
 -- a box that is gone
 pub removed_boxes : (old new : FinMap nat_cmp Bounds) (t u : Table) (handle : Handle)
-  → old ≡ indexed t.entries → new ≡ remove old handle.slot → u ≡ after_take t handle → IsTable t → is_some (entry_at handle t.entries) ≡ true → new ≡ indexed u.entries
+    → old ≡ indexed t.entries → new ≡ remove old handle.slot → u ≡ after_take t handle → IsTable t → is_some (entry_at handle t.entries) ≡ true → new ≡ indexed u.entries
 removed_boxes old new t u handle boxes removed after is_t known =
     removed ∙ ap (λ b. remove b handle.slot) boxes ∙ remove-indexed handle t.entries is_t.rising known ∙ ap (λ v. indexed v.entries) (sym after)
 

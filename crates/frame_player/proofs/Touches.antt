@@ -1,11 +1,9 @@
 -- The answers of an index over the live boxes are those of the boxes themselves.
-use Rattle.std.proofs.Common.{◌≡◌, ℕ, ◌<◌, Bool, true, false, cond, ◌&&◌, List, [], ◌∷◌, ◌++◌, map, filter, Option, Some, None, refl, sym, ap, ◌∙◌, arith, nat_eq, nat_lt}
+use Rattle.std.proofs.Common.{◌≡◌, ℕ, true, false, cond, ◌&&◌, List, [], ◌∷◌, ◌++◌, map, filter, Option, Some, None, refl, ap, ◌∙◌, arith, nat_eq, nat_lt}
 use Rattle.std.specs.List.{filter_map, list_all, cons_option}
-use Rattle.std.specs.Ordering.{nat_cmp}
 use Rattle.std.specs.Cmp.{first_so, second_so}
 use Rattle.std.proofs.lemmas.Bool.Decides.{nat_tests}
-use Rattle.fixed_box.specs.Bounds.{Bounds, meets}
-use Rattle.live_table.specs.declared.handle.Handle.{Handle}
+use Rattle.fixed_box.specs.Bounds.{meets}
 use Rattle.live_table.specs.declared.live.Live.{Live}
 use Rattle.live_table.specs.Entries.{slot_of, live_at, rises}
 use Rattle.live_table.specs.Masks.{may}
@@ -13,7 +11,6 @@ use Rattle.broad_index.specs.declared.pair.Pair.{Pair}
 use Rattle.broad_index.specs.declared.query.Query.{Query}
 use Rattle.broad_index.specs.Near.{near_of, partners as slot_partners}
 use Rattle.broad_index.specs.Found.{found_of, query_meets}
-use Rattle.pair_events.specs.declared.hpair.HPair.{HPair}
 use Rattle.frame_player.specs.Pairs.{may_touch, partners, pairs_of, is_asked_for, hits_of}
 use Rattle.broad_index.specs.Near.{near}
 use Rattle.broad_index.specs.Found.{found}

@@ -7,7 +7,6 @@ use Rattle.fixed_box.specs.declared.no_memory.NoMemory.{NoMemory}
 use Rattle.pair_report.specs.declared.cause.Cause.{Cause}
 use Rattle.pair_report.specs.declared.cause.Cause.TheVariants as cause
 use Rattle.pair_report.specs.PairReport.{end_line, refused_line}
-use Rattle.scene_lines.specs.declared.next.Next.{Next}
 use Rattle.scene_lines.specs.declared.next.Next.TheVariants.{Line, End, Long, TooMany}
 use Rattle.scene_lines.specs.Next.{answer_at}
 use Rattle.scene_lines.specs.Reading.{Reading, coming}
@@ -32,12 +31,13 @@ append_known-nil (Some k) = ap Some (sym (append-nil k))
 
 -- one more piece of a text is written
 pub piece_written : (text rest back : List ℕ) (n : ℕ) (before was now : Option (List ℕ)) → (done : List ℕ) × (text ≡ done ++ rest) × (was ≡ append_known before done) → now ≡ append_known was (take n rest) → back ≡ drop n rest
-  → (done : List ℕ) × (text ≡ done ++ back) × (now ≡ append_known before done)
+    → (done : List ℕ) × (text ≡ done ++ back) × (now ≡ append_known before done)
 piece_written text rest back n before was now so_far piece left =
-    let done = so_far.0 in
-    (done ++ take n rest,
-    so_far.1 ∙ ap (λ r. done ++ r) (sym (take-append-drop n rest)) ∙ sym (append_assoc done (take n rest) (drop n rest)) ∙ ap (λ r. (done ++ take n rest) ++ r) (sym left),
-    piece ∙ ap (λ known. append_known known (take n rest)) so_far.2 ∙ append_known-append before done (take n rest))
+    let done = so_far.0 in (
+      done ++ take n rest,
+      so_far.1 ∙ ap (λ r. done ++ r) (sym (take-append-drop n rest)) ∙ sym (append_assoc done (take n rest) (drop n rest)) ∙ ap (λ r. (done ++ take n rest) ++ r) (sym left),
+      piece ∙ ap (λ known. append_known known (take n rest)) so_far.2 ∙ append_known-append before done (take n rest),
+    )
 
 pub on_some : {A : Type 0} {P Q : A → Type 0} (o : Option A) → IfSome o P → ((a : A) → P a → Q a) → IfSome o Q
 on_some None p f = tt
@@ -69,8 +69,8 @@ asked_past limit n w line h = rw (past limit n h) refl
 
 -- before the first line
 pub opened : (limit : ℕ) (left : Option (List ℕ)) (reader : Reading) (w : World) (out : List ℕ)
-  → reader ≡ record { limit = limit; line = []; number = 0; ended = false; over = false; held = [] } → w ≡ opening → out ≡ []
-  → IfSome left (λ given. IsReached limit given left reader.held reader.over w (reader.number + 1) out)
+    → reader ≡ record { limit = limit; line = []; number = 0; ended = false; over = false; held = [] } → w ≡ opening → out ≡ []
+    → IfSome left (λ given. IsReached limit given left reader.held reader.over w (reader.number + 1) out)
 opened limit None reader w out er ew eo = tt
 opened limit (Some given) reader w out er ew eo = rw (er, ew, eo) (record { bytes = given; coming = refl; told = refl; front = []; split = refl; ahead = λ _ more. refl })
 
@@ -87,16 +87,16 @@ missing false b h isnt = absurd (let yes : b ≡ true = h refl in cc)
 
 -- a line that passes
 pub line_played : (limit : ℕ) (given : List ℕ) (left now : Option (List ℕ)) (old new : Reading) (w v : World) (out longer : List ℕ) (said : Command)
-  → ((bytes more : List ℕ) → has_feed bytes ≡ true → lines (take (length_ahead bytes + 1) bytes ++ more) false ≡ line_ahead bytes ∷ lines more false)
-  → IsReached limit given left old.held old.over w (old.number + 1) out
-  → IfSome (coming old.held left) (λ bytes. new.line ≡ line_ahead bytes)
-  → coming new.held now ≡ option_map past_line (coming old.held left)
-  → IfSome (coming old.held left) (λ bytes. IfSome (coming new.held now) (λ rest. lines bytes true ≡ new.line ∷ lines rest true))
-  → IfSome (coming old.held left) (λ bytes. has_feed bytes ≡ false → new.over ≡ true)
-  → (old.over ≡ true → new.over ≡ true)
-  → new.number ≡ old.number + 1 → new.number ≤ limit → length new.line ≤ 1024
-  → allowed w (command One new.line) ≡ Ok said → v ≡ after w said → longer ≡ out ++ reply w said
-  → IsReached limit given now new.held new.over v (new.number + 1) longer
+    → ((bytes more : List ℕ) → has_feed bytes ≡ true → lines (take (length_ahead bytes + 1) bytes ++ more) false ≡ line_ahead bytes ∷ lines more false)
+    → IsReached limit given left old.held old.over w (old.number + 1) out
+    → IfSome (coming old.held left) (λ bytes. new.line ≡ line_ahead bytes)
+    → coming new.held now ≡ option_map past_line (coming old.held left)
+    → IfSome (coming old.held left) (λ bytes. IfSome (coming new.held now) (λ rest. lines bytes true ≡ new.line ∷ lines rest true))
+    → IfSome (coming old.held left) (λ bytes. has_feed bytes ≡ false → new.over ≡ true)
+    → (old.over ≡ true → new.over ≡ true)
+    → new.number ≡ old.number + 1 → new.number ≤ limit → length new.line ≤ 1024
+    → allowed w (command One new.line) ≡ Ok said → v ≡ after w said → longer ≡ out ++ reply w said
+    → IsReached limit given now new.held new.over v (new.number + 1) longer
 line_played limit given left now old new w v out longer said law reached line rest first last stays number within short passed ew eo =
     let bytes = reached.bytes in
     let here = reached.coming in
@@ -105,13 +105,13 @@ line_played limit given left now old new w v out longer said law reached line re
     let line_is : new.line ≡ line_ahead bytes = subst (λ o. IfSome o (λ b. new.line ≡ line_ahead b)) here line in
     let rest_is : coming new.held now ≡ Some (past_line bytes) = rest ∙ ap (option_map past_line) here in
     let first_is : lines bytes true ≡ new.line ∷ lines (past_line bytes) true =
-      subst (λ o. IfSome o (λ r. lines bytes true ≡ new.line ∷ lines r true)) rest_is (subst (λ o. IfSome o (λ b. IfSome (coming new.held now) (λ r. lines b true ≡ new.line ∷ lines r true))) here first) in
+    subst (λ o. IfSome o (λ r. lines bytes true ≡ new.line ∷ lines r true)) rest_is (subst (λ o. IfSome o (λ b. IfSome (coming new.held now) (λ r. lines b true ≡ new.line ∷ lines r true))) here first) in
     let last_is : has_feed bytes ≡ false → new.over ≡ true = subst (λ o. IfSome o (λ b. has_feed b ≡ false → new.over ≡ true)) here last in
     let asks : asked limit w (old.number + 1) new.line ≡ Ok said = asked_within limit (old.number + 1) w new.line (subst (λ n. n ≤ limit) number within) short ∙ passed in
     let goes_on : (more : List (List ℕ)) → told_first (out ++ reply w said) (play_from limit (after w said) (new.number + 1) more) ≡ told_first out (play_from limit w (old.number + 1) (new.line ∷ more)) = λ more.
-      told_twice out (reply w said) _
-      ∙ ap (λ n. told_first out (told_first (reply w said) (play_from limit (after w said) (n + 1) more))) number
-      ∙ ap (λ a. told_first out (step w (old.number + 1) a (λ next. play_from limit next (old.number + 1 + 1) more))) (sym asks) in
+    told_twice out (reply w said) _
+    ∙ ap (λ n. told_first out (told_first (reply w said) (play_from limit (after w said) (n + 1) more))) number
+    ∙ ap (λ a. told_first out (step w (old.number + 1) a (λ next. play_from limit next (old.number + 1 + 1) more))) (sym asks) in
     record {
       bytes = past_line bytes;
       coming = rest_is;
@@ -119,39 +119,39 @@ line_played limit given left now old new w v out longer said law reached line re
       front = front ++ cut;
       split = reached.split ∙ ap (λ b. front ++ b) (sym (take-append-drop (length_ahead bytes + 1) bytes)) ∙ sym (append_assoc front cut (past_line bytes));
       ahead = λ goes more.
-        let feed : has_feed bytes ≡ true = missing (has_feed bytes) new.over last_is goes in
-        let ended : lines (cut ++ more) false ≡ new.line ∷ lines more false = law bytes more feed ∙ ap (λ l. l ∷ lines more false) (sym line_is) in
-        rw (ew, eo) (goes_on (lines more false) ∙ ap (λ ls. told_first out (play_from limit w (old.number + 1) ls)) (sym ended)
-        ∙ reached.ahead (opposite old.over new.over stays goes) (cut ++ more) ∙ ap (λ b. played limit (lines b false)) (sym (append_assoc front cut more)));
+          let feed : has_feed bytes ≡ true = missing (has_feed bytes) new.over last_is goes in
+          let ended : lines (cut ++ more) false ≡ new.line ∷ lines more false = law bytes more feed ∙ ap (λ l. l ∷ lines more false) (sym line_is) in
+          rw (ew, eo) (goes_on (lines more false) ∙ ap (λ ls. told_first out (play_from limit w (old.number + 1) ls)) (sym ended)
+          ∙ reached.ahead (opposite old.over new.over stays goes) (cut ++ more) ∙ ap (λ b. played limit (lines b false)) (sym (append_assoc front cut more)));
     }
 
 -- a play that ends with a last line
 ends : (limit : ℕ) (given : List ℕ) (out longer last : List ℕ) (status : Status) → told_first out (record { told = []; last = last; status = status }) ≡ played limit (lines given true) → longer ≡ out ++ last
-  → ((played limit (lines given true)).status ≡ status) × (longer ≡ report limit (lines given true))
+    → ((played limit (lines given true)).status ≡ status) × (longer ≡ report limit (lines given true))
 ends limit given out longer last status whole eo =
     (sym (ap (λ p. p.status) whole), eo ∙ ap (λ o. o ++ last) (sym (append-nil out)) ∙ ap (λ p. p.told ++ p.last) whole)
 
 -- a line that is refused
 refused_next : (limit : ℕ) (given bytes line : List ℕ) (more : List (List ℕ)) (w : World) (n : ℕ) (c : Cause) (out longer : List ℕ)
-  → told_first out (play_from limit w n (lines bytes true)) ≡ played limit (lines given true) → lines bytes true ≡ line ∷ more → asked limit w n line ≡ Err c → longer ≡ out ++ refused_line n c
-  → ((played limit (lines given true)).status ≡ Refused n c) × (longer ≡ report limit (lines given true))
+    → told_first out (play_from limit w n (lines bytes true)) ≡ played limit (lines given true) → lines bytes true ≡ line ∷ more → asked limit w n line ≡ Err c → longer ≡ out ++ refused_line n c
+    → ((played limit (lines given true)).status ≡ Refused n c) × (longer ≡ report limit (lines given true))
 refused_next limit given bytes line more w n c out longer told first asks eo =
     ends limit given out longer (refused_line n c) (Refused n c)
     (ap (λ a. told_first out (step w n a (λ next. play_from limit next (n + 1) more))) (sym asks) ∙ ap (λ ls. told_first out (play_from limit w n ls)) (sym first) ∙ told) eo
 
 pub line_refused : (limit : ℕ) (given : List ℕ) (left now : Option (List ℕ)) (old new : Reading) (w : World) (c : Cause) (out longer : List ℕ)
-  → IsReached limit given left old.held old.over w (old.number + 1) out
-  → coming new.held now ≡ option_map past_line (coming old.held left)
-  → IfSome (coming old.held left) (λ bytes. IfSome (coming new.held now) (λ rest. lines bytes true ≡ new.line ∷ lines rest true))
-  → new.number ≡ old.number + 1 → new.number ≤ limit → length new.line ≤ 1024
-  → allowed w (command One new.line) ≡ Err c → longer ≡ out ++ refused_line new.number c
-  → ((played limit (lines given true)).status ≡ Refused new.number c) × (longer ≡ report limit (lines given true))
+    → IsReached limit given left old.held old.over w (old.number + 1) out
+    → coming new.held now ≡ option_map past_line (coming old.held left)
+    → IfSome (coming old.held left) (λ bytes. IfSome (coming new.held now) (λ rest. lines bytes true ≡ new.line ∷ lines rest true))
+    → new.number ≡ old.number + 1 → new.number ≤ limit → length new.line ≤ 1024
+    → allowed w (command One new.line) ≡ Err c → longer ≡ out ++ refused_line new.number c
+    → ((played limit (lines given true)).status ≡ Refused new.number c) × (longer ≡ report limit (lines given true))
 line_refused limit given left now old new w c out longer reached rest first number within short refused eo =
     let bytes = reached.bytes in
     let here = reached.coming in
     let rest_is : coming new.held now ≡ Some (past_line bytes) = rest ∙ ap (option_map past_line) here in
     let first_is : lines bytes true ≡ new.line ∷ lines (past_line bytes) true =
-      subst (λ o. IfSome o (λ r. lines bytes true ≡ new.line ∷ lines r true)) rest_is (subst (λ o. IfSome o (λ b. IfSome (coming new.held now) (λ r. lines b true ≡ new.line ∷ lines r true))) here first) in
+    subst (λ o. IfSome o (λ r. lines bytes true ≡ new.line ∷ lines r true)) rest_is (subst (λ o. IfSome o (λ b. IfSome (coming new.held now) (λ r. lines b true ≡ new.line ∷ lines r true))) here first) in
     refused_next limit given bytes new.line (lines (past_line bytes) true) w new.number c out longer
     (subst (λ n. told_first out (play_from limit w n (lines bytes true)) ≡ played limit (lines given true)) (sym number) reached.told)
     first_is (asked_within limit new.number w new.line within short ∙ refused) eo
@@ -189,11 +189,11 @@ at_least : (limit number : ℕ) → nat_le limit number ≡ true → limit < num
 at_least limit number h = grind (arith, nat_tests)
 
 pub long_refused : (limit number n : ℕ) (given : List ℕ) (left : Option (List ℕ)) (held : List ℕ) (over : Bool) (w : World) (out longer : List ℕ)
-  → ((bytes : List ℕ) → 0 < length bytes → lines bytes true ≡ line_ahead bytes ∷ lines (past_line bytes) true)
-  → IsReached limit given left held over w (number + 1) out
-  → IfSome (coming held left) (λ bytes. Long ≡ answer_at limit number bytes)
-  → n ≡ number + 1 → longer ≡ out ++ refused_line n cause.Long
-  → ((played limit (lines given true)).status ≡ Refused n cause.Long) × (longer ≡ report limit (lines given true))
+    → ((bytes : List ℕ) → 0 < length bytes → lines bytes true ≡ line_ahead bytes ∷ lines (past_line bytes) true)
+    → IsReached limit given left held over w (number + 1) out
+    → IfSome (coming held left) (λ bytes. Long ≡ answer_at limit number bytes)
+    → n ≡ number + 1 → longer ≡ out ++ refused_line n cause.Long
+    → ((played limit (lines given true)).status ≡ Refused n cause.Long) × (longer ≡ report limit (lines given true))
 long_refused limit number n given left held over w out longer law reached exact number_is eo =
     let bytes = reached.bytes in
     let is : Long ≡ answer_at limit number bytes = subst (λ o. IfSome o (λ b. Long ≡ answer_at limit number b)) reached.coming exact in
@@ -204,11 +204,11 @@ long_refused limit number n given left held over w out longer law reached exact 
     (asked_long limit n w (line_ahead bytes) (subst (λ k. k ≤ limit) (sym number_is) (above_all limit number when.1)) when.2) eo
 
 pub too_many_refused : (limit number n : ℕ) (given : List ℕ) (left : Option (List ℕ)) (held : List ℕ) (over : Bool) (w : World) (out longer : List ℕ)
-  → ((bytes : List ℕ) → 0 < length bytes → lines bytes true ≡ line_ahead bytes ∷ lines (past_line bytes) true)
-  → IsReached limit given left held over w (number + 1) out
-  → IfSome (coming held left) (λ bytes. TooMany ≡ answer_at limit number bytes)
-  → n ≡ number + 1 → longer ≡ out ++ refused_line n cause.Lines
-  → ((played limit (lines given true)).status ≡ Refused n cause.Lines) × (longer ≡ report limit (lines given true))
+    → ((bytes : List ℕ) → 0 < length bytes → lines bytes true ≡ line_ahead bytes ∷ lines (past_line bytes) true)
+    → IsReached limit given left held over w (number + 1) out
+    → IfSome (coming held left) (λ bytes. TooMany ≡ answer_at limit number bytes)
+    → n ≡ number + 1 → longer ≡ out ++ refused_line n cause.Lines
+    → ((played limit (lines given true)).status ≡ Refused n cause.Lines) × (longer ≡ report limit (lines given true))
 too_many_refused limit number n given left held over w out longer law reached exact number_is eo =
     let bytes = reached.bytes in
     let is : TooMany ≡ answer_at limit number bytes = subst (λ o. IfSome o (λ b. TooMany ≡ answer_at limit number b)) reached.coming exact in
@@ -225,15 +225,15 @@ none_come limit number held left bytes here exact =
     no_bytes bytes (end_when (nat_eq (length bytes) 0) (nat_le limit number) (nat_lt 1024 (length (line_ahead bytes))) is)
 
 at_end : (limit number : ℕ) (given : List ℕ) (left : Option (List ℕ)) (held : List ℕ) (over : Bool) (w : World) (out : List ℕ)
-  → IsReached limit given left held over w (number + 1) out → IfSome (coming held left) (λ bytes. End ≡ answer_at limit number bytes)
-  → told_first out (ended_at w (number + 1)) ≡ played limit (lines given true)
+    → IsReached limit given left held over w (number + 1) out → IfSome (coming held left) (λ bytes. End ≡ answer_at limit number bytes)
+    → told_first out (ended_at w (number + 1)) ≡ played limit (lines given true)
 at_end limit number given left held over w out reached exact =
     ap (λ b. told_first out (play_from limit w (number + 1) (lines b true))) (sym (none_come limit number held left reached.bytes reached.coming exact)) ∙ reached.told
 
 pub end_refused : (limit number n : ℕ) (given : List ℕ) (left : Option (List ℕ)) (held : List ℕ) (over : Bool) (w : World) (out longer : List ℕ)
-  → IsReached limit given left held over w (number + 1) out → IfSome (coming held left) (λ bytes. End ≡ answer_at limit number bytes)
-  → n ≡ number → w.header ≡ false → longer ≡ out ++ refused_line (n + 1) cause.Header
-  → ((played limit (lines given true)).status ≡ Refused (n + 1) cause.Header) × (longer ≡ report limit (lines given true))
+    → IsReached limit given left held over w (number + 1) out → IfSome (coming held left) (λ bytes. End ≡ answer_at limit number bytes)
+    → n ≡ number → w.header ≡ false → longer ≡ out ++ refused_line (n + 1) cause.Header
+    → ((played limit (lines given true)).status ≡ Refused (n + 1) cause.Header) × (longer ≡ report limit (lines given true))
 end_refused limit number n given left held over w out longer reached exact number_is none eo =
     ends limit given out longer (refused_line (n + 1) cause.Header) (Refused (n + 1) cause.Header)
     (ap (λ k. told_first out (refused_at (k + 1) cause.Header)) number_is
@@ -246,16 +246,16 @@ none_left [] (Some l) h = h
 none_left (b ∷ held) (Some l) h = absurd (cc)
 
 pub end_done : (limit number n : ℕ) (given : List ℕ) (left now : Option (List ℕ)) (held kept : List ℕ) (over : Bool) (w : World) (out longer : List ℕ)
-  → IsReached limit given left held over w (number + 1) out → IfSome (coming held left) (λ bytes. End ≡ answer_at limit number bytes)
-  → coming kept now ≡ coming held left
-  → n ≡ number → w.header ≡ true → longer ≡ out ++ end_line n w.frames (length w.table.entries)
-  → IsReported limit given now longer Done
+    → IsReached limit given left held over w (number + 1) out → IfSome (coming held left) (λ bytes. End ≡ answer_at limit number bytes)
+    → coming kept now ≡ coming held left
+    → n ≡ number → w.header ≡ true → longer ≡ out ++ end_line n w.frames (length w.table.entries)
+    → IsReported limit given now longer Done
 end_done limit number n given left now held kept over w out longer reached exact same number_is some eo =
     let before : number + 1 - 1 ≡ n = omega (arith, number_is) in
     let told = ends limit given out longer (end_line n w.frames (length w.table.entries)) Done
-      (ap (λ k. told_first out (record { told = []; last = end_line k w.frames (length w.table.entries); status = Done })) (sym before)
-      ∙ ap (λ h. told_first out (cond h (record { told = []; last = end_line (number + 1 - 1) w.frames (length w.table.entries); status = Done }) (refused_at (number + 1) cause.Header))) (sym some)
-      ∙ at_end limit number given left held over w out reached exact) eo in
+    (ap (λ k. told_first out (record { told = []; last = end_line k w.frames (length w.table.entries); status = Done })) (sym before)
+    ∙ ap (λ h. told_first out (cond h (record { told = []; last = end_line (number + 1 - 1) w.frames (length w.table.entries); status = Done }) (refused_at (number + 1) cause.Header))) (sym some)
+    ∙ at_end limit number given left held over w out reached exact) eo in
     (told.0, told.1, none_left kept now (same ∙ reached.coming ∙ ap Some (none_come limit number held left reached.bytes reached.coming exact)))
 
 -- a read fault
@@ -266,10 +266,10 @@ nothing_told w n = elim w.header as (λ h. (cond h (record { told = []; last = e
 ]
 
 pub fault_told : (limit n : ℕ) (given : List ℕ) (left now : Option (List ℕ)) (held kept : List ℕ) (over : Bool) (w : World) (out : List ℕ)
-  → ((bytes : List ℕ) → has_feed bytes ≡ false → lines bytes false ≡ [])
-  → IsReached limit given left held over w n out
-  → coming kept now ≡ coming held left → has_feed kept ≡ false → over ≡ false
-  → IsToldOf limit given now out
+    → ((bytes : List ℕ) → has_feed bytes ≡ false → lines bytes false ≡ [])
+    → IsReached limit given left held over w n out
+    → coming kept now ≡ coming held left → has_feed kept ≡ false → over ≡ false
+    → IsToldOf limit given now out
 fault_told limit n given left now held kept over w out law reached same unended goes =
     let front = reached.front in
     record {
@@ -294,8 +294,8 @@ given_begins given taken None h = absurd (cc)
 given_begins given taken (Some l) h = (l, cc)
 
 pub told_part : (limit : ℕ) (given : List ℕ) (left : Option (List ℕ)) (text : List ℕ)
-  → ((front whole : List ℕ) → IsPrefix front whole → IsPrefix (lines front false) (lines whole true))
-  → IsToldOf limit given left text → IsPrefix text (report limit (lines given true))
+    → ((front whole : List ℕ) → IsPrefix front whole → IsPrefix (lines front false) (lines whole true))
+    → IsToldOf limit given left text → IsPrefix text (report limit (lines given true))
 told_part limit given left text law t =
     let ls = law t.taken given (given_begins given t.taken left t.split) in
     rw (t.told, ls.1) (told_begins limit (lines t.taken false) ls.0 opening 1)
@@ -308,8 +308,8 @@ pub nothing_begun : (known : Option (List ℕ)) (text : List ℕ) → IsBegun kn
 nothing_begun known text = record { part = []; prefix = (text, refl); written = append_known-nil known }
 
 pub reported_part : (limit : ℕ) (given : List ℕ) (left : Option (List ℕ)) (text : List ℕ) (status : Status)
-  → ((front whole : List ℕ) → IsPrefix front whole → IsPrefix (lines front false) (lines whole true))
-  → IsReported limit given left text status → IsPrefix text (report limit (lines given true))
+    → ((front whole : List ℕ) → IsPrefix front whole → IsPrefix (lines front false) (lines whole true))
+    → IsReported limit given left text status → IsPrefix text (report limit (lines given true))
 reported_part limit given left text Done law is = ([], sym is.1 ∙ sym (append-nil text))
 reported_part limit given left text (Refused n c) law is = ([], sym is.1 ∙ sym (append-nil text))
 reported_part limit given left text ReadFault law is = told_part limit given left text law is

@@ -32,5 +32,4 @@ pub fn worked_scenes()
         ≡ codes "frame 1 0\nframe 2 0\nend 3 2 0\n" }
     ensures inverted { report 9 (lines (codes "scene 1\nframe\n\nadd 1 0 0 0 1 1\nframe\n") true)
         ≡ codes "frame 1 0\nrefused 4 inverted\n" }
-{
-}
+{}

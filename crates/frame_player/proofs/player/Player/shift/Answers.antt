@@ -1,4 +1,4 @@
-use Rattle.std.proofs.Common.{ap, ◌∙◌, sym, arith, true}
+use Rattle.std.proofs.Common.{ap, ◌∙◌, sym, arith}
 use Rattle.std.specs.List.{sum}
 use Rattle.std.specs.FinMap.{contains_key}
 use Rattle.frame_player.proofs.Changes.{indexed_present}
