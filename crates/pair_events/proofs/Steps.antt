@@ -1,13 +1,13 @@
 -- The events of two rising lists of pairs, one step of a merge at a time.
-use Rattle.std.proofs.Common.{◌≡◌, ℕ, ◌<◌, ◌≤◌, Bool, true, false, cond, not, ◌||◌, ◌&&◌, List, [], ◌∷◌, ◌++◌, map, filter, refl, sym, ap, ◌∙◌, append_assoc, arith, nat_eq, nat_lt}
-use Rattle.std.specs.List.{list_any, list_all}
+use Rattle.std.proofs.Common.{◌≡◌, true, false, cond, not, List, [], ◌∷◌, ◌++◌, map, filter, refl, sym, ap, ◌∙◌, append_assoc, arith}
+use Rattle.std.specs.List.{list_all}
 use Rattle.std.specs.Cmp.{first_so, second_so}
 use Rattle.std.specs.Cmp.Derive.{both_true}
 use Rattle.std.proofs.lemmas.Bool.Decides.{nat_tests}
 use Rattle.pair_events.specs.declared.hpair.HPair.{HPair}
 use Rattle.pair_events.specs.declared.told.Told.{Told}
 use Rattle.pair_events.specs.declared.told.Event.TheVariants.{Begin, Stay, Over}
-use Rattle.pair_events.specs.PairEvents.{has, kept_or_begun, ended, same_pair, precedes, rises, begins_at}
+use Rattle.pair_events.specs.PairEvents.{has, kept_or_begun, ended, same_pair, precedes, rises}
 
 -- pairs of different places differ
 apart_before : (p q : HPair) → precedes q p ≡ true → same_pair p q ≡ false

@@ -1,5 +1,5 @@
 -- What has changed between the pairs of two frames.
-use Rattle.std.specs.Prelude.{Bool, true, false, not, ◌&&◌, ◌||◌, ◌==◌, nat_lt, List, [], ◌∷◌, ◌++◌, map, filter, if◌then◌else◌}
+use Rattle.std.specs.Prelude.{Bool, true, not, ◌&&◌, ◌||◌, ◌==◌, nat_lt, List, [], ◌∷◌, ◌++◌, map, filter, if◌then◌else◌}
 use Rattle.std.specs.List.{list_any, list_all}
 use Rattle.live_table.specs.declared.handle.Handle.{Handle}
 use Rattle.pair_events.specs.declared.hpair.HPair.{HPair}

@@ -2,19 +2,6 @@ use super::*;
 use live_table::Handle;
 use std::test::Fail;
 
-fn pair(a: (u32, u32), b: (u32, u32)) -> HPair {
-    HPair {
-        a: Handle {
-            slot: a.0,
-            generation: a.1,
-        },
-        b: Handle {
-            slot: b.0,
-            generation: b.1,
-        },
-    }
-}
-
 fn told(event: Event, pair: HPair) -> Told {
     Told { event, pair }
 }
@@ -22,8 +9,24 @@ fn told(event: Event, pair: HPair) -> Told {
 #[test]
 fn pairs_begin_stay_and_are_over(rt: HostRuntime) -> Result<(), Fail> {
     let alloc = rt.alloc();
-    let first = pair((0, 0), (1, 0));
-    let renewed = pair((0, 1), (1, 0));
+    let b = Handle {
+        slot: 1,
+        generation: 0,
+    };
+    let first = HPair {
+        a: Handle {
+            slot: 0,
+            generation: 0,
+        },
+        b,
+    };
+    let renewed = HPair {
+        a: Handle {
+            slot: 0,
+            generation: 1,
+        },
+        b,
+    };
     let mut table = PairTable::new(alloc);
     let mut out = Vec::new(alloc);
     table.turn(Vec::from_slice(alloc, &[first])?, &mut out)?;

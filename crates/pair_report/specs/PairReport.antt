@@ -1,5 +1,5 @@
 -- The lines of a report.
-use Rattle.std.specs.Prelude.{ℕ, List, [], ◌∷◌, ◌++◌, length, codes, decimal, flat_map}
+use Rattle.std.specs.Prelude.{ℕ, List, ◌++◌, length, codes, decimal, flat_map}
 use Rattle.live_table.specs.declared.handle.Handle.{Handle}
 use Rattle.broad_index.specs.declared.query.QKind.{QKind}
 use Rattle.broad_index.specs.declared.query.QKind.TheVariants.{Region, Spot, Along, Between}

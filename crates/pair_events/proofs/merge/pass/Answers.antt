@@ -1,5 +1,4 @@
-use Rattle.std.proofs.Common.{◌≡◌, List, ◌∷◌, [], ◌++◌, true, length, sym, ◌∙◌, ap, append_assoc, arith}
-use Rattle.pair_events.specs.declared.hpair.HPair.{HPair}
+use Rattle.std.proofs.Common.{◌≡◌, ◌∷◌, [], ◌++◌, true, sym, ◌∙◌, ap}
 use Rattle.pair_events.specs.declared.told.Event.TheVariants.{Over}
 use Rattle.pair_events.specs.PairEvents.{kept_or_begun, ended, rises}
 use Rattle.pair_events.proofs.Steps.{pushed, passed_kept, passed_ended, rises_rest}
@@ -13,8 +12,8 @@ passed-preserved c =
       rising = rises_rest c.in-Some.first.now c.in-Some.later.now rising;
       kept = λ more r. sym (ap (λ os. kept_or_begun os (c.args.pair.now ∷ more)) is ∙ passed_kept c.in-Some.first.now c.in-Some.later.now c.args.pair.now more (sym c.precedes.ensures ∙ c.if-not-precedes.false) r) ∙ c.passed.invariant.kept more r;
       ended = λ more r.
-        pushed c.push.new.self.items c.passed.over.items (record { event = Over; pair = c.in-Some.first.now }) (ended c.in-Some.later.now (c.args.pair.now ∷ more)) (ended c.passed.rest.now (c.args.pair.now ∷ more))
+          pushed c.push.new.self.items c.passed.over.items (record { event = Over; pair = c.in-Some.first.now }) (ended c.in-Some.later.now (c.args.pair.now ∷ more)) (ended c.passed.rest.now (c.args.pair.now ∷ more))
           (c.in_ok-push.ensures.items ∙ ap (λ told. c.passed.over.items ++ told ∷ []) c.over_of.ensures)
           (ap (λ os. ended os (c.args.pair.now ∷ more)) is ∙ passed_ended c.in-Some.first.now c.in-Some.later.now c.args.pair.now more (sym c.precedes.ensures ∙ c.if-not-precedes.false) r)
-        ∙ c.passed.invariant.ended more r;
+          ∙ c.passed.invariant.ended more r;
     }
