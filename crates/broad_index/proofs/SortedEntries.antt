@@ -1,12 +1,12 @@
 -- Entries in order of their slots, the map that they are, and the place of a slot among them.
-use Rattle.std.proofs.Common.{◌≡◌, ℕ, zero, suc, ◌+◌, ◌<◌, ◌≤◌, Bool, true, false, cond, T, ◌&&◌, List, [], ◌∷◌, ◌++◌, length, take, drop, get_or, set, insert, remove, not, None, is_some, Some, refl, sym, ap, ◌∙◌, subst, arith, nat_lt, nat_eq, rules}
+use Rattle.std.proofs.Common.{◌≡◌, ℕ, zero, suc, ◌<◌, ◌≤◌, Bool, true, false, cond, T, ◌&&◌, List, [], ◌∷◌, length, get_or, set, insert, remove, not, None, is_some, Some, refl, sym, ap, ◌∙◌, subst, arith, nat_lt}
 use Rattle.std.specs.Ordering.{nat_cmp, is_lt, is_eq, eq_by_cmp}
 use Rattle.std.specs.declared.cmp.Ordering.{Ordering}
 use Rattle.std.specs.declared.cmp.Ordering.TheVariants.{Less, Equal, Greater}
 use Rattle.std.specs.Cmp.{ranked, nat_cmp_is, eq_by_cmp_equiv, alike_right}
 use Rattle.std.specs.List.{AllWithin}
 use Rattle.std.specs.List.Sorted.{IsPartitionedBy}
-use Rattle.std.specs.FinMap.{FinMap, entries, entries-insert, entries-from_sorted, from_sorted, is_sorted, find, empty, remove as remove_key, get-remove, same_map, nat_cmp-IsAntisymmetric, get, empty_of_len, len-entries, same_entries_map, contains_key, get-from_sorted, insert as insert_key}
+use Rattle.std.specs.FinMap.{entries, entries-insert, entries-from_sorted, from_sorted, is_sorted, find, empty, remove as remove_key, get-remove, same_map, nat_cmp-IsAntisymmetric, empty_of_len, len-entries, same_entries_map, contains_key, get-from_sorted, insert as insert_key}
 use Rattle.std.specs.FinMap.Entries.{put, below_all, is_sorted-put, where_key, is_sorted-where_key, find-where_key}
 use Rattle.std.proofs.lemmas.Cmp.{nat_cmp_total}
 use Rattle.std.proofs.lemmas.Bool.Decides.{nat_tests}

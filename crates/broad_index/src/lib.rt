@@ -10,3 +10,6 @@ pub use broad_phase::BroadPhase;
 pub use pair::Pair;
 pub use plain_index::PlainIndex;
 pub use query::{QKind, Query};
+
+#[cfg(test)]
+mod tests;

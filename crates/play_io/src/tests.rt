@@ -81,3 +81,29 @@ fn files_pass_on_bytes_and_faults(rt: HostRuntime) -> Result<(), Fail> {
     assert_eq!(rt; FileSink::new(Stuck).write(b"abc"), Err(SinkFault::Failed));
     Ok(())
 }
+
+#[test]
+fn a_failing_read_takes_nothing(rt: HostRuntime) -> Result<(), Fail> {
+    let mut source = MemSource::new(rt.alloc(), b"abc", 2, &[0])?;
+    let mut into = [0u8; 4];
+    assert_eq!(rt; source.read(&mut into), Err(Failed));
+    assert_eq!(rt; source.read(&mut into), Ok(2));
+    assert_eq!(rt; into, [b'a', b'b', 0, 0]);
+    assert_eq!(rt; source.read(&mut into), Ok(1));
+    assert_eq!(rt; into, [b'c', b'b', 0, 0]);
+    assert_eq!(rt; source.read(&mut into), Ok(0));
+    Ok(())
+}
+
+#[test]
+fn writes_and_flushes_are_counted_together(rt: HostRuntime) -> Result<(), Fail> {
+    let mut sink = MemSink::new(rt.alloc(), 2, &[0, 3])?;
+    assert_eq!(rt; sink.write(b"abc"), Err(SinkFault::Failed));
+    assert_eq!(rt; sink.bytes(), b"".as_slice());
+    assert_eq!(rt; sink.write(b"abc"), Ok(2));
+    assert_eq!(rt; sink.flush(), Ok(()));
+    assert_eq!(rt; sink.write(b"c"), Err(SinkFault::Failed));
+    assert_eq!(rt; sink.write(b"c"), Ok(1));
+    assert_eq!(rt; sink.bytes(), b"abc".as_slice());
+    Ok(())
+}

@@ -1,4 +1,4 @@
-use Rattle.std.proofs.Common.{◌≡◌, T, ℕ, List, sym, subst, ap, ◌∙◌, insert}
+use Rattle.std.proofs.Common.{◌≡◌, T, ℕ, List, sym, subst, ap, ◌∙◌}
 use Rattle.std.specs.Ordering.{nat_cmp}
 use Rattle.std.specs.FinMap.{is_sorted, put, insert as insert_key}
 use Rattle.fixed_box.specs.Bounds.{Bounds}
