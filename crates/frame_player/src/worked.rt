@@ -22,8 +22,14 @@ pub fn worked_scenes()
         ≡ codes "add 0:0\nadd 1:0\nframe 1 0\nframe 2 1\nbegin 0:0 1:0\nend 6 2 2\n" }
     ensures ray { report 9 (lines (codes "scene 1\nadd 1 2 3 1 2 3\nadd 1 2 3.00002 1 2 3.00002\nray 0 0 0 1 2 3\n") true)
         ≡ codes "add 0:0\nadd 1:0\nray 1 0:0\nend 4 0 2\n" }
-    ensures seg { report 9 (lines (codes "scene 1\nadd 10 0 0 11 1 1\nseg 0 0.5 0.5 9.99998 0.5 0.5\nseg 0 0.5 0.5 10 0.5 0.5\n") true)
-        ≡ codes "add 0:0\nseg 0\nseg 1 0:0\nend 4 0 1\n" }
+    // A ray without a direction is a point. One along a face meets the box.
+    ensures rays_within_and_along { report 9 (lines (codes "scene 1\nadd 0 0 0 2 2 2\nray 1 1 1 0 0 0\nray 3 1 1 0 0 0\nray 0 2 1 1 0 0\n") true)
+        ≡ codes "add 0:0\nray 1 0:0\nray 0\nray 1 0:0\nend 5 0 1\n" }
+    ensures one_step_before_the_box { report 9 (lines (codes "scene 1\nadd 10 0 0 11 1 1\nray 0 0.5 0.5 -1 0 0\nseg 0 0.5 0.5 9.99998 0.5 0.5\nseg 0 0.5 0.5 10 0.5 0.5\n") true)
+        ≡ codes "add 0:0\nray 0\nseg 0\nseg 1 0:0\nend 5 0 1\n" }
+    // The compared products of this segment lie on both sides of 2^63.
+    ensures across_all { report 9 (lines (codes "scene 1\nadd -1 -1 -1 1 1 1\nseg -32768 -32768 -32768 32767.99999 32767.99999 32767.99999\n") true)
+        ≡ codes "add 0:0\nseg 1 0:0\nend 3 0 1\n" }
     ensures boxes_of_a_group { report 9 (lines (codes "scene 1\nadd 0 0 0 0 0 0\nadd 9 9 9 9 9 9 2\nbox -1 -1 -1 9 9 9\nbox -1 -1 -1 9 9 9 1\npoint 9 9 9\n") true)
         ≡ codes "add 0:0\nadd 1:0\nbox 2 0:0 1:0\nbox 1 0:0\npoint 1 1:0\nend 6 0 2\n" }
     ensures too_many_lines { report 3 (lines (codes "scene 1\nframe\nframe\nframe\n") true)

@@ -37,9 +37,17 @@ pub returns-clause-ray : goal.returns-clause-ray
 unfolding asked command_of add_of move_of mask_of box_of point_of ray_of seg_of point_at in_ray in_seg digits
 returns-clause-ray c = refl
 
-pub returns-clause-seg : goal.returns-clause-seg
+pub returns-clause-rays_within_and_along : goal.returns-clause-rays_within_and_along
 unfolding asked command_of add_of move_of mask_of box_of point_of ray_of seg_of point_at in_ray in_seg digits
-returns-clause-seg c = refl
+returns-clause-rays_within_and_along c = refl
+
+pub returns-clause-one_step_before_the_box : goal.returns-clause-one_step_before_the_box
+unfolding asked command_of add_of move_of mask_of box_of point_of ray_of seg_of point_at in_ray in_seg digits
+returns-clause-one_step_before_the_box c = refl
+
+pub returns-clause-across_all : goal.returns-clause-across_all
+unfolding asked command_of add_of move_of mask_of box_of point_of ray_of seg_of point_at in_ray in_seg digits
+returns-clause-across_all c = refl
 
 pub returns-clause-boxes_of_a_group : goal.returns-clause-boxes_of_a_group
 unfolding asked command_of add_of move_of mask_of box_of point_of ray_of seg_of point_at in_ray in_seg digits
