@@ -18,5 +18,8 @@ pub use reading::read_fix;
 /// A coordinate in raw units: `raw` stands for `raw / 65,536`.
 pub type Fix = i32;
 
+/// How many slots there are for boxes: 0 to 8,191. So many boxes may live at once.
+pub const SLOTS: u32 = 8_192;
+
 #[cfg(test)]
 mod tests;
