@@ -1,16 +1,16 @@
 //! Plays text scenes of boxes through a broad phase, from standard input to standard output.
 #![tactic(auto)]
 
-mod top_call;
-mod words;
+mod job;
+mod run_job;
 
 use frame_player::Status;
+pub use job::{Job, Task, read_words};
 use play_io::{FileSink, FileSource};
+pub use run_job::broadplay;
 use std::env;
 use std::process::ExitCode;
 use std::rt::Env;
-pub use top_call::{MOST_LINES, broadplay};
-pub use words::{Job, Task, read_words};
 
 const USAGE: &str = "usage: broadplay play";
 

@@ -10,17 +10,14 @@ use Rattle.live_table.specs.declared.masks.Masks.{Masks}
 use Rattle.live_table.specs.Entries.{slot_of, rises, entry_at, IsLeastFree}
 use Rattle.live_table.specs.Table.{Table, IsTable, next_handle, after_give, after_set_box, after_set_masks, after_take}
 use Rattle.frame_player.specs.Indexed.{indexed}
+use Rattle.fixed_box.specs.declared.TheConstants.{SLOTS}
 use Rattle.frame_player.proofs.Changes.{entries-indexed, insert-entered, insert-with_body, indexed-with_masks, remove-indexed}
 
-pub always : {T E : Type 0} {P : Type 0} (r : Result T E) → P → OnOk r P
-always (Ok x) p = p
-always (Err e) p = tt
-
 -- as many entries as live boxes
-pub few_bodies : (bodies : FinMap nat_cmp Bounds) (es : List Live) → bodies ≡ indexed es → rises es ≡ true → length es ≤ 8192 → length (entries bodies) ≤ 8192
+pub few_bodies : (bodies : FinMap nat_cmp Bounds) (es : List Live) → bodies ≡ indexed es → rises es ≡ true → length es ≤ SLOTS → length (entries bodies) ≤ SLOTS
 few_bodies bodies es e r few =
     let at : Live → (ℕ × Bounds) = λ entry. (slot_of entry, entry.body) in
-    subst (λ n. n ≤ 8192) (sym (ap (λ b. length (entries b)) e ∙ ap length (entries-indexed es r) ∙ length-map es at)) few
+    subst (λ n. n ≤ SLOTS) (sym (ap (λ b. length (entries b)) e ∙ ap length (entries-indexed es r) ∙ length-map es at)) few
 
 -- a box under the next handle
 pub added_boxes : (old new : FinMap nat_cmp Bounds) (t u : Table) (handle : Handle) (body : Bounds) (masks : Masks)
@@ -51,10 +48,7 @@ pub removed_boxes : (old new : FinMap nat_cmp Bounds) (t u : Table) (handle : Ha
 removed_boxes old new t u handle boxes removed after is_t known =
     removed ∙ ap (λ b. remove b handle.slot) boxes ∙ remove-indexed handle t.entries is_t.rising known ∙ ap (λ v. indexed v.entries) (sym after)
 
-pub on_both : {T E : Type 0} {P Q R : Type 0} (r : Result T E) → (P → Q → R) → OnOk r P → OnOk r Q → OnOk r R
-on_both (Ok x) f p q = f p q
-on_both (Err e) f p q = tt
-
-pub on_given : {T E : Type 0} {P Q R : Type 0} (r : Result T E) → ((Q → P) → R) → (Q → OnOk r P) → OnOk r R
-on_given (Ok x) f p = f p
-on_given (Err e) f p = tt
+-- what an answer says of the index, where it is Ok
+pub on_shifted : {T E : Type 0} {P Q R S Counts : Type 0} (r : Result T E) → OnOk r P → OnOk r Q → (Counts → OnOk r R) → (P → Q → (Counts → R) → S) → OnOk r S
+on_shifted (Ok x) p q c f = f p q c
+on_shifted (Err e) p q c f = tt

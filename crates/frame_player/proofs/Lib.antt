@@ -1,6 +1,12 @@
-pub mod Kept
-pub mod Whole
 pub mod Changes
 pub mod Counts
 pub mod InOrder
+pub mod InputEnded
+pub mod Kept
+pub mod LineAsked
+pub mod LinePlayed
+pub mod LineRefused
+pub mod Outcomes
+pub mod ReplyPrefix
 pub mod Touches
+pub mod PieceWritten

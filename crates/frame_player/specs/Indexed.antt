@@ -1,4 +1,4 @@
--- What an index of slots holds of the live boxes, and how its answers are told in handles.
+-- Serves proofs: what an index of slots holds of the live boxes, and its answers in handles.
 use Rattle.std.specs.Prelude.{ℕ, List, map, if◌then◌else◌, Option, Some, None}
 use Rattle.std.specs.Ordering.{nat_cmp}
 use Rattle.std.specs.FinMap.{FinMap, from_sorted}

@@ -1,4 +1,6 @@
+pub mod Ending
 pub mod Indexed
+pub mod Outcome
 pub mod Pairs
 pub mod Play
 pub mod Player

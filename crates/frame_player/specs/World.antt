@@ -1,5 +1,6 @@
 -- The world of a scene, and what a line does to it.
-use Rattle.std.specs.Prelude.{ℕ, ◌+◌, Bool, true, false, nat_lt, nat_le, List, [], ◌++◌, length, flat_map, if◌then◌else◌, is_some, Result, Ok, Err}
+use Rattle.std.specs.Prelude.{ℕ, ◌+◌, Bool, true, false, nat_lt, List, [], ◌++◌, length, flat_map, if◌then◌else◌, is_some, Result, Ok, Err}
+use Rattle.fixed_box.specs.declared.TheConstants.{SLOTS}
 use Rattle.live_table.specs.declared.handle.Handle.{Handle}
 use Rattle.live_table.specs.Entries.{entry_at}
 use Rattle.live_table.specs.Table.{Table, next_handle, after_give, after_set_box, after_set_masks, after_take}
@@ -33,19 +34,15 @@ opening = record { header = false; table = record { entries = []; gives = [] }; 
 abbrev pub pairs : World → List HPair
 pairs w = pairs_of w.table.entries
 
--- The world after a command. A handle that no live box has changes nothing.
+-- The world after a command. A handle that no live box has changes nothing, nor do blank lines and queries.
 abbrev pub after : World → Command → World
-after w Blank = w
 after w (Header version) = record w { header = true }
 after w (Add body masks) = record w { table = after_give w.table body masks }
 after w (Move handle body) = record w { table = after_set_box w.table handle body }
 after w (Mask handle masks) = record w { table = after_set_masks w.table handle masks }
 after w (Remove handle) = record w { table = after_take w.table handle }
 after w Frame = record w { last = pairs w; frames = w.frames + 1 }
-after w (BoxQ body mask) = w
-after w (PointQ at mask) = w
-after w (RayQ ray mask) = w
-after w (SegQ seg mask) = w
+after w _ = w
 
 -- a line where no live box has the handle, and else nothing
 abbrev pub unless_live : World → Handle → List ℕ
@@ -57,8 +54,6 @@ answer w query mask = hits_line (kind_of query) (hits_of w.table.entries query m
 
 -- What is reported of a command, in the world before it.
 abbrev pub reply : World → Command → List ℕ
-reply w Blank = []
-reply w (Header version) = []
 reply w (Add body masks) = add_line (next_handle w.table)
 reply w (Move handle body) = unless_live w handle
 reply w (Mask handle masks) = unless_live w handle
@@ -68,7 +63,9 @@ reply w (BoxQ body mask) = answer w (Region body) mask
 reply w (PointQ at mask) = answer w (Spot at) mask
 reply w (RayQ ray mask) = answer w (Along ray) mask
 reply w (SegQ seg mask) = answer w (Between seg) mask
+reply w _ = []
 
+-- the cause of the same name
 abbrev pub cause_of : LineFault → Cause
 cause_of fault.Header = cause.Header
 cause_of fault.Word = cause.Word
@@ -79,35 +76,18 @@ cause_of fault.Range = cause.Range
 cause_of fault.Mask = cause.Mask
 cause_of fault.Inverted = cause.Inverted
 
--- what a line says once a header was read
-abbrev pub allowed_later : World → Result Command LineFault → Result Command Cause
-allowed_later w (Err f) = Err (cause_of f)
-allowed_later w (Ok Blank) = Ok Blank
-allowed_later w (Ok (Header version)) = Err cause.Header
-allowed_later w (Ok (Add body masks)) = if nat_le 8192 (length w.table.entries) then Err cause.Full else Ok (Add body masks)
-allowed_later w (Ok (Move handle body)) = Ok (Move handle body)
-allowed_later w (Ok (Mask handle masks)) = Ok (Mask handle masks)
-allowed_later w (Ok (Remove handle)) = Ok (Remove handle)
-allowed_later w (Ok Frame) = Ok Frame
-allowed_later w (Ok (BoxQ body mask)) = Ok (BoxQ body mask)
-allowed_later w (Ok (PointQ at mask)) = Ok (PointQ at mask)
-allowed_later w (Ok (RayQ ray mask)) = Ok (RayQ ray mask)
-allowed_later w (Ok (SegQ seg mask)) = Ok (SegQ seg mask)
-
 -- before a header only that and blank lines pass
 abbrev pub allowed_first : Result Command LineFault → Result Command Cause
-allowed_first (Err f) = Err cause.Header
 allowed_first (Ok Blank) = Ok Blank
 allowed_first (Ok (Header version)) = Ok (Header version)
-allowed_first (Ok (Add body masks)) = Err cause.Header
-allowed_first (Ok (Move handle body)) = Err cause.Header
-allowed_first (Ok (Mask handle masks)) = Err cause.Header
-allowed_first (Ok (Remove handle)) = Err cause.Header
-allowed_first (Ok Frame) = Err cause.Header
-allowed_first (Ok (BoxQ body mask)) = Err cause.Header
-allowed_first (Ok (PointQ at mask)) = Err cause.Header
-allowed_first (Ok (RayQ ray mask)) = Err cause.Header
-allowed_first (Ok (SegQ seg mask)) = Err cause.Header
+allowed_first _ = Err cause.Header
+
+-- later no second header passes, and no box for which there is no slot
+abbrev pub allowed_later : World → Result Command LineFault → Result Command Cause
+allowed_later w (Err f) = Err (cause_of f)
+allowed_later w (Ok (Header version)) = Err cause.Header
+allowed_later w (Ok (Add body masks)) = if nat_lt (length w.table.entries) SLOTS then Ok (Add body masks) else Err cause.Full
+allowed_later w (Ok other) = Ok other
 
 abbrev pub allowed : World → Result Command LineFault → Result Command Cause
 allowed w said = if w.header then allowed_later w said else allowed_first said

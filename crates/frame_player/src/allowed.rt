@@ -1,11 +1,9 @@
 ghost use Rattle.std.specs.Prelude.{◌≡◌, length, Ok, IfOk};
 ghost use Rattle.frame_player.specs.World.{World, allowed_later, allowed_first, cause_of};
 
+use fixed_box::SLOTS;
 use pair_report::Cause;
 use scene_words::{Command, LineFault};
-
-// The most boxes that live at once.
-const MOST_LIVE: u32 = 8192;
 
 // What a line asks for once a header was read.
 pub(crate) fn allow_later(live: u32, said: Result<Command, LineFault>) -> Result<Command, Cause>
@@ -14,7 +12,7 @@ pub(crate) fn allow_later(live: u32, said: Result<Command, LineFault>) -> Result
 {
     match said {
         Ok(Command::Header { .. }) => Err(Cause::Header),
-        Ok(Command::Add { .. }) if live >= MOST_LIVE => Err(Cause::Full),
+        Ok(Command::Add { .. }) if live >= SLOTS => Err(Cause::Full),
         Ok(command) => Ok(command),
         Err(fault) => Err(cause_of(fault)),
     }

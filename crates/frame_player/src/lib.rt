@@ -2,14 +2,16 @@
 #![tactic(auto)]
 
 mod allowed;
-mod candidates;
-mod frame_lines;
+mod frame_text;
+mod handle_lists;
 mod player;
+mod report_prefix;
 mod scene_play;
 mod status;
-mod transfer;
 mod worked;
+mod writing;
 
+pub use report_prefix::replies_begin_report;
 pub use scene_play::play;
 pub use status::{Limits, Status};
 pub use worked::worked_scenes;

@@ -2,10 +2,10 @@ ghost use Rattle.std.specs.Prelude.{◌≡◌, ◌++◌, ◌<◌, false, length,
 ghost use Rattle.std.specs.FinMap as map;
 
 use crate::allowed::{allow_first, allow_later};
-use crate::candidates::{push_hits, push_pairs};
-use crate::frame_lines::put_frame_told;
+use crate::handle_lists::{push_hits, push_pairs};
+use crate::frame_text::put_frame_events;
 use broad_index::{BroadPhase, Pair, Query};
-use fixed_box::{FBox, NoMemory};
+use fixed_box::{FBox, NoMemory, SLOTS};
 use live_table::{Full, Handle, LiveTable, Masks, Stale};
 use pair_events::{PairTable, Told};
 use pair_report::{Cause, put_add, put_hits, put_stale};
@@ -18,11 +18,11 @@ pub(crate) struct Player<B: Drop> {
     pub alloc: Global,
     pub index: B,
     pub table: LiveTable,
-    pub events: PairTable,
+    pub pair_table: PairTable,
     pub header: bool,
     pub frames: u32,
     pub pairs: Vec<Pair>,
-    pub told: Vec<Told>,
+    pub events: Vec<Told>,
     pub slots: Vec<u32>,
     pub handles: Vec<Handle>,
 }
@@ -30,8 +30,8 @@ pub(crate) struct Player<B: Drop> {
 impl<B: BroadPhase + Drop> Player<B> {
     ghost use Rattle.scene_words.specs.declared.version.Version.TheVariants.{One};
     ghost use Rattle.scene_words.specs.SceneWords.{command};
-    ghost use Rattle.frame_player.specs.Player.{world_in, IsPlaying, HasRoom, CountsOn};
-    ghost use Rattle.frame_player.specs.World.{opening, allowed, allowed_later, allowed_first, after, reply, answer};
+    ghost use Rattle.frame_player.specs.Player.{world_in, IsPlaying, HasRoom, CountsOn, IsObeyed};
+    ghost use Rattle.frame_player.specs.World.{opening, allowed, answer};
 
     // The opening world.
     #[tactic(auto, using(crate::proofs::Changes::opening_boxes))]
@@ -47,20 +47,20 @@ impl<B: BroadPhase + Drop> Player<B> {
             alloc,
             index,
             table,
-            events: PairTable::new(alloc),
+            pair_table: PairTable::new(alloc),
             header: false,
             frames: 0,
             pairs: Vec::new(alloc),
-            told: Vec::new(alloc),
+            events: Vec::new(alloc),
             slots: Vec::new(alloc),
             handles: Vec::new(alloc),
         })
     }
 
-    // What a line asks for, and what the world allows of it.
-    pub(crate) fn ask(&self, line: &[u8]) -> Result<Command, Cause>
-        ensures asked { result ≡ allowed (world_in self.now) (command One line.now) }
-        ensures allowed { IfOk result (λ asked. allowed (world_in self.now) (Ok asked) ≡ Ok asked) }
+    // Reads a line as a command that the world allows.
+    pub(crate) fn read_line(&self, line: &[u8]) -> Result<Command, Cause>
+        ensures read { result ≡ allowed (world_in self.now) (command One line.now) }
+        ensures allowed { IfOk result (λ read. allowed (world_in self.now) (Ok read) ≡ Ok read) }
     {
         let said = read_command(Version::One, line);
         if self.header {
@@ -75,10 +75,7 @@ impl<B: BroadPhase + Drop> Player<B> {
         requires playing { IsPlaying B.bodies B.spent self.old }
         requires allowed { allowed (world_in self.old) (Ok command.now) ≡ Ok command.now }
         requires room { HasRoom B.COUNTS B.exchanges self.old }
-        ensures world { OnOk result (world_in self.new ≡ after (world_in self.old) command.now) }
-        ensures reply { OnOk result (out.new.items ≡ out.old.items ++ reply (world_in self.old) command.now) }
-        ensures playing { OnOk result (IsPlaying B.bodies B.spent self.new) }
-        ensures counts { OnOk result (CountsOn B.COUNTS B.exchanges self.old self.new) }
+        ensures obeyed { OnOk result (IsObeyed B.bodies B.spent B.COUNTS B.exchanges command.now self.old self.new out.old.items out.new.items) }
         ensures err { OnErr result (out.new.items ≡ out.old.items) }
     {
         match command {
@@ -102,12 +99,9 @@ impl<B: BroadPhase + Drop> Player<B> {
     // A new box under the least free slot.
     fn add(&mut self, body: FBox, masks: Masks, out: &mut Vec<u8>) -> Result<(), NoMemory>
         requires playing { IsPlaying B.bodies B.spent self.old }
-        requires free { length self.old.table.entries < 8192 }
+        requires free { length self.old.table.entries < SLOTS }
         requires room { HasRoom B.COUNTS B.exchanges self.old }
-        ensures world { OnOk result (world_in self.new ≡ after (world_in self.old) (Command.Add body masks)) }
-        ensures reply { OnOk result (out.new.items ≡ out.old.items ++ reply (world_in self.old) (Command.Add body masks)) }
-        ensures playing { OnOk result (IsPlaying B.bodies B.spent self.new) }
-        ensures counts { OnOk result (CountsOn B.COUNTS B.exchanges self.old self.new) }
+        ensures obeyed { OnOk result (IsObeyed B.bodies B.spent B.COUNTS B.exchanges (Command.Add body masks) self.old self.new out.old.items out.new.items) }
         ensures err { OnErr result (out.new.items ≡ out.old.items) }
     {
         match self.table.give(body, masks) {
@@ -123,10 +117,7 @@ impl<B: BroadPhase + Drop> Player<B> {
     fn shift(&mut self, handle: Handle, body: FBox, out: &mut Vec<u8>) -> Result<(), NoMemory>
         requires playing { IsPlaying B.bodies B.spent self.old }
         requires room { HasRoom B.COUNTS B.exchanges self.old }
-        ensures world { OnOk result (world_in self.new ≡ after (world_in self.old) (Command.Move handle body)) }
-        ensures reply { OnOk result (out.new.items ≡ out.old.items ++ reply (world_in self.old) (Command.Move handle body)) }
-        ensures playing { OnOk result (IsPlaying B.bodies B.spent self.new) }
-        ensures counts { OnOk result (CountsOn B.COUNTS B.exchanges self.old self.new) }
+        ensures obeyed { OnOk result (IsObeyed B.bodies B.spent B.COUNTS B.exchanges (Command.Move handle body) self.old self.new out.old.items out.new.items) }
         ensures err { OnErr result (out.new.items ≡ out.old.items) }
     {
         match self.table.set_box(handle, body) {
@@ -138,10 +129,7 @@ impl<B: BroadPhase + Drop> Player<B> {
     // The handle's box gets other masks.
     fn mask(&mut self, handle: Handle, masks: Masks, out: &mut Vec<u8>) -> Result<(), NoMemory>
         requires playing { IsPlaying B.bodies B.spent self.old }
-        ensures world { OnOk result (world_in self.new ≡ after (world_in self.old) (Command.Mask handle masks)) }
-        ensures reply { OnOk result (out.new.items ≡ out.old.items ++ reply (world_in self.old) (Command.Mask handle masks)) }
-        ensures playing { OnOk result (IsPlaying B.bodies B.spent self.new) }
-        ensures counts { OnOk result (CountsOn B.COUNTS B.exchanges self.old self.new) }
+        ensures obeyed { OnOk result (IsObeyed B.bodies B.spent B.COUNTS B.exchanges (Command.Mask handle masks) self.old self.new out.old.items out.new.items) }
         ensures err { OnErr result (out.new.items ≡ out.old.items) }
     {
         match self.table.set_masks(handle, masks) {
@@ -153,10 +141,7 @@ impl<B: BroadPhase + Drop> Player<B> {
     // The handle's box goes.
     fn remove(&mut self, handle: Handle, out: &mut Vec<u8>) -> Result<(), NoMemory>
         requires playing { IsPlaying B.bodies B.spent self.old }
-        ensures world { OnOk result (world_in self.new ≡ after (world_in self.old) (Command.Remove handle)) }
-        ensures reply { OnOk result (out.new.items ≡ out.old.items ++ reply (world_in self.old) (Command.Remove handle)) }
-        ensures playing { OnOk result (IsPlaying B.bodies B.spent self.new) }
-        ensures counts { OnOk result (CountsOn B.COUNTS B.exchanges self.old self.new) }
+        ensures obeyed { OnOk result (IsObeyed B.bodies B.spent B.COUNTS B.exchanges (Command.Remove handle) self.old self.new out.old.items out.new.items) }
         ensures err { OnErr result (out.new.items ≡ out.old.items) }
     {
         match self.table.take(handle) {
@@ -172,10 +157,7 @@ impl<B: BroadPhase + Drop> Player<B> {
     fn end_frame(&mut self, out: &mut Vec<u8>) -> Result<(), NoMemory>
         requires playing { IsPlaying B.bodies B.spent self.old }
         requires room { HasRoom B.COUNTS B.exchanges self.old }
-        ensures world { OnOk result (world_in self.new ≡ after (world_in self.old) Command.Frame) }
-        ensures reply { OnOk result (out.new.items ≡ out.old.items ++ reply (world_in self.old) Command.Frame) }
-        ensures playing { OnOk result (IsPlaying B.bodies B.spent self.new) }
-        ensures counts { OnOk result (CountsOn B.COUNTS B.exchanges self.old self.new) }
+        ensures obeyed { OnOk result (IsObeyed B.bodies B.spent B.COUNTS B.exchanges Command.Frame self.old self.new out.old.items out.new.items) }
         ensures err { OnErr result (out.new.items ≡ out.old.items) }
     {
         self.pairs.clear();
@@ -183,9 +165,9 @@ impl<B: BroadPhase + Drop> Player<B> {
         let mut now = Vec::new(self.alloc);
         push_pairs(&self.table, &self.pairs, &mut now)?;
         let count = now.len() as u32;
-        self.told.clear();
-        self.events.turn(now, &mut self.told)?;
-        put_frame_told(self.frames + 1, count, &self.told, out)?;
+        self.events.clear();
+        self.pair_table.turn(now, &mut self.events)?;
+        put_frame_events(self.frames + 1, count, &self.events, out)?;
         self.frames += 1;
         Ok(())
     }

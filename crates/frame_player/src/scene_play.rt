@@ -1,15 +1,14 @@
-ghost use Rattle.std.specs.Prelude.{◌≡◌, ◌-◌, ◌^◌, ◌<◌, ◌≤◌, ◌++◌, ℕ, [], true, false, length, Some, IfOk, IfSome, MatchResult, option_map};
+ghost use Rattle.std.specs.Prelude.{◌≡◌, ◌≢◌, ◌-◌, ◌^◌, ◌<◌, ◌≤◌, ◌++◌, [], true, false, IfOk, IfSome, MatchResult};
 ghost use Rattle.std.specs.FinMap as map;
-ghost use Rattle.std.specs.Io.KnownBytes.{append_known};
-ghost use Rattle.pair_report.specs.declared.cause.Cause.{Cause};
-ghost use Rattle.frame_player.specs.declared.status.Status.TheVariants.{Done, Refused, Usage, ReadFault, WriteFault};
-ghost use Rattle.scene_lines.specs.SceneLines.{lines};
-ghost use Rattle.frame_player.specs.Play.{played, report, after_fault, IsEnding, IsReported, IsBegun, IsWrittenOf, StatusCount};
 ghost use Rattle.pair_report.specs.PairReport.{refused_line};
+ghost use Rattle.frame_player.specs.declared.status.Status.TheVariants.{Refused, Usage};
+ghost use Rattle.frame_player.specs.Ending.{IsTextOf, IsCountedAs, after_fault};
+ghost use Rattle.frame_player.specs.Outcome.{ends, IsOutcome};
+ghost use Rattle.frame_player.specs.Play.{played};
 
 use crate::player::Player;
-use crate::transfer::write_all;
-use crate::{Limits, Status};
+use crate::writing::write_all;
+use crate::{Limits, Status, replies_begin_report};
 use broad_index::BroadPhase;
 use fixed_box::NoMemory;
 use pair_report::{Cause, put_end, put_refused};
@@ -20,7 +19,7 @@ use std::thread::Threads;
 
 /// Plays the scene that a source has left through an index, and writes its report.
 ///
-/// The report is kept whole and written at the end of the play. After a read fault what was told so far is written.
+/// The report is kept whole and written at the end of the play. After a read fault the replies so far are written.
 pub fn play<R: Threads + Sync, B: BroadPhase + Drop, S: Source, K: Sink>(
     rt: &R,
     alloc: Global,
@@ -37,37 +36,15 @@ pub fn play<R: Threads + Sync, B: BroadPhase + Drop, S: Source, K: Sink>(
     requires source_count { S.faults source.old < 2 ^ 64 - 1 }
     requires sink_count { K.faults sink.old < 2 ^ 64 - 1 }
 
-    // The whole scene was played, and the whole report is written.
-    ensures done { result ≡ Done → IfSome (S.left source.old) (λ given.
-        ((played limits.lines (lines given true)).status ≡ Done)
-        × (S.left source.new ≡ Some [])
-        × (K.written sink.new ≡ append_known (K.written sink.old) (report limits.lines (lines given true)))) }
-
-    // This line was refused for this cause, and the whole report is written.
-    ensures refused { (n : ℕ) (c : Cause) → result ≡ Refused n c → IfSome (S.left source.old) (λ given.
-        ((played limits.lines (lines given true)).status ≡ Refused n c)
-        × (K.written sink.new ≡ append_known (K.written sink.old) (report limits.lines (lines given true)))) }
-
-    // Either way all that was written is settled, and nothing failed.
-    ensures settled { IsEnding result → K.settled sink.new ≡ option_map length (K.written sink.new) }
-    ensures unfailed { IsEnding result → (S.faults source.new ≡ S.faults source.old) × (K.faults sink.new ≡ K.faults sink.old) }
-
-    // A read failed: of the lines that had ended all is written and settled, or a part where the sink failed too.
-    ensures read_fault { result ≡ ReadFault → S.faults source.old < S.faults source.new }
-    ensures read_fault_text { result ≡ ReadFault → IfSome (S.left source.old) (λ given. IsWrittenOf limits.lines given (S.left source.new) (K.written sink.old) (K.written sink.new) (K.faults sink.new ≡ K.faults sink.old)) }
-    ensures read_fault_settled { result ≡ ReadFault → K.faults sink.new ≡ K.faults sink.old → K.settled sink.new ≡ option_map length (K.written sink.new) }
-
-    // The sink failed: a part of the report is written.
-    ensures write_fault { result ≡ WriteFault → (K.faults sink.old < K.faults sink.new) × (S.faults source.new ≡ S.faults source.old) }
-    ensures write_fault_text { result ≡ WriteFault → IfSome (S.left source.old) (λ given. IsBegun (K.written sink.old) (K.written sink.new) (report limits.lines (lines given true))) }
-
-    // Memory ran out: so it is then.
-    ensures no_memory { result ≡ Status.NoMemory → IfSome (S.left source.old) (λ given. IsBegun (K.written sink.old) (K.written sink.new) (report limits.lines (lines given true))) }
-    ensures never_usage { result ≡ Usage → ⊥ }
+    // How each status leaves the source and the sink.
+    ensures outcome { IsOutcome (played limits.lines)
+        (ends (S.left source.old) (S.faults source.old) (K.written sink.old) (K.settled sink.old) (K.faults sink.old))
+        (ends (S.left source.new) (S.faults source.new) (K.written sink.new) (K.settled sink.new) (K.faults sink.new)) result }
+    ensures never_usage { result ≢ Usage }
 {
     // Handed on for later searches on several threads.
     let _ = rt;
-    line_laws();
+    replies_begin_report();
     let mut text = Vec::new(alloc);
     let Ok(status) = put_report(alloc, index, limits.lines, source, &mut text) else {
         return Status::NoMemory;
@@ -89,7 +66,7 @@ fn after_fault(status: Status) -> Status
     }
 }
 
-// Appends the report of a scene, or what was told of it where a read failed, and answers how the play ends.
+// Appends the report of a scene, or the replies so far where a read failed, and answers how the play ends.
 fn put_report<B: BroadPhase + Drop, S: Source>(
     alloc: Global,
     index: B,
@@ -104,15 +81,15 @@ fn put_report<B: BroadPhase + Drop, S: Source>(
     requires most_lines { limit ≤ 268435456 }
     requires source_count { S.faults source.old < 2 ^ 64 - 1 }
     requires nothing { out.old.items ≡ [] }
-    ensures reported { IfOk result (λ status. IfSome (S.left source.old) (λ given. IsReported limit given (S.left source.new) out.new.items status)) }
-    ensures count { MatchResult result (StatusCount (S.faults source.old) (S.faults source.new)) (λ _. S.faults source.new ≡ S.faults source.old) }
+    ensures text { IfOk result (λ status. IfSome (S.left source.old) (λ given. IsTextOf limit given (S.left source.new) out.new.items status)) }
+    ensures count { MatchResult result (IsCountedAs (S.faults source.old) (S.faults source.new)) (λ _. S.faults source.new ≡ S.faults source.old) }
 {
     let mut reader = LineReader::new(alloc, limit)?;
     let mut player = Player::new(alloc, index)?;
     line_laws();
     'lines: loop {
         match reader.next(source) {
-            Next::Line => match player.ask(reader.line()) {
+            Next::Line => match player.read_line(reader.line()) {
                 Ok(command) => player.obey(&command, out)?,
                 Err(cause) => return refuse(reader.number(), cause, out),
             },

@@ -1,3 +1,4 @@
+-- The play so far goes on with each line, and each way out of the loop has the text of its ending.
 use Rattle.std.proofs.Common.{◌≡◌, ◌+◌, ◌≤◌, ◌++◌, ◌∙◌, sym, ap, refl, arith, false, ⊎_elim}
 use Rattle.std.proofs.lemmas.Bool.{cases_Bool}
 use Rattle.std.specs.List.{sum}
@@ -8,7 +9,9 @@ use Rattle.pair_report.specs.PairReport.{refused_line, end_line}
 use Rattle.frame_player.specs.declared.status.Status.TheVariants.{Refused}
 use Rattle.frame_player.specs.Player.{world_in}
 use Rattle.frame_player.specs.World.{allowed}
-use Rattle.frame_player.proofs.Whole.{on_some, on_refused, opened, line_played, line_refused, long_refused, too_many_refused, end_refused, end_done, fault_told}
+use Rattle.frame_player.proofs.InputEnded.{end_refused, end_done, fault_replied}
+use Rattle.frame_player.proofs.LinePlayed.{on_some, opened, line_played}
+use Rattle.frame_player.proofs.LineRefused.{on_refused, line_refused, long_refused, too_many_refused}
 use Rattle.frame_player.proofs.scene_play.put_report.Goals as goal
 
 pub lines-init : goal.lines-init
@@ -50,20 +53,20 @@ lines-preserved g c =
       reached = on_some (g.S.Source.left c.args.source.now) inv.reached (λ given reached.
           line_played c.args.limit given (g.S.Source.left c.lines.source) (g.S.Source.left c.next.new.source) old new w (world_in c.obey.new.self) c.lines.out.items c.obey.new.out.items c.in-Ok.command
           c.line_laws.ensures.ended reached next.line next.rest next.first next.last_at_end next.over_stays number within_limit next.short
-          (ap (λ l. allowed w (command One l)) (sym c.line.ensures.value) ∙ sym c.in-Ok.ensures.asked) obey.world obey.reply);
-      playing = obey.playing;
+          (ap (λ l. allowed w (command One l)) (sym c.line.ensures.value) ∙ sym c.in-Ok.ensures.read) obey.obeyed.world obey.obeyed.text);
+      playing = obey.obeyed.playing;
       going_on = next.ended;
       at_end = next.over_at_end;
       limit = limit_stays ∙ limit;
       number = within_limit;
-      frames = let few = obey.counts.frames in let was = inv.frames in omega (arith, few, was, number);
-      gives = let few = obey.counts.gives in let was = inv.gives in omega (arith, few, was, number);
-      exchanged = λ on. let few = obey.counts.exchanged on in let was = inv.exchanged on in omega (arith, few, was, number);
+      frames = let few = obey.obeyed.few.frames in let was = inv.frames in omega (arith, few, was, number);
+      gives = let few = obey.obeyed.few.gives in let was = inv.gives in omega (arith, few, was, number);
+      exchanged = λ on. let few = obey.obeyed.few.exchanged on in let was = inv.exchanged on in omega (arith, few, was, number);
       count = next.no_fault ∙ inv.count;
     }
 
-pub returns-in-Err-clause-reported : goal.returns-in-Err-clause-reported
-returns-in-Err-clause-reported g c =
+pub returns-in-Err-clause-text : goal.returns-in-Err-clause-text
+returns-in-Err-clause-text g c =
     let inv = c.lines.invariant in
     let next = c.in-Line.ensures in
     let old = c.lines.reader in
@@ -76,43 +79,43 @@ returns-in-Err-clause-reported g c =
     on_refused _ c.refuse.result c.number.result c.in-Err.cause c.refuse.ensures.text c.refuse.ensures.status (λ text. on_some (g.S.Source.left c.args.source.now) inv.reached (λ given reached.
     let is = c.number.ensures.value in
     let told = line_refused c.args.limit given (g.S.Source.left c.lines.source) (g.S.Source.left c.next.new.source) old new w c.in-Err.cause c.lines.out.items c.refuse.new.out.items
-    reached next.rest next.first next.number within_limit next.short (ap (λ l. allowed w (command One l)) (sym c.line.ensures.value) ∙ sym c.in-Err.ensures.asked) (text ∙ ap (λ n. c.lines.out.items ++ refused_line n c.in-Err.cause) is) in
+    reached next.rest next.first next.number within_limit next.short (ap (λ l. allowed w (command One l)) (sym c.line.ensures.value) ∙ sym c.in-Err.ensures.read) (text ∙ ap (λ n. c.lines.out.items ++ refused_line n c.in-Err.cause) is) in
     (told.0 ∙ ap (λ n. Refused n c.in-Err.cause) (sym is), told.1)))
 
-pub returns-in-Long-clause-reported : goal.returns-in-Long-clause-reported
-returns-in-Long-clause-reported g c =
+pub returns-in-Long-clause-text : goal.returns-in-Long-clause-text
+returns-in-Long-clause-text g c =
     let inv = c.lines.invariant in
     let next = c.in-Long.ensures in
     on_refused _ c.refuse-in-Long.result c.number-in-Long.result cause.Long c.refuse-in-Long.ensures.text c.refuse-in-Long.ensures.status (λ text. on_some (g.S.Source.left c.args.source.now) inv.reached (λ given reached.
     long_refused c.args.limit c.lines.reader.number c.number-in-Long.result given (g.S.Source.left c.lines.source) c.lines.reader.held c.lines.reader.over (world_in c.lines.player) c.lines.out.items c.refuse-in-Long.new.out.items
     c.line_laws.ensures.first reached (rw (sym inv.limit) next.exact) (c.number-in-Long.ensures.value ∙ next.number) text))
 
-pub returns-in-TooMany-clause-reported : goal.returns-in-TooMany-clause-reported
-returns-in-TooMany-clause-reported g c =
+pub returns-in-TooMany-clause-text : goal.returns-in-TooMany-clause-text
+returns-in-TooMany-clause-text g c =
     let inv = c.lines.invariant in
     let next = c.in-TooMany.ensures in
     on_refused _ c.refuse-in-TooMany.result c.number-in-TooMany.result cause.Lines c.refuse-in-TooMany.ensures.text c.refuse-in-TooMany.ensures.status (λ text. on_some (g.S.Source.left c.args.source.now) inv.reached (λ given reached.
     too_many_refused c.args.limit c.lines.reader.number c.number-in-TooMany.result given (g.S.Source.left c.lines.source) c.lines.reader.held c.lines.reader.over (world_in c.lines.player) c.lines.out.items c.refuse-in-TooMany.new.out.items
     c.line_laws.ensures.first reached (rw (sym inv.limit) next.exact) (c.number-in-TooMany.ensures.value ∙ next.number) text))
 
-pub returns-in-ReadFault-clause-reported : goal.returns-in-ReadFault-clause-reported
-returns-in-ReadFault-clause-reported g c =
+pub returns-in-ReadFault-clause-text : goal.returns-in-ReadFault-clause-text
+returns-in-ReadFault-clause-text g c =
     let inv = c.lines.invariant in
     let next = c.in-ReadFault.ensures in
     on_some (g.S.Source.left c.args.source.now) inv.reached (λ given reached.
-    fault_told c.args.limit (c.lines.reader.number + 1) given (g.S.Source.left c.lines.source) (g.S.Source.left c.next.new.source) c.lines.reader.held c.next.new.self.held c.lines.reader.over (world_in c.lines.player) c.lines.out.items
+    fault_replied c.args.limit (c.lines.reader.number + 1) given (g.S.Source.left c.lines.source) (g.S.Source.left c.next.new.source) c.lines.reader.held c.next.new.self.held c.lines.reader.over (world_in c.lines.player) c.lines.out.items
     c.line_laws.ensures.unended reached next.kept next.unfinished (⊎_elim (λ over. absurd (next.over_sound over refl)) (λ goes. goes) (cases_Bool c.lines.reader.over)))
 
-pub returns-then-not-player-clause-reported : goal.returns-then-not-player-clause-reported
-returns-then-not-player-clause-reported g c =
+pub returns-then-not-player-clause-text : goal.returns-then-not-player-clause-text
+returns-then-not-player-clause-text g c =
     let inv = c.lines.invariant in
     let next = c.in-End.ensures in
     on_refused _ c.refuse-then-not-player.result (c.number-then-not-player.result + 1) cause.Header c.refuse-then-not-player.ensures.text c.refuse-then-not-player.ensures.status (λ text. on_some (g.S.Source.left c.args.source.now) inv.reached (λ given reached.
     end_refused c.args.limit c.lines.reader.number c.number-then-not-player.result given (g.S.Source.left c.lines.source) c.lines.reader.held c.lines.reader.over (world_in c.lines.player) c.lines.out.items c.refuse-then-not-player.new.out.items
     reached (rw (sym inv.limit) next.exact) (c.number-then-not-player.ensures.value ∙ next.number) c.if-not-player.true text))
 
-pub returns-in-End-clause-reported : goal.returns-in-End-clause-reported
-returns-in-End-clause-reported g c =
+pub returns-in-End-clause-text : goal.returns-in-End-clause-text
+returns-in-End-clause-text g c =
     let inv = c.lines.invariant in
     let next = c.in-End.ensures in
     on_some (g.S.Source.left c.args.source.now) inv.reached (λ given reached.

@@ -1,5 +1,6 @@
 use Rattle.std.proofs.Common.{◌≡◌, ◌+◌, ◌*◌, ◌-◌, ◌≤◌, true, false, [], IfSome}
 use Rattle.std.specs.List.{sum}
+use Rattle.fixed_box.specs.declared.TheConstants.{SLOTS}
 use Rattle.frame_player.specs.Player.{world_in, IsPlaying}
 use Rattle.frame_player.specs.Reached.{IsReached}
 use Rattle.frame_player.proofs.scene_play.put_report.Given as goal
@@ -15,7 +16,7 @@ invariant-lines g l = record {
   number : l.reader.number ≤ l.limit;
   frames : l.player.frames ≤ l.reader.number;
   gives : sum l.player.table.gives ≤ l.reader.number;
-  exchanged : g.B.BroadPhase.COUNTS ≡ true → g.B.BroadPhase.exchanges l.player.index ≤ 98304 * l.reader.number;
+  exchanged : g.B.BroadPhase.COUNTS ≡ true → g.B.BroadPhase.exchanges l.player.index ≤ 12 * SLOTS * l.reader.number;
   count : g.S.Source.faults l.source ≡ g.S.Source.faults l.fn.source;
 }
 

@@ -1,9 +1,10 @@
-use Rattle.std.proofs.Common.{ap, ◌∙◌, sym, arith}
+-- The table's box moves, and the index follows.
+use Rattle.std.proofs.Common.{rules, ap, ◌∙◌, sym, arith}
 use Rattle.std.specs.List.{sum}
 use Rattle.std.specs.FinMap.{contains_key}
 use Rattle.frame_player.proofs.Changes.{indexed_present}
 use Rattle.frame_player.proofs.Counts.{shifted_few}
-use Rattle.frame_player.proofs.Kept.{few_bodies, moved_boxes, on_both, on_given}
+use Rattle.frame_player.proofs.Kept.{few_bodies, moved_boxes, on_shifted}
 use Rattle.frame_player.proofs.player.Player.shift.Goals as goal
 
 pub shift-requires-clause-present : goal.shift-requires-clause-present
@@ -11,23 +12,23 @@ shift-requires-clause-present g c _ =
     let playing = c.requires.playing in
     ap (λ b. contains_key b c.args.handle.slot) playing.boxes ∙ indexed_present c.args.handle c.args.self.now.table.entries playing.table.rising (sym c.in-Ok.ensures.known)
 
-pub returns-in-Ok-clause-playing : goal.returns-in-Ok-clause-playing
-returns-in-Ok-clause-playing g c =
+pub returns-in-Ok-clause-obeyed : goal.returns-in-Ok-clause-obeyed
+returns-in-Ok-clause-obeyed g c =
     let playing = c.requires.playing in
     let moved = c.in-Ok.ensures in
-    on_both c.shift.result (λ sound put. record {
-      sound = sound;
-      boxes = moved_boxes _ _ c.args.self.now.table c.set_box.new.self c.args.handle c.args.body playing.boxes put moved.after playing.table moved.table moved.known;
-      table = moved.table;
-    }) c.shift.ensures.sound c.shift.ensures.ok
-
-pub returns-in-Ok-clause-counts : goal.returns-in-Ok-clause-counts
-returns-in-Ok-clause-counts g c =
-    let playing = c.requires.playing in
     let bodies = g.B.BroadPhase.bodies c.args.self.now.index in
     let few = shifted_few bodies c.args.handle.slot c.args.body (few_bodies bodies c.args.self.now.table.entries playing.boxes playing.table.rising playing.table.few) in
-    on_given c.shift.result (λ passed. record {
-      exchanged = λ on. let counted = passed on in omega (arith, few, counted);
-      gives = let same = ap (λ t. sum t.gives) c.in-Ok.ensures.after in omega (arith, same);
-      frames = omega arith;
-    }) c.shift.ensures.counted
+    on_shifted c.shift.result c.shift.ensures.sound c.shift.ensures.ok c.shift.ensures.counted (λ sound put passed. record {
+      world = search rules;
+      text = search rules;
+      playing = record {
+        sound = sound;
+        boxes = moved_boxes _ _ c.args.self.now.table c.set_box.new.self c.args.handle c.args.body playing.boxes put moved.after playing.table moved.table moved.known;
+        table = moved.table;
+      };
+      few = record {
+        exchanged = λ on. let counted = passed on in omega (arith, few, counted);
+        gives = let same = ap (λ t. sum t.gives) moved.after in omega (arith, same);
+        frames = omega arith;
+      };
+    })

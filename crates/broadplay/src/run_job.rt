@@ -1,0 +1,72 @@
+ghost use Rattle.std.specs.Prelude.{◌≡◌, ◌≢◌, ◌↔◌, ◌-◌, ◌^◌, ◌<◌, true, false, map, string_bytes, None, IfOk};
+ghost use Rattle.std.specs.FinMap.{empty};
+ghost use Rattle.frame_player.specs.declared.status.Status.TheVariants.{Usage};
+ghost use Rattle.frame_player.specs.Outcome.{ends, IsOutcome};
+ghost use Rattle.frame_player.specs.Play.{played};
+ghost use Rattle.broadplay.specs.JobWords.{job};
+
+use crate::job::{Job, Task, read_words};
+use broad_index::{BroadPhase, PlainIndex};
+use fixed_box::NoMemory;
+use frame_player::{Limits, Status, play};
+use play_io::{Sink, Source};
+use std::alloc::Global;
+use std::thread::Threads;
+
+/// The most lines that a scene may have.
+pub const MOST_LINES: u32 = 268_435_456;
+
+/// Does what a command line asks for: plays the scene that a source has left, and writes its report.
+///
+/// The report tells at each frame exactly the pairs of live boxes that meet and may, with what began, stayed and is
+/// over since the last frame, and for each query exactly the boxes that meet it. Which report that is, is a function of
+/// the scene's bytes, whatever pieces reads cut them into. The first line that can't be read is refused. Otherwise the
+/// play stops early only where memory runs out, or the source or the sink fails.
+pub fn broadplay<R: Threads + Sync, S: Source, K: Sink>(
+    rt: &R,
+    alloc: Global,
+    words: &[String],
+    source: &mut S,
+    sink: &mut K,
+) -> Status
+    requires source_count { S.faults source.old < 2 ^ 64 - 1 }
+    requires sink_count { K.faults sink.old < 2 ^ 64 - 1 }
+
+    // The command line has no meaning, and nothing was touched.
+    ensures usage { (result ≡ Usage) ↔ (job (map string_bytes words.now) ≡ None) }
+    ensures untouched { result ≡ Usage → (source.new ≡ source.old) × (sink.new ≡ sink.old) }
+
+    // How each status leaves the source and the sink.
+    ensures outcome { IsOutcome (played MOST_LINES)
+        (ends (S.left source.old) (S.faults source.old) (K.written sink.old) (K.settled sink.old) (K.faults sink.old))
+        (ends (S.left source.new) (S.faults source.new) (K.written sink.new) (K.settled sink.new) (K.faults sink.new)) result }
+{
+    match read_words(words) {
+        None => Status::Usage,
+        Some(Job { task: Task::Play }) => play_over(rt, alloc, PlainIndex::new(alloc), source, sink),
+    }
+}
+
+// Plays over a structure, where there was memory to make it.
+fn play_over<R: Threads + Sync, B: BroadPhase + Drop, S: Source, K: Sink>(
+    rt: &R,
+    alloc: Global,
+    made: Result<B, NoMemory>,
+    source: &mut S,
+    sink: &mut K,
+) -> Status
+    requires empty { IfOk made (λ index. B.bodies index ≡ empty) }
+    requires sound { IfOk made (λ index. B.spent index ≡ false) }
+    requires uncounted { IfOk made (λ index. B.COUNTS ≡ true → B.exchanges index ≡ 0) }
+    requires source_count { S.faults source.old < 2 ^ 64 - 1 }
+    requires sink_count { K.faults sink.old < 2 ^ 64 - 1 }
+    ensures outcome { IsOutcome (played MOST_LINES)
+        (ends (S.left source.old) (S.faults source.old) (K.written sink.old) (K.settled sink.old) (K.faults sink.old))
+        (ends (S.left source.new) (S.faults source.new) (K.written sink.new) (K.settled sink.new) (K.faults sink.new)) result }
+    ensures never_usage { result ≢ Usage }
+{
+    match made {
+        Ok(index) => play(rt, alloc, index, Limits { lines: MOST_LINES }, source, sink),
+        Err(NoMemory) => Status::NoMemory,
+    }
+}

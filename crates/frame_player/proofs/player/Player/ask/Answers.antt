@@ -1,8 +1,0 @@
-use Rattle.std.proofs.Common.{true}
-use Rattle.frame_player.specs.World.{World}
-use Rattle.frame_player.proofs.player.Player.ask.Goals as goal
-
-pub returns-then-self-clause-allowed : goal.returns-then-self-clause-allowed
-returns-then-self-clause-allowed g c =
-    let w : World = record { header = true; table = c.args.self.now.table; last = c.args.self.now.events; frames = c.args.self.now.frames } in
-    rw c.if-self.true (c.allow_later.ensures.again w c.len.ensures.len)
