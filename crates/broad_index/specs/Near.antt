@@ -1,9 +1,9 @@
 -- The pairs of boxes that meet, of a map from slot to box.
-use Rattle.std.specs.Prelude.{ℕ, Bool, true, ◌&&◌, ◌||◌, nat_lt, ◌==◌, List, [], ◌∷◌, ◌++◌, map, filter}
-use Rattle.std.specs.List.{list_all}
+use Rattle.std.specs.Prelude.{ℕ, Bool, ◌&&◌, ◌||◌, nat_lt, ◌==◌, List, [], ◌∷◌, ◌++◌, map, filter}
 use Rattle.std.specs.Ordering.{nat_cmp}
 use Rattle.std.specs.FinMap.{FinMap, entries}
 use Rattle.fixed_box.specs.Bounds.{Bounds, meets}
+use Rattle.fixed_box.specs.Rising.{rises_by}
 use Rattle.broad_index.specs.declared.pair.Pair.{Pair}
 
 -- a slot with each later one whose box meets its box
@@ -25,5 +25,4 @@ precedes p q = nat_lt p.a q.a || (p.a == q.a && nat_lt p.b q.b)
 
 -- each pair stands before all later ones
 abbrev pub rises : List Pair → Bool
-rises [] = true
-rises (p ∷ later) = list_all (precedes p) later && rises later
+rises pairs = rises_by precedes pairs

@@ -8,15 +8,28 @@ ghost use Rattle.broad_index.specs.Near.{near, rises};
 ghost use Rattle.broad_index.specs.NearRises.{near_rises};
 
 use crate::{Pair, Query};
-use fixed_box::{FBox, NoMemory};
+use fixed_box::{FBox, NoMemory, SLOTS};
 
-/// The part of a physics engine that tells which moving boxes may touch, whichever way it keeps them: a map from slot
-/// to box, whose slots are below 8,192, a mark that rises where memory ran out in a change, and where it counts them,
-/// the number of exchanges of endpoints.
+/// A broad phase keeps moving boxes under slots and tells which of them may touch.
 ///
-/// An index that is spent answers each call by want of memory, and its map stays as it is.
+/// A tick of a simulation changes what has moved, and then asks:
+///
+/// ```
+/// index.add(7, body)?; // a box that comes in
+/// index.shift(3, moved)?; // a box that is elsewhere now
+/// index.leave(5); // a box that goes out
+/// index.pairs(&mut pairs)?; // the pairs a < b whose boxes meet
+/// index.hits(&Query::Spot(at), &mut slots)?; // the slots whose boxes hold a point
+/// ```
+///
+/// Of n boxes, the plain list tests each pair in `pairs` and each box in `hits`. It finds a slot in about log n steps;
+/// `add` and `leave` then move up to n entries, and `shift` moves none. A structure that keeps boxes by where they are
+/// tests few of those that don't meet, and takes longer over a change for it.
+///
+/// Where memory runs out in `add` or `shift`, the index is spent, and nothing is said of its map from then on but that
+/// the other calls leave it. A spent index answers want of memory wherever a call may.
 pub trait BroadPhase {
-    /// Whether exchanges are counted. Where they aren't, the number is always 0.
+    /// Whether exchanges of endpoints are counted.
     const COUNTS: bool;
 
     /// The present slots, each with its box.
@@ -32,7 +45,7 @@ pub trait BroadPhase {
 
     /// Puts a box under a slot that is absent. After an `Err` the index is spent.
     fn add(&mut self, slot: u32, body: FBox) -> Result<(), NoMemory>
-        requires small { slot < 8192 }
+        requires small { slot < SLOTS }
         requires absent { spent self.old ≡ false → map.contains_key (bodies self.old) slot ≡ false }
         requires countable { COUNTS ≡ true → spent self.old ≡ false → exchanges self.old ≤ 2 ^ 63 }
         ensures was_sound { OnOk result (spent self.old ≡ false) }
@@ -43,6 +56,7 @@ pub trait BroadPhase {
 
     /// Gives a present slot another box. After an `Err` the index is spent.
     fn shift(&mut self, slot: u32, body: FBox) -> Result<(), NoMemory>
+        requires small { slot < SLOTS }
         requires present { spent self.old ≡ false → map.contains_key (bodies self.old) slot ≡ true }
         requires countable { COUNTS ≡ true → spent self.old ≡ false → exchanges self.old ≤ 2 ^ 63 }
         ensures was_sound { OnOk result (spent self.old ≡ false) }
@@ -53,6 +67,7 @@ pub trait BroadPhase {
 
     /// Takes a present slot out. Where the index is spent nothing changes.
     fn leave(&mut self, slot: u32)
+        requires small { slot < SLOTS }
         requires present { spent self.old ≡ false → map.contains_key (bodies self.old) slot ≡ true }
         ensures gone { spent self.old ≡ false → bodies self.new ≡ map.remove (bodies self.old) slot }
         ensures spent { spent self.new ≡ spent self.old }
@@ -74,9 +89,10 @@ pub trait BroadPhase {
         ensures ok { OnOk result (out.new.items ≡ out.old.items ++ found (bodies self.now) query.now) }
         ensures err { OnErr result (out.new.items ≡ out.old.items) };
 
-    /// The number of exchanges since the index was made or last cleared.
+    /// The number of exchanges since the index was made or last cleared, and 0 where they aren't counted.
     fn exchanges(&self) -> u64
-        ensures { spent self.now ≡ false → result ≡ exchanges self.now };
+        ensures sound { spent self.now ≡ false → result ≡ exchanges self.now }
+        ensures uncounted { COUNTS ≡ false → result ≡ 0 };
 
     /// Counts exchanges from 0 on again.
     fn clear_exchanges(&mut self)

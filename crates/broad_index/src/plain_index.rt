@@ -4,6 +4,7 @@ ghost use Rattle.std.specs.Ordering.{nat_cmp};
 ghost use Rattle.std.specs.FinMap as map;
 ghost use Rattle.fixed_box.specs.Bounds.{Bounds};
 ghost use Rattle.broad_index.specs.Found.{found_of};
+ghost use Rattle.broad_index.specs.Fresh.{IsFresh};
 ghost use Rattle.broad_index.specs.Index.{bodies_of};
 ghost use Rattle.broad_index.specs.Near.{near_of, partners};
 
@@ -39,8 +40,7 @@ impl Model for PlainIndex {
 impl PlainIndex {
     /// An index with no box.
     pub fn new(alloc: Global) -> Result<PlainIndex, NoMemory>
-        ensures empty { IfOk result (λ index. index.bodies ≡ map.empty) }
-        ensures sound { IfOk result (λ index. index.spent ≡ false) }
+        ensures { IfOk result (λ index. IsFresh index.bodies index.spent 0) }
     {
         Ok(PlainIndex {
             entries: Vec::new(alloc),

@@ -3,3 +3,5 @@ pub mod Decimal
 pub mod Fix
 pub mod Point
 pub mod Puts
+pub mod Rising
+pub mod RisingLaws

@@ -4,6 +4,7 @@ use Rattle.std.specs.List.{list_all}
 use Rattle.std.specs.Cmp.{first_so, second_so}
 use Rattle.std.specs.Cmp.Derive.{both_true}
 use Rattle.std.proofs.lemmas.Bool.Decides.{nat_tests}
+use Rattle.fixed_box.specs.RisingLaws.{all_weaker}
 use Rattle.pair_events.specs.declared.hpair.HPair.{HPair}
 use Rattle.pair_events.specs.declared.told.Told.{Told}
 use Rattle.pair_events.specs.declared.told.Event.TheVariants.{Begin, Stay, Over}
@@ -39,14 +40,10 @@ abbrev over : HPair → Told
 over p = record { event = Over; pair = p }
 
 all_after : (p q : HPair) (ps : List HPair) → precedes p q ≡ true → list_all (precedes q) ps ≡ true → list_all (precedes p) ps ≡ true
-all_after p q [] h k = refl
-all_after p q (r ∷ ps) h k =
-    both_true (precedes_trans p q r h (first_so (precedes q r) (list_all (precedes q) ps) k)) (all_after p q ps h (second_so (precedes q r) (list_all (precedes q) ps) k))
+all_after p q ps h = all_weaker (precedes q) (precedes p) (λ r k. precedes_trans p q r h k) ps
 
 all_level : (p q : HPair) (ps : List HPair) → precedes p q ≡ false → precedes q p ≡ false → list_all (precedes q) ps ≡ true → list_all (precedes p) ps ≡ true
-all_level p q [] h k l = refl
-all_level p q (r ∷ ps) h k l =
-    both_true (level_before p q r h k (first_so (precedes q r) (list_all (precedes q) ps) l)) (all_level p q ps h k (second_so (precedes q r) (list_all (precedes q) ps) l))
+all_level p q ps h k = all_weaker (precedes q) (precedes p) (λ r l. level_before p q r h k l) ps
 
 none_after : (p : HPair) (ps : List HPair) → list_all (precedes p) ps ≡ true → has ps p ≡ false
 none_after p [] h = refl
@@ -71,9 +68,6 @@ not_of_theirs p (o ∷ os) now h =
       | true ↦ rest
       | false ↦ ap (λ told. over o ∷ told) rest
     ])
-
-pub rises_rest : (p : HPair) (ps : List HPair) → rises (p ∷ ps) ≡ true → rises ps ≡ true
-rises_rest p ps r = second_so (list_all (precedes p) ps) (rises ps) r
 
 -- a former pair that stands before the present ones
 pub passed_kept : (o : HPair) (os : List HPair) (p : HPair) (more : List HPair) → precedes o p ≡ true → rises (p ∷ more) ≡ true → kept_or_begun (o ∷ os) (p ∷ more) ≡ kept_or_begun os (p ∷ more)

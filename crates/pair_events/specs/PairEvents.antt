@@ -1,6 +1,7 @@
 -- What has changed between the pairs of two frames.
 use Rattle.std.specs.Prelude.{Bool, true, not, ◌&&◌, ◌||◌, ◌==◌, nat_lt, List, [], ◌∷◌, ◌++◌, map, filter, if◌then◌else◌}
 use Rattle.std.specs.List.{list_any, list_all}
+use Rattle.fixed_box.specs.Rising.{rises_by}
 use Rattle.live_table.specs.declared.handle.Handle.{Handle}
 use Rattle.pair_events.specs.declared.hpair.HPair.{HPair}
 use Rattle.pair_events.specs.declared.told.Told.{Told}
@@ -34,8 +35,7 @@ precedes p q = nat_lt p.a.slot q.a.slot || (p.a.slot == q.a.slot && nat_lt p.b.s
 
 -- each pair stands before all later ones
 abbrev pub rises : List HPair → Bool
-rises [] = true
-rises (p ∷ later) = list_all (precedes p) later && rises later
+rises pairs = rises_by precedes pairs
 
 -- the pairs rise, and in each the first slot is the lower one
 abbrev pub is_in_order : List HPair → Bool

@@ -1,7 +1,9 @@
+-- a former pair that stands before a present one is over
 use Rattle.std.proofs.Common.{◌≡◌, ◌∷◌, [], ◌++◌, true, sym, ◌∙◌, ap}
+use Rattle.fixed_box.specs.RisingLaws.{later_rise}
 use Rattle.pair_events.specs.declared.told.Event.TheVariants.{Over}
-use Rattle.pair_events.specs.PairEvents.{kept_or_begun, ended, rises}
-use Rattle.pair_events.proofs.Steps.{pushed, passed_kept, passed_ended, rises_rest}
+use Rattle.pair_events.specs.PairEvents.{kept_or_begun, ended, precedes, rises}
+use Rattle.pair_events.proofs.Steps.{pushed, passed_kept, passed_ended}
 use Rattle.pair_events.proofs.merge.pass.Goals as goal
 
 pub passed-preserved : goal.passed-preserved
@@ -9,7 +11,7 @@ passed-preserved c =
     let is : c.passed.rest.now ≡ c.in-Some.first.now ∷ c.in-Some.later.now = c.in-Some.ensures.cases.0 in
     let rising : rises (c.in-Some.first.now ∷ c.in-Some.later.now) ≡ true = rw is at c.passed.invariant.rising in
     record {
-      rising = rises_rest c.in-Some.first.now c.in-Some.later.now rising;
+      rising = later_rise precedes c.in-Some.first.now c.in-Some.later.now rising;
       kept = λ more r. sym (ap (λ os. kept_or_begun os (c.args.pair.now ∷ more)) is ∙ passed_kept c.in-Some.first.now c.in-Some.later.now c.args.pair.now more (sym c.precedes.ensures ∙ c.if-not-precedes.false) r) ∙ c.passed.invariant.kept more r;
       ended = λ more r.
           pushed c.push.new.self.items c.passed.over.items (record { event = Over; pair = c.in-Some.first.now }) (ended c.in-Some.later.now (c.args.pair.now ∷ more)) (ended c.passed.rest.now (c.args.pair.now ∷ more))
