@@ -1,5 +1,5 @@
 -- Sources and sinks in memory, as clauses see them.
-use Rattle.std.specs.Prelude.{ℕ, ◌+◌, ◌-◌, ◌^◌, min, Bool, ◌==◌, List}
+use Rattle.std.specs.Prelude.{ℕ, ◌+◌, ◌-◌, ◌^◌, min, Bool, ◌==◌, if◌then◌else◌, List}
 use Rattle.std.specs.List.{list_any}
 
 -- the bytes that are left, and the most that a read hands out
@@ -37,3 +37,7 @@ fails_at failing call = list_any (λ n. n == call) failing
 -- one more, up to the last value of 64 bits
 abbrev pub one_more : ℕ → ℕ
 one_more n = min (n + 1) (2 ^ 64 - 1)
+
+-- a count of faults after the call that comes: one more where that call fails
+abbrev pub faults_after : List ℕ → ℕ → ℕ → ℕ
+faults_after failing call faults = if fails_at failing call then one_more faults else faults

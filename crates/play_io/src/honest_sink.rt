@@ -5,7 +5,7 @@ use crate::{Sink, SinkFault};
 use std::alloc::Global;
 use std::marker::Model;
 
-/// Bytes kept in memory, taken in order and never with a fault, at most so many in one write.
+/// Bytes kept in memory as a sink for tests, taken in order and never with a fault, at most so many in one write.
 #[derive(Drop)]
 pub struct HonestSink {
     bytes: Vec<u8>,
@@ -52,7 +52,7 @@ impl Sink for HonestSink {
 
     ghost faults = { λ _. 0 };
 
-    ghost told_together = { λ _. refl };
+    ghost tells_both = { λ _. refl };
 
     fn write(&mut self, piece: &[u8]) -> Result<usize, SinkFault>
         ensures written { PutsFront (Some self.old.written) (Some self.new.written) result piece.now }

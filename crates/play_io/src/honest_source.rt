@@ -6,7 +6,7 @@ use fixed_box::NoMemory;
 use std::alloc::Global;
 use std::marker::Model;
 
-/// Bytes in memory, handed out in order and never with a fault, at most so many in one read.
+/// Bytes in memory as a source for tests, handed out in order and never with a fault, at most so many in one read.
 #[derive(Drop)]
 pub struct HonestSource {
     bytes: Vec<u8>,

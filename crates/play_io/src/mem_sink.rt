@@ -1,5 +1,5 @@
 ghost use Rattle.std.specs.Prelude.{◌≡◌, ◌≤◌, ◌↔◌, [], length, min, Some, Ok, Err, true, IfOk, if◌then◌else◌, refl};
-ghost use Rattle.play_io.specs.Memory.{fails_at, one_more};
+ghost use Rattle.play_io.specs.Memory.{fails_at, one_more, faults_after};
 ghost use Rattle.play_io.specs.Source.{CountsFault};
 ghost use Rattle.play_io.specs.Sink.{PutsFront, IsWriteOf, Settles, SinkCount};
 
@@ -9,8 +9,8 @@ use fixed_box::NoMemory;
 use std::alloc::Global;
 use std::marker::Model;
 
-/// Bytes kept in memory, taken in order, at most so many in one write. Writes and flushes are counted together, and
-/// those with given numbers fail.
+/// Bytes kept in memory as a sink for tests, taken in order, at most so many in one write. Writes and flushes are
+/// counted together, and those with given numbers fail.
 #[derive(Drop)]
 pub struct MemSink {
     bytes: Vec<u8>,
@@ -59,7 +59,7 @@ impl MemSink {
     fn call(&mut self) -> bool
         ensures count { result ≡ true → CountsFault self.old.faults self.new.faults }
         ensures fails { result ≡ fails_at self.old.failing self.old.calls }
-        ensures new { self.new ≡ record self.old { calls = one_more self.old.calls; faults = (if fails_at self.old.failing self.old.calls then one_more self.old.faults else self.old.faults) } }
+        ensures new { self.new ≡ record self.old { calls = one_more self.old.calls; faults = faults_after self.old.failing self.old.calls self.old.faults } }
     {
         let fails = is_failing(&self.failing, self.calls);
         self.calls = self.calls.saturating_add(1);
@@ -77,7 +77,7 @@ impl Sink for MemSink {
 
     ghost faults = { λ s. s.faults };
 
-    ghost told_together = { λ _. refl };
+    ghost tells_both = { λ _. refl };
 
     fn write(&mut self, piece: &[u8]) -> Result<usize, SinkFault>
         ensures written { PutsFront (Some self.old.written) (Some self.new.written) result piece.now }
@@ -88,6 +88,7 @@ impl Sink for MemSink {
         ensures failed { (result ≡ Err SinkFault.Failed) ↔ (fails_at self.old.failing self.old.calls ≡ true) }
         ensures all { IfOk result (λ n. n ≡ min self.old.most (length piece.now)) }
         ensures calls { self.new.calls ≡ one_more self.old.calls }
+        ensures faults { self.new.faults ≡ faults_after self.old.failing self.old.calls self.old.faults }
         ensures same { (self.new.most ≡ self.old.most) × (self.new.failing ≡ self.old.failing) }
     {
         if self.call() {
@@ -106,6 +107,7 @@ impl Sink for MemSink {
         ensures count { SinkCount self.old.faults self.new.faults result }
         ensures answer { result ≡ (if fails_at self.old.failing self.old.calls then Err SinkFault.Failed else Ok tt) }
         ensures calls { self.new.calls ≡ one_more self.old.calls }
+        ensures faults { self.new.faults ≡ faults_after self.old.failing self.old.calls self.old.faults }
         ensures same { (self.new.most ≡ self.old.most) × (self.new.failing ≡ self.old.failing) }
     {
         if self.call() {

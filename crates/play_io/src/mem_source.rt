@@ -1,5 +1,5 @@
-ghost use Rattle.std.specs.Prelude.{◌≡◌, ◌≤◌, ◌↔◌, length, min, Some, true, IfOk, IsErr, if◌then◌else◌};
-ghost use Rattle.play_io.specs.Memory.{fails_at, one_more};
+ghost use Rattle.std.specs.Prelude.{◌≡◌, ◌≤◌, ◌↔◌, length, min, Some, true, IfOk, IsErr};
+ghost use Rattle.play_io.specs.Memory.{fails_at, one_more, faults_after};
 ghost use Rattle.play_io.specs.Source.{TakesNext, IsReadOf, ReadCount};
 
 use crate::faults::is_failing;
@@ -9,7 +9,8 @@ use fixed_box::NoMemory;
 use std::alloc::Global;
 use std::marker::Model;
 
-/// Bytes in memory, handed out in order, at most so many in one read. Calls with given numbers fail.
+/// Bytes in memory as a source for tests, handed out in order, at most so many in one read. Calls with given numbers
+/// fail.
 #[derive(Drop)]
 pub struct MemSource {
     bytes: Vec<u8>,
@@ -67,7 +68,7 @@ impl Source for MemSource {
         ensures failed { IsErr result ↔ (fails_at self.old.failing self.old.calls ≡ true) }
         ensures all { IfOk result (λ n. n ≡ min (min self.old.most (length into.old)) (length self.old.left)) }
         ensures calls { self.new.calls ≡ one_more self.old.calls }
-        ensures faults { self.new.faults ≡ (if fails_at self.old.failing self.old.calls then one_more self.old.faults else self.old.faults) }
+        ensures faults { self.new.faults ≡ faults_after self.old.failing self.old.calls self.old.faults }
         ensures same { (self.new.most ≡ self.old.most) × (self.new.failing ≡ self.old.failing) }
     {
         let call = self.calls;

@@ -33,5 +33,5 @@ pub trait Sink {
         ensures count { SinkCount (faults self.old) (faults self.new) result };
 
     /// A sink tells both what is written and what is settled, or neither.
-    ghost told_together: { (sink : Self) → is_some (settled sink) ≡ is_some (written sink) };
+    ghost tells_both: { (sink : Self) → is_some (settled sink) ≡ is_some (written sink) };
 }

@@ -26,7 +26,8 @@ line_first ended line bs = let rest = pieces is_feed bs in rw rest.2 refl
 uncut : (p : ℕ → Bool) (bs : List ℕ) → length bs ≤ position_or_len p bs → slice_split p bs ≡ bs ∷ []
 uncut p [] h = refl
 uncut p (b ∷ bs) h =
-    elim (p b) as (λ t. length (b ∷ bs) ≤ cond (not t) (1 + position_or_len p bs) 0 → cond t ([] ∷ slice_split p bs) (onto_first b (slice_split p bs)) ≡ (b ∷ bs) ∷ []) [
+    elim (p b) as (λ t. length (b ∷ bs) ≤ cond (not t) (1 + position_or_len p bs) 0 → cond t ([] ∷ slice_split p bs) (onto_first b (slice_split p bs))
+    ≡ (b ∷ bs) ∷ []) [
       | true ↦ λ h. absurd (omega arith)
       | false ↦ λ h. ap (onto_first b) (uncut p bs (omega arith))
     ] h
@@ -59,7 +60,8 @@ lines_first bs some =
 pub length_ahead-append : (xs ys : List ℕ) → length_ahead xs < length xs → length_ahead (xs ++ ys) ≡ length_ahead xs
 length_ahead-append [] ys h = absurd (omega arith)
 length_ahead-append (x ∷ xs) ys h =
-    elim (is_feed x) as (λ t. cond (not t) (1 + length_ahead xs) 0 < length (x ∷ xs) → cond (not t) (1 + length_ahead (xs ++ ys)) 0 ≡ cond (not t) (1 + length_ahead xs) 0) [
+    elim (is_feed x) as (λ t. cond (not t) (1 + length_ahead xs) 0 < length (x ∷ xs)
+    → cond (not t) (1 + length_ahead (xs ++ ys)) 0 ≡ cond (not t) (1 + length_ahead xs) 0) [
       | true ↦ λ _. refl
       | false ↦ λ h. ap (λ n. 1 + n) (length_ahead-append xs ys (omega arith))
     ] h
@@ -93,7 +95,8 @@ lines_prefix (suc n) front rest small =
     (λ h.
     let later = lines_prefix n (past_line front) rest (omega (arith, length-drop (length_ahead front + 1) front)) in
     let whole : lines (front ++ rest) true ≡ line_ahead front ∷ lines (past_line front ++ rest) true =
-    lines_at_feed true (front ++ rest) (omega (arith, length_ahead-append front rest h, length-append front rest)) ∙ rw (line_ahead-append front rest h, past_line-append front rest h) refl in
+    lines_at_feed true (front ++ rest) (omega (arith, length_ahead-append front rest h, length-append front rest))
+    ∙ rw (line_ahead-append front rest h, past_line-append front rest h) refl in
     rw (lines_at_feed false front h, whole) (later.0, ap (λ ls. line_ahead front ∷ ls) later.1))
     (λ h. rw (lines_unended front h) (lines (front ++ rest) true, refl))
     (cases_lt (length_ahead front) (length front))
@@ -137,10 +140,12 @@ missed hay k apart = ⊎_elim (λ here. absurd (apart here)) (λ not_here. not_h
 
 -- what a search for a line feed says of the place of the first
 pub length_ahead_found : (hay : List ℕ) (k : ℕ) → NoneBefore (Passes (is_byte 10) hay) 0 (length hay) k → Passes (is_byte 10) hay k → length_ahead hay ≡ k
-length_ahead_found hay k none here = position_or_len_is is_feed hay k 0 (omega (arith, none.high)) (λ j below. missed hay j (none.before j (omega arith) below)) (λ _. here)
+length_ahead_found hay k none here = position_or_len_is is_feed hay k 0 (omega (arith, none.high))
+    (λ j below. missed hay j (none.before j (omega arith) below)) (λ _. here)
 
 pub length_ahead_missed : (hay : List ℕ) → Nowhere (Passes (is_byte 10) hay) 0 (length hay) → length_ahead hay ≡ length hay
-length_ahead_missed hay none = position_or_len_is is_feed hay (length hay) 0 (omega arith) (λ j below. missed hay j (none j (omega arith) below)) (λ past. absurd (omega arith))
+length_ahead_missed hay none = position_or_len_is is_feed hay (length hay) 0 (omega arith) (λ j below. missed hay j (none j (omega arith) below))
+    (λ past. absurd (omega arith))
 
 -- bytes with no line feed stay without one while others come behind them
 pub seen_within : (xs ys : List ℕ) → take (length xs) ys ≡ xs → length_ahead xs ≡ length xs → length xs ≤ length_ahead ys
@@ -152,9 +157,11 @@ seen_within xs ys kept none =
 ahead_taken : (bs : List ℕ) → length_ahead bs < length bs → length_ahead (take (suc (length_ahead bs)) bs) ≡ length_ahead bs
 ahead_taken [] h = absurd (omega arith)
 ahead_taken (b ∷ bs) h =
-    elim (is_feed b) as (λ t. cond (not t) (1 + length_ahead bs) 0 < length (b ∷ bs) → cond (not t) (1 + length_ahead (take (cond (not t) (1 + length_ahead bs) 0) bs)) 0 ≡ cond (not t) (1 + length_ahead bs) 0) [
+    elim (is_feed b) as (λ t. cond (not t) (1 + length_ahead bs) 0 < length (b ∷ bs)
+    → cond (not t) (1 + length_ahead (take (cond (not t) (1 + length_ahead bs) 0) bs)) 0 ≡ cond (not t) (1 + length_ahead bs) 0) [
       | true ↦ λ h. refl
-      | false ↦ λ h. let after : 1 + length_ahead bs ≡ suc (length_ahead bs) = omega arith in ap (λ n. 1 + n) (ap (λ n. length_ahead (take n bs)) after ∙ ahead_taken bs (omega arith))
+      | false ↦ λ h. let after : 1 + length_ahead bs ≡ suc (length_ahead bs) = omega arith in
+          ap (λ n. 1 + n) (ap (λ n. length_ahead (take n bs)) after ∙ ahead_taken bs (omega arith))
     ] h
 
 -- a line that has ended, and what stands behind it

@@ -34,13 +34,15 @@ pub range_grown : (xs : List ℕ) (at end n : ℕ) → at ≤ end → slice_rang
 range_grown xs at end n h =
     let len : end + n - at ≡ end - at + n = omega arith in
     let place : at + (end - at) ≡ end = omega arith in
-    rw len (take-add (end - at) n (drop at xs) ∙ ap (λ part. take (end - at) (drop at xs) ++ take n part) (drop-drop (end - at) at xs ∙ ap (λ k. drop k xs) place))
+    rw len (take-add (end - at) n (drop at xs)
+    ∙ ap (λ part. take (end - at) (drop at xs) ++ take n part) (drop-drop (end - at) at xs ∙ ap (λ k. drop k xs) place))
   where
     take-add : (m n : ℕ) (xs : List ℕ) → take (m + n) xs ≡ take m xs ++ take n (drop m xs)
     take-add m n xs = sym (take-append-drop m (take (m + n) xs)) ∙ rw (take-take m (m + n) xs (omega arith), drop-take m n xs) refl
 
 -- a range that stays while a buffer of n bytes is written to twice
-pub range_through : (items old₁ new₁ old₂ new₂ past : List ℕ) (n start stop from to end : ℕ) → old₁ ≡ items → length new₁ ≡ n → slice_range new₁ from to ≡ slice_range old₁ start stop
+pub range_through : (items old₁ new₁ old₂ new₂ past : List ℕ) (n start stop from to end : ℕ) → old₁ ≡ items → length new₁ ≡ n
+    → slice_range new₁ from to ≡ slice_range old₁ start stop
     → old₂ ≡ take n (new₁ ++ drop (length new₁) items) → length new₂ ≡ n → take end new₂ ≡ take end old₂ → to ≤ end
     → slice_range (take n (new₂ ++ past)) from to ≡ slice_range items start stop
 range_through items old₁ new₁ old₂ new₂ past n start stop from to end first len₁ moved second len₂ kept within =
@@ -57,7 +59,8 @@ pub range_read : (xs held : List ℕ) (at end n : ℕ) → at ≤ end → slice_
 range_read xs held at end n h e = range_grown xs at end n h ∙ ap (λ front. front ++ take n (drop end xs)) e
 
 -- and no byte that comes is lost
-pub coming_read : (xs new held : List ℕ) (at end n : ℕ) (was now : Option (List ℕ)) → xs ≡ new → at ≤ end → slice_range xs at end ≡ held → was ≡ prepend_known (take n (drop end new)) now
+pub coming_read : (xs new held : List ℕ) (at end n : ℕ) (was now : Option (List ℕ)) → xs ≡ new → at ≤ end → slice_range xs at end ≡ held
+    → was ≡ prepend_known (take n (drop end new)) now
     → prepend_known (slice_range xs at (end + n)) now ≡ prepend_known held was
 coming_read xs new held at end n was now written h e next =
     ap (λ bytes. prepend_known bytes now) (range_read xs held at end n h e) ∙ prepend_known-append held (take n (drop end xs)) now

@@ -8,6 +8,7 @@ use Rattle.scene_lines.specs.declared.next.Next.{Next}
 use Rattle.scene_lines.specs.declared.next.Next.TheVariants.{Line, End, Long, TooMany, ReadFault}
 use Rattle.scene_lines.specs.Next.{answer_at, OnLine, UnlessFault}
 use Rattle.scene_lines.specs.Reading.{coming}
+use Rattle.scene_lines.specs.declared.TheConstants.{LONGEST_LINE}
 use Rattle.scene_lines.specs.SceneLines.{lines, has_feed, length_ahead, line_ahead, past_line}
 use Rattle.scene_lines.proofs.Cutting.{length_ahead-append, length_ahead-le, length_ahead-within, line_ahead-append, past_line-append, no_feed_below, feed_below, lines_first}
 
@@ -47,10 +48,11 @@ pub record Hands (held : List ℕ) (over : Bool) (line rest : List ℕ) (after :
 module _ (limit number : ℕ) where
   -- how many bytes may be held with no line feed and settle nothing
   abbrev most : ℕ
-  most = cond (nat_lt number limit) 1025 0
+  most = cond (nat_lt number limit) (LONGEST_LINE + 1) 0
 
   -- the answer at bytes that aren't empty
-  answer_some : (xs : List ℕ) → 0 < length xs → answer_at limit number xs ≡ cond (nat_le limit number) TooMany (cond (nat_lt 1024 (length (line_ahead xs))) Long Line)
+  answer_some : (xs : List ℕ) → 0 < length xs
+      → answer_at limit number xs ≡ cond (nat_le limit number) TooMany (cond (nat_lt LONGEST_LINE (length (line_ahead xs))) Long Line)
   answer_some xs some = rw (ne_eqb (length xs) 0 (λ none. omega arith)) refl
 
   -- the same of bytes that are no line yet, and more than a line may have
@@ -59,8 +61,8 @@ module _ (limit number : ℕ) where
       answer_some xs (omega (arith, length_ahead-within xs))
       ∙ ⊎_elim
       (λ within.
-      let enough : most ≡ 1025 = rw (lt-ltb number limit within) refl in
-      rw (lt-ltb 1024 (length (line_ahead xs)) (omega (arith, line_ahead_len xs, enough))) refl)
+      let enough : most ≡ (LONGEST_LINE + 1) = rw (lt-ltb number limit within) refl in
+      rw (lt-ltb LONGEST_LINE (length (line_ahead xs)) (omega (arith, line_ahead_len xs, enough))) refl)
       (λ past. rw (le-leb limit number past) refl)
       (cases_lt number limit)
 
@@ -83,13 +85,14 @@ module _ (limit number : ℕ) where
   is_line false false false h = (refl, refl, refl)
 
   -- a line is handed out where one ends among the bytes held, or where they are all
-  line_settled : (held more : List ℕ) (over : Bool) → IsSettling held more over → Line ≡ answer_at limit number held → (0 < length held) × ((length_ahead held < length held) ⊎ ((more ≡ []) × (over ≡ true)))
+  line_settled : (held more : List ℕ) (over : Bool) → IsSettling held more over → Line ≡ answer_at limit number held → (0 < length held)
+      × ((length_ahead held < length held) ⊎ ((more ≡ []) × (over ≡ true)))
   line_settled held more over settles h =
-      let tests = is_line (nat_eq (length held) 0) (nat_le limit number) (nat_lt 1024 (length (line_ahead held))) h in
+      let tests = is_line (nat_eq (length held) 0) (nat_le limit number) (nat_lt LONGEST_LINE (length (line_ahead held))) h in
       let some : 0 < length held = let apart = eqb-false (length held) 0 tests.0 in omega arith in
       let within : number < limit = leb-false limit number tests.1 in
-      let short : length (line_ahead held) ≤ 1024 = ltb-false 1024 (length (line_ahead held)) tests.2 in
-      let enough : most ≡ 1025 = rw (lt-ltb number limit within) refl in
+      let short : length (line_ahead held) ≤ LONGEST_LINE = ltb-false LONGEST_LINE (length (line_ahead held)) tests.2 in
+      let enough : most ≡ (LONGEST_LINE + 1) = rw (lt-ltb number limit within) refl in
       (some, ⊎_elim inl (⊎_elim inr (λ many. absurd (omega (arith, line_ahead_len held, many.0, many.1, enough)))) settles)
 
   -- what the bytes held and those that a source has left make of them
@@ -100,7 +103,8 @@ module _ (limit number : ℕ) where
   settling : (held more : List ℕ) (over : Bool) → Settles held over (Some more) → IsSettling held more over
   settling held more over s =
       ⊎_elim (λ feed. inl (feed_below held feed))
-      (λ none. inr (⊎_elim (λ ended. inl (s.at_end ended, ended)) (λ going_on. inr (omega (arith, no_feed_below held none), s.enough none going_on)) (cases_Bool over)))
+      (λ none. inr (⊎_elim (λ ended. inl (s.at_end ended, ended)) (λ going_on. inr (omega (arith, no_feed_below held none), s.enough none going_on))
+      (cases_Bool over)))
       (cases_Bool (has_feed held))
 
   abbrev IsAnswered : Next → Option (List ℕ) → Type 0
@@ -113,14 +117,17 @@ module _ (limit number : ℕ) where
   unless_fault TooMany P p = p
   unless_fault ReadFault P p = tt
 
-  answered : (answer : Next) (held : List ℕ) (over : Bool) (left : Option (List ℕ)) → Settles held over left → answer ≡ answer_at limit number held → IsAnswered answer (coming held left)
+  answered : (answer : Next) (held : List ℕ) (over : Bool) (left : Option (List ℕ)) → Settles held over left → answer ≡ answer_at limit number held
+      → IsAnswered answer (coming held left)
   answered answer held over None s h = tt
   answered answer held over (Some more) s h = h ∙ sym (answer_settled held more over (settling held more over s))
 
   -- the answer at the bytes held is that at all that come
-  pub exact_answer : (answer : Next) (held : List ℕ) (over : Bool) (left was : Option (List ℕ)) → Settles held over left → coming held left ≡ was → answer ≡ answer_at limit number held
+  pub exact_answer : (answer : Next) (held : List ℕ) (over : Bool) (left was : Option (List ℕ)) → Settles held over left → coming held left ≡ was
+      → answer ≡ answer_at limit number held
       → UnlessFault answer (IfSome was (λ bytes. answer ≡ answer_at limit number bytes))
-  exact_answer answer held over left was s same h = unless_fault answer (IsAnswered answer was) (subst (IsAnswered answer) same (answered answer held over left s h))
+  exact_answer answer held over left was s same h =
+      unless_fault answer (IsAnswered answer was) (subst (IsAnswered answer) same (answered answer held over left s h))
 
   -- What a line handed out of the bytes held says of all that come: it is their first, what is past it is what is past
   -- theirs, and where they have no line feed the input has ended.
@@ -138,17 +145,20 @@ module _ (limit number : ℕ) where
         some = omega (arith, settled.0);
         line = ⊎_elim (λ ends. line_ahead-append held more ends) (λ none. ap line_ahead (ap (λ bytes. held ++ bytes) none.0 ∙ append-nil held)) settled.1;
         rest = ⊎_elim (λ ends. past_line-append held more ends)
-            (λ none. ap past_line (ap (λ bytes. held ++ bytes) none.0 ∙ append-nil held) ∙ sym (ap (λ bytes. past_line held ++ bytes) none.0 ∙ append-nil (past_line held))) settled.1;
+            (λ none. ap past_line (ap (λ bytes. held ++ bytes) none.0 ∙ append-nil held)
+            ∙ sym (ap (λ bytes. past_line held ++ bytes) none.0 ∙ append-nil (past_line held))) settled.1;
         at_end = λ no_feed.
             ⊎_elim (λ ends. absurd (omega (arith, no_feed_below (held ++ more) no_feed, length_ahead-append held more ends, len))) (λ none. none.1) settled.1;
       }
 
   module _ (held : List ℕ) (over : Bool) (line rest : List ℕ) (after : Bool) where
-    line_held : (left : Option (List ℕ)) → Settles held over left → Line ≡ answer_at limit number held → Hands held over line rest after → IfSome (coming held left) (λ bytes. line ≡ line_ahead bytes)
+    line_held : (left : Option (List ℕ)) → Settles held over left → Line ≡ answer_at limit number held → Hands held over line rest after
+        → IfSome (coming held left) (λ bytes. line ≡ line_ahead bytes)
     line_held None s h hands = tt
     line_held (Some more) s h hands = hands.line_is ∙ sym (is_first held more over s h).line
 
-    rest_held : (left : Option (List ℕ)) → Settles held over left → Line ≡ answer_at limit number held → Hands held over line rest after → coming rest left ≡ option_map past_line (coming held left)
+    rest_held : (left : Option (List ℕ)) → Settles held over left → Line ≡ answer_at limit number held → Hands held over line rest after
+        → coming rest left ≡ option_map past_line (coming held left)
     rest_held None s h hands = refl
     rest_held (Some more) s h hands = ap Some (ap (λ bytes. bytes ++ more) hands.rest_is ∙ sym (is_first held more over s h).rest)
 
@@ -161,15 +171,18 @@ module _ (limit number : ℕ) where
         let ahead : line_ahead (held ++ more) ≡ line = first.line ∙ sym hands.line_is in
         lines_first (held ++ more) first.some ∙ rw (past, ahead) refl
 
-    over_held : (left : Option (List ℕ)) → Settles held over left → Line ≡ answer_at limit number held → Hands held over line rest after → IfSome (coming held left) (λ bytes. has_feed bytes ≡ false → after ≡ true)
+    over_held : (left : Option (List ℕ)) → Settles held over left → Line ≡ answer_at limit number held → Hands held over line rest after
+        → IfSome (coming held left) (λ bytes. has_feed bytes ≡ false → after ≡ true)
     over_held None s h hands = tt
     over_held (Some more) s h hands = λ no_feed. hands.over_is ∙ (is_first held more over s h).at_end no_feed
 
-    module _ (answer : Next) (left was : Option (List ℕ)) (s : Settles held over left) (same : coming held left ≡ was) (h : answer ≡ answer_at limit number held) (handed : OnLine answer (Hands held over line rest after)) where
+    module _ (answer : Next) (left was : Option (List ℕ)) (s : Settles held over left) (same : coming held left ≡ was)
+        (h : answer ≡ answer_at limit number held) (handed : OnLine answer (Hands held over line rest after)) where
       pub line_answer : OnLine answer (IfSome was (λ bytes. line ≡ line_ahead bytes))
       line_answer =
           on_line answer (IfSome was (λ bytes. line ≡ line_ahead bytes))
-          (λ is. subst (λ (w : Option (List ℕ)). IfSome w (λ bytes. line ≡ line_ahead bytes)) same (line_held left s (sym is ∙ h) (at_line answer (Hands held over line rest after) is handed)))
+          (λ is. subst (λ (w : Option (List ℕ)). IfSome w (λ bytes. line ≡ line_ahead bytes)) same
+          (line_held left s (sym is ∙ h) (at_line answer (Hands held over line rest after) is handed)))
 
       pub rest_answer : OnLine answer (coming rest left ≡ option_map past_line was)
       rest_answer =
@@ -179,9 +192,11 @@ module _ (limit number : ℕ) where
       pub first_answer : OnLine answer (IfSome was (λ bytes. IfSome (coming rest left) (λ past. lines bytes true ≡ line ∷ lines past true)))
       first_answer =
           on_line answer (IfSome was (λ bytes. IfSome (coming rest left) (λ past. lines bytes true ≡ line ∷ lines past true)))
-          (λ is. subst (λ (w : Option (List ℕ)). IfSome w (λ bytes. IfSome (coming rest left) (λ past. lines bytes true ≡ line ∷ lines past true))) same (first_held left s (sym is ∙ h) (at_line answer (Hands held over line rest after) is handed)))
+          (λ is. subst (λ (w : Option (List ℕ)). IfSome w (λ bytes. IfSome (coming rest left) (λ past. lines bytes true ≡ line ∷ lines past true))) same
+          (first_held left s (sym is ∙ h) (at_line answer (Hands held over line rest after) is handed)))
 
       pub over_answer : OnLine answer (IfSome was (λ bytes. has_feed bytes ≡ false → after ≡ true))
       over_answer =
           on_line answer (IfSome was (λ bytes. has_feed bytes ≡ false → after ≡ true))
-          (λ is. subst (λ (w : Option (List ℕ)). IfSome w (λ bytes. has_feed bytes ≡ false → after ≡ true)) same (over_held left s (sym is ∙ h) (at_line answer (Hands held over line rest after) is handed)))
+          (λ is. subst (λ (w : Option (List ℕ)). IfSome w (λ bytes. has_feed bytes ≡ false → after ≡ true)) same
+          (over_held left s (sym is ∙ h) (at_line answer (Hands held over line rest after) is handed)))

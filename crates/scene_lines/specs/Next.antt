@@ -3,11 +3,12 @@ use Rattle.std.specs.Prelude.{ℕ, ◌+◌, Bool, true, false, ◌==◌, nat_le,
 use Rattle.scene_lines.specs.declared.next.Next.{Next}
 use Rattle.scene_lines.specs.declared.next.Next.TheVariants.{Line, End, Long, TooMany, ReadFault}
 use Rattle.scene_lines.specs.SceneLines.{line_ahead}
+use Rattle.scene_lines.specs.declared.TheConstants.{LONGEST_LINE}
 
 -- The answer after so many lines, where these bytes come and then the input ends. A line past the limit is refused whatever its length.
 abbrev pub answer_at : ℕ → ℕ → List ℕ → Next
 answer_at limit number bytes =
-    if length bytes == 0 then End else if nat_le limit number then TooMany else if nat_lt 1024 (length (line_ahead bytes)) then Long else Line
+    if length bytes == 0 then End else if nat_le limit number then TooMany else if nat_lt LONGEST_LINE (length (line_ahead bytes)) then Long else Line
 
 -- the number of the last line, or of the line refused
 abbrev pub number_after : Next → ℕ → ℕ

@@ -2,8 +2,10 @@ ghost use Rattle.std.specs.Prelude.{◌≡◌, ◌+◌, ◌<◌, ◌≤◌, ◌�
 ghost use Rattle.play_io.specs.Source.{TakesNext, IsReadOf, ReadCount, CountsFault};
 ghost use Rattle.scene_lines.specs.Reading.{coming};
 ghost use Rattle.scene_lines.specs.SceneLines.{has_feed, length_ahead, line_ahead, past_line};
+ghost use Rattle.scene_lines.specs.declared.TheConstants.{LONGEST_LINE};
 
-use crate::layout::{CAPACITY, Layout, make_room};
+use crate::BUFFER_LEN;
+use crate::layout::{Layout, make_room};
 use fixed_box::NoMemory;
 use memchr::memchr;
 use play_io::{Failed, Source};
@@ -22,12 +24,17 @@ impl Model for LineBuffer {
     ghost use Rattle.std.specs.Prelude.{◌≡◌, slice_range, vec_len};
     ghost use Rattle.scene_lines.specs.Reading.{Buffered};
     ghost use Rattle.scene_lines.specs.Layout.{IsLaidOut};
+    ghost use Rattle.scene_lines.specs.declared.TheConstants.{BUFFER_LEN};
 
     ghost Value = { Buffered };
 
-    ghost view = { λ b. record { line = slice_range b.bytes.items b.layout.line_start b.layout.line_end; held = slice_range b.bytes.items b.layout.at b.layout.end; over = b.over } };
+    ghost view = { λ b. record {
+      line = slice_range b.bytes.items b.layout.line_start b.layout.line_end;
+      held = slice_range b.bytes.items b.layout.at b.layout.end;
+      over = b.over;
+    } };
 
-    ghost invariant = { λ b. (vec_len b.bytes ≡ 65536) × IsLaidOut b.layout };
+    ghost invariant = { λ b. (vec_len b.bytes ≡ BUFFER_LEN) × IsLaidOut b.layout };
 }
 
 impl LineBuffer {
@@ -41,7 +48,7 @@ impl LineBuffer {
             at: 0,
             end: 0,
         };
-        let bytes = Vec::from_elem(alloc, 0u8, CAPACITY)?;
+        let bytes = Vec::from_elem(alloc, 0u8, BUFFER_LEN)?;
         Ok(LineBuffer {
             bytes,
             layout,
@@ -52,7 +59,7 @@ impl LineBuffer {
     /// The last line handed out.
     pub(crate) fn line(&self) -> &[u8]
         ensures value { result.now ≡ self.now.line }
-        ensures short { length self.now.line ≤ 1024 }
+        ensures short { length self.now.line ≤ LONGEST_LINE }
     {
         let all = self.bytes.as_slice();
         &all[self.layout.line_start..self.layout.line_end]
@@ -61,7 +68,7 @@ impl LineBuffer {
     /// The bytes taken and not handed out.
     pub(crate) fn held(&self) -> &[u8]
         ensures value { result.now ≡ self.now.held }
-        ensures small { length self.now.held ≤ 65536 }
+        ensures small { length self.now.held ≤ BUFFER_LEN }
     {
         let all = self.bytes.as_slice();
         &all[self.layout.at..self.layout.end]
@@ -70,14 +77,14 @@ impl LineBuffer {
     /// Reads until the bytes held have a line feed, are more than `most`, or the input has ended. Answers how many of
     /// them stand before the first line feed.
     pub(crate) fn seek<S: Source>(&mut self, source: &mut S, most: usize) -> Result<usize, Failed>
-        requires few { most ≤ 1025 }
+        requires few { most ≤ LONGEST_LINE + 1 }
         requires at_end { self.old.over ≡ true → IfSome (S.left source.old) (λ left. left ≡ []) }
         ensures ahead { IfOk result (λ len. len ≡ length_ahead self.new.held) }
         ensures settled { OnOk result (has_feed self.new.held ≡ false → self.new.over ≡ false → most < length self.new.held) }
         ensures unsettled { OnErr result ((has_feed self.new.held ≡ false) × (length self.new.held ≤ most)) }
         ensures coming { coming self.new.held (S.left source.new) ≡ coming self.old.held (S.left source.old) }
         ensures line { self.new.line ≡ self.old.line }
-        ensures small { length self.new.held ≤ 65536 }
+        ensures small { length self.new.held ≤ BUFFER_LEN }
         ensures at_end { self.new.over ≡ true → IfSome (S.left source.new) (λ left. left ≡ []) }
         ensures over { self.old.over ≡ true → (source.new ≡ source.old) × (self.new ≡ self.old) }
         ensures found { has_feed self.old.held ≡ true → (source.new ≡ source.old) × (self.new ≡ self.old) }
@@ -108,7 +115,8 @@ impl LineBuffer {
 
     // Reads once. No byte is taken only at the end of the input.
     fn read_more<S: Source>(&mut self, source: &mut S) -> Result<(), Failed>
-        requires { length self.old.held ≤ 1025 }
+        requires few { length self.old.held ≤ LONGEST_LINE + 1 }
+        requires unended { self.old.over ≡ false }
         ensures coming { coming self.new.held (S.left source.new) ≡ coming self.old.held (S.left source.old) }
         ensures line { self.new.line ≡ self.old.line }
         ensures kept { take (length self.old.held) self.new.held ≡ self.old.held }
@@ -116,20 +124,19 @@ impl LineBuffer {
         ensures at_end { OnOk result (self.new.over ≡ true → IfSome (S.left source.new) (λ left. left ≡ [])) }
         ensures end { OnOk result (self.new.over ≡ true → self.new.held ≡ self.old.held) }
         ensures err { OnErr result ((self.new.held ≡ self.old.held) × (self.new.over ≡ self.old.over)) }
-        ensures small { length self.new.held ≤ 65536 }
+        ensures small { length self.new.held ≤ BUFFER_LEN }
         ensures count { MatchResult result (λ _. S.faults source.new ≡ S.faults source.old) (λ _. CountsFault (S.faults source.old) (S.faults source.new)) }
     {
         self.layout = make_room(&mut self.bytes, self.layout);
-        let count = fill(source, &mut self.bytes, self.layout.end)?;
+        let count = fill(source, &mut self.bytes, self.layout.end, &mut self.over)?;
         self.layout.end += count;
-        self.over = count == 0;
         Ok(())
     }
 
     /// Hands out the first line of the bytes held, which ends before byte `len`.
     pub(crate) fn hand_out(&mut self, len: usize)
         requires ahead { len ≡ length_ahead self.old.held }
-        requires short { length (line_ahead self.old.held) ≤ 1024 }
+        requires short { length (line_ahead self.old.held) ≤ LONGEST_LINE }
         ensures { self.new ≡ record { line = line_ahead self.old.held; held = past_line self.old.held; over = self.old.over } }
     {
         let line_len = line_len(self.held(), len);
@@ -143,15 +150,26 @@ impl LineBuffer {
     }
 }
 
-// Reads once into what lies behind the first `end` bytes of a buffer.
-fn fill<S: Source>(source: &mut S, bytes: &mut [u8], end: usize) -> Result<usize, Failed>
-    requires { end ≤ length bytes.old }
+// Reads once into what lies behind the first `end` bytes of a buffer. Whoever reads says by `over` that no read has
+// answered the end before, so none follows one that has.
+fn fill<S: Source>(
+    source: &mut S,
+    bytes: &mut [u8],
+    end: usize,
+    over: &mut bool,
+) -> Result<usize, Failed>
+    requires within { end ≤ length bytes.old }
+    requires unended { over.old ≡ false }
+    ensures over { (over.new ≡ true) ↔ (result ≡ Ok 0) }
+    ensures fault { OnErr result (over.new ≡ false) }
     ensures kept { take end bytes.new ≡ take end bytes.old }
     ensures next { TakesNext (S.left source.old) (S.left source.new) result (drop end bytes.new) }
     ensures length { IsReadOf (S.left source.old) result (drop end bytes.new) }
     ensures count { ReadCount (S.faults source.old) (S.faults source.new) result }
 {
-    source.read(&mut bytes[end..])
+    let given = source.read(&mut bytes[end..]);
+    *over = given == Ok(0);
+    given
 }
 
 // How many bytes stand before the first line feed. The first `seen` are known to be none.

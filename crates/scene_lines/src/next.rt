@@ -5,7 +5,7 @@ pub enum Next {
     Line,
     /// The input has ended, and no byte is left.
     End,
-    /// The next line has more than 1,024 bytes without its end.
+    /// The next line has more than `LONGEST_LINE` bytes without its end.
     Long,
     /// A line begins past the limit of lines.
     TooMany,

@@ -59,7 +59,7 @@ fn lines_are_cut_alike_however_reads_cut_the_bytes(rt: HostRuntime) -> Result<()
     ];
     for (limit, bytes, steps) in &rows {
         assert!(rt; 1 <= *limit && *limit < 10);
-        for most in [1, 3, 65_536] {
+        for most in [1, 3, BUFFER_LEN as u32] {
             let mut honest = HonestSource::new(rt.alloc(), bytes, most)?;
             follow(
                 &rt,
@@ -138,15 +138,15 @@ fn a_failed_read_ends_the_lines_and_none_follows_the_end(rt: HostRuntime) -> Res
 
 #[test]
 fn a_line_has_at_most_1024_bytes_without_its_end(rt: HostRuntime) -> Result<(), Fail> {
-    let text = [b'x'; 1_025];
+    let text = [b'x'; LONGEST_LINE + 1];
     let rows: [(usize, &[u8], Next); 7] = [
-        (1_024, b"\n", Next::Line),
-        (1_024, b"\r\n", Next::Line),
-        (1_024, b"\r", Next::Line),
-        (1_024, b"\r\r\n", Next::Long),
-        (1_025, b"\n", Next::Long),
-        (1_025, b"\r\n", Next::Long),
-        (1_025, b"", Next::Long),
+        (LONGEST_LINE, b"\n", Next::Line),
+        (LONGEST_LINE, b"\r\n", Next::Line),
+        (LONGEST_LINE, b"\r", Next::Line),
+        (LONGEST_LINE, b"\r\r\n", Next::Long),
+        (LONGEST_LINE + 1, b"\n", Next::Long),
+        (LONGEST_LINE + 1, b"\r\n", Next::Long),
+        (LONGEST_LINE + 1, b"", Next::Long),
     ];
     for (len, end, next) in &rows {
         let line = text.get(..*len).ok_or("too long")?;
@@ -154,7 +154,7 @@ fn a_line_has_at_most_1024_bytes_without_its_end(rt: HostRuntime) -> Result<(), 
         bytes.extend_from_slice(end)?;
         let handed_out = [(Next::Line, line, 1), (Next::End, line, 1)];
         let refused = [(Next::Long, text.split_at(0).0, 1)];
-        for most in [1, 1_025, 65_536] {
+        for most in [1, LONGEST_LINE as u32 + 1, BUFFER_LEN as u32] {
             let mut source = HonestSource::new(rt.alloc(), &bytes, most)?;
             let reader = LineReader::new(rt.alloc(), 1)?;
             if *next == Next::Line {
@@ -178,7 +178,7 @@ fn an_input_of_several_buffers_loses_no_byte(rt: HostRuntime) -> Result<(), Fail
     for i in 0..500u32 {
         let from = (i % 26) as usize;
         let line = text
-            .get(from..from + (i * 7 % 1_025) as usize)
+            .get(from..from + (i * 7 % (LONGEST_LINE as u32 + 1)) as usize)
             .ok_or("too long")?;
         bytes.extend_from_slice(line)?;
         bytes.extend_from_slice(if i % 2 == 0 { b"\n" } else { b"\r\n" })?;
@@ -187,7 +187,7 @@ fn an_input_of_several_buffers_loses_no_byte(rt: HostRuntime) -> Result<(), Fail
             steps.push((Next::End, line, 500))?;
         }
     }
-    assert!(rt; bytes.len() > 3 * 65_536);
+    assert!(rt; bytes.len() > 3 * BUFFER_LEN);
     for most in [3, 4_096, 100_000] {
         let mut source = HonestSource::new(rt.alloc(), &bytes, most)?;
         follow(&rt, LineReader::new(rt.alloc(), 500)?, &mut source, &steps);

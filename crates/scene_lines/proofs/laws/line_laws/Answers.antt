@@ -1,6 +1,8 @@
+-- Each law is a lemma on bytes cut at line feeds.
 use Rattle.std.proofs.Common.{length, le_refl, true, List, ℕ, subst, sym, false}
 use Rattle.scene_lines.specs.SceneLines.{lines, IsPrefix}
 use Rattle.scene_lines.proofs.Cutting.{lines_first, lines_prefix, lines_ended, lines_open}
+use Rattle.scene_lines.proofs.Ranges.{prepend_known-append}
 use Rattle.scene_lines.proofs.laws.line_laws.Goals as goal
 
 pub returns-clause-first : goal.returns-clause-first
@@ -16,3 +18,6 @@ returns-clause-ended c = lines_ended
 
 pub returns-clause-unended : goal.returns-clause-unended
 returns-clause-unended c = lines_open
+
+pub returns-clause-in_parts : goal.returns-clause-in_parts
+returns-clause-in_parts c = prepend_known-append

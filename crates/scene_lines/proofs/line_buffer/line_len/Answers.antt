@@ -1,3 +1,4 @@
+-- The first line feed stands within the bytes.
 use Rattle.std.proofs.Common.{arith}
 use Rattle.scene_lines.proofs.Cutting.{length_ahead-within}
 use Rattle.scene_lines.proofs.line_buffer.line_len.Goals as goal

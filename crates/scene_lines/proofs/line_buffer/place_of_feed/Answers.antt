@@ -1,3 +1,4 @@
+-- The search begins past bytes that are known to be no line feed, so its place counts from there.
 use Rattle.std.proofs.Common.{◌≡◌, length, arith, ap}
 use Rattle.scene_lines.specs.SceneLines.{length_ahead}
 use Rattle.scene_lines.proofs.Cutting.{length_ahead-within, length_ahead-drop, length_ahead_found, length_ahead_missed}

@@ -1,3 +1,4 @@
+-- The line is a range at the front of the bytes held, and what stays is the range past its line feed.
 use Rattle.std.proofs.Common.{◌≡◌, min, ◌+◌, ◌-◌, ◌≤◌, length, take, drop, sym, ap, ◌∙◌, arith, slice_range}
 use Rattle.std.proofs.lemmas.List.{length-take}
 use Rattle.scene_lines.specs.SceneLines.{line_ahead, past_line}

@@ -1,3 +1,4 @@
+-- A read is made only where the bytes held settle nothing. So where they did at first, or the input was over, none is.
 use Rattle.std.proofs.Common.{arith, ap, sym, ◌∙◌, length, ⊎_elim}
 use Rattle.std.proofs.lemmas.Bool.{false≢true, cases_lt}
 use Rattle.std.proofs.lemmas.Result.{err_from_is_err_and}

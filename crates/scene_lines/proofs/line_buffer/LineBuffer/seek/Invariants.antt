@@ -1,5 +1,6 @@
 use Rattle.std.proofs.Common.{◌≡◌, ◌+◌, ◌-◌, ◌<◌, ◌≤◌, true, [], length, cond, IfSome}
 use Rattle.scene_lines.specs.Reading.{coming}
+use Rattle.scene_lines.specs.declared.TheConstants.{BUFFER_LEN}
 use Rattle.scene_lines.specs.SceneLines.{has_feed, length_ahead}
 use Rattle.scene_lines.proofs.line_buffer.LineBuffer.seek.Given as goal
 
@@ -7,7 +8,7 @@ use Rattle.scene_lines.proofs.line_buffer.LineBuffer.seek.Given as goal
 abbrev pub invariant-reads : goal.invariant-reads
 invariant-reads g l = record {
   ahead : l.len ≡ length_ahead l.self.held;
-  small : length l.self.held ≤ 65536;
+  small : length l.self.held ≤ BUFFER_LEN;
   coming : coming l.self.held (g.S.Source.left l.source) ≡ coming l.fn.self.held (g.S.Source.left l.fn.source);
   line : l.self.line ≡ l.fn.self.line;
   at_end : l.self.over ≡ true → IfSome (g.S.Source.left l.source) (λ left. left ≡ []);
@@ -19,4 +20,4 @@ invariant-reads g l = record {
 
 -- each read takes a byte or ends the input
 abbrev pub decreases-reads : goal.decreases-reads
-decreases-reads g l = 65536 - length l.self.held + cond l.self.over 0 1
+decreases-reads g l = BUFFER_LEN - length l.self.held + cond l.self.over 0 1
