@@ -1,5 +1,5 @@
-ghost use Rattle.std.specs.Prelude.{◌≡◌, ◌≢◌, ◌↔◌, ◌-◌, ◌^◌, ◌<◌, true, false, map, string_bytes, None, IfOk};
-ghost use Rattle.std.specs.FinMap.{empty};
+ghost use Rattle.std.specs.Prelude.{◌≡◌, ◌≢◌, ◌↔◌, ◌-◌, ◌^◌, ◌<◌, map, string_bytes, None, IfOk};
+ghost use Rattle.broad_index.specs.Fresh.{IsFresh};
 ghost use Rattle.frame_player.specs.declared.status.Status.TheVariants.{Usage};
 ghost use Rattle.frame_player.specs.Outcome.{ends, IsOutcome};
 ghost use Rattle.frame_player.specs.Play.{played};
@@ -10,11 +10,9 @@ use broad_index::{BroadPhase, PlainIndex};
 use fixed_box::NoMemory;
 use frame_player::{Limits, Status, play};
 use play_io::{Sink, Source};
+use scene_lines::MOST_LINES;
 use std::alloc::Global;
 use std::thread::Threads;
-
-/// The most lines that a scene may have.
-pub const MOST_LINES: u32 = 268_435_456;
 
 /// Does what a command line asks for: plays the scene that a source has left, and writes its report.
 ///
@@ -55,9 +53,7 @@ fn play_over<R: Threads + Sync, B: BroadPhase + Drop, S: Source, K: Sink>(
     source: &mut S,
     sink: &mut K,
 ) -> Status
-    requires empty { IfOk made (λ index. B.bodies index ≡ empty) }
-    requires sound { IfOk made (λ index. B.spent index ≡ false) }
-    requires uncounted { IfOk made (λ index. B.COUNTS ≡ true → B.exchanges index ≡ 0) }
+    requires fresh { IfOk made (λ index. IsFresh (B.bodies index) (B.spent index) (B.exchanges index)) }
     requires source_count { S.faults source.old < 2 ^ 64 - 1 }
     requires sink_count { K.faults sink.old < 2 ^ 64 - 1 }
     ensures outcome { IsOutcome (played MOST_LINES)

@@ -11,6 +11,7 @@ use Rattle.std.proofs.lemmas.Bool.{eqb-true}
 use Rattle.std.proofs.lemmas.Bool.Decides.{nat_tests}
 use Rattle.std.proofs.lemmas.Cmp.{nat_cmp_total}
 use Rattle.fixed_box.specs.Bounds.{Bounds}
+use Rattle.fixed_box.specs.declared.TheConstants.{SLOTS}
 use Rattle.live_table.specs.declared.handle.Handle.{Handle}
 use Rattle.live_table.specs.declared.live.Live.{Live}
 use Rattle.live_table.specs.declared.masks.Masks.{Masks}
@@ -112,6 +113,14 @@ lives_above h (e ∷ es) s some up =
 
 not_above : (h : Handle) (e : Live) → nat_lt h.slot (slot_of e) ≡ true → has h e ≡ false
 not_above h e lt = let apart : nat_eq (slot_of e) h.slot ≡ false = grind (arith, nat_tests) in rw apart refl
+
+pub lives_small : (h : Handle) (es : List Live) → All (λ e. slot_of e < SLOTS) es → lives h es ≡ true → h.slot < SLOTS
+lives_small h [] small some = cc
+lives_small h (e ∷ es) small some =
+    elim (has h e) as (λ t. has h e ≡ t → is_some (cond t (Some e) (entry_at h es)) ≡ true → h.slot < SLOTS) [
+      | true ↦ λ is _. subst (λ s. s < SLOTS) (same_slot h e is) (small 0 e (omega arith))
+      | false ↦ λ _ later. lives_small h es (λ k d i. small (suc k) d (omega arith)) later
+    ] refl some
 
 -- boxes above a slot stay as they are
 body_above : (h : Handle) (body : Bounds) (es : List Live) → above h.slot es ≡ true → slots_with_bodies (with_body h body es) ≡ slots_with_bodies es

@@ -4,6 +4,7 @@ use Rattle.std.specs.Io.KnownBytes.{prepend_known}
 use Rattle.std.proofs.lemmas.List.{append_assoc, append-nil}
 use Rattle.pair_report.specs.declared.cause.Cause.TheVariants as cause
 use Rattle.pair_report.specs.PairReport.{end_line, refused_line}
+use Rattle.scene_lines.specs.declared.TheConstants.{LONGEST_LINE}
 use Rattle.scene_lines.specs.declared.next.Next.TheVariants.{End}
 use Rattle.scene_lines.specs.Next.{answer_at}
 use Rattle.scene_lines.specs.Reading.{coming}
@@ -21,7 +22,7 @@ use Rattle.frame_player.proofs.ReplyPrefix.{no_replies}
 none_come : (limit number : ℕ) (held : List ℕ) (left : Option (List ℕ)) (bytes : List ℕ) → coming held left ≡ Some bytes → IfSome (coming held left) (λ b. End ≡ answer_at limit number b) → bytes ≡ []
 none_come limit number held left bytes here exact =
     let is : End ≡ answer_at limit number bytes = subst (λ o. IfSome o (λ b. End ≡ answer_at limit number b)) here exact in
-    no_bytes bytes (end_when (nat_eq (length bytes) 0) (nat_le limit number) (nat_lt 1024 (length (line_ahead bytes))) is)
+    no_bytes bytes (end_when (nat_eq (length bytes) 0) (nat_le limit number) (nat_lt LONGEST_LINE (length (line_ahead bytes))) is)
 
 at_end : (limit number : ℕ) (given : List ℕ) (left : Option (List ℕ)) (held : List ℕ) (over : Bool) (w : World) (out : List ℕ)
     → IsReached limit given left held over w (number + 1) out → IfSome (coming held left) (λ bytes. End ≡ answer_at limit number bytes)
@@ -57,19 +58,16 @@ end_done limit number n given left now held kept over w out longer reached exact
     ∙ at_end limit number given left held over w out reached exact) eo in
     (told.0, told.1, none_left kept now (same ∙ reached.coming ∙ ap Some (none_come limit number held left reached.bytes reached.coming exact)))
 
-prepend_known-append : (xs ys : List ℕ) (left : Option (List ℕ)) → prepend_known (xs ++ ys) left ≡ prepend_known xs (prepend_known ys left)
-prepend_known-append xs ys None = refl
-prepend_known-append xs ys (Some l) = ap Some (append_assoc xs ys l)
-
 pub fault_replied : (limit n : ℕ) (given : List ℕ) (left now : Option (List ℕ)) (held kept : List ℕ) (over : Bool) (w : World) (out : List ℕ)
     → ((bytes : List ℕ) → has_feed bytes ≡ false → lines bytes false ≡ [])
+    → ((front back : List ℕ) (left : Option (List ℕ)) → coming (front ++ back) left ≡ coming front (coming back left))
     → IsReached limit given left held over w n out
     → coming kept now ≡ coming held left → has_feed kept ≡ false → over ≡ false
     → IsReplyTo (played limit) given now out
-fault_replied limit n given left now held kept over w out law reached same unended goes =
+fault_replied limit n given left now held kept over w out law parts reached same unended goes =
     let front = reached.front in
     record {
       taken = front ++ kept;
-      split = sym (prepend_known-append front kept now ∙ ap (prepend_known front) (same ∙ reached.coming) ∙ ap Some (sym reached.split));
+      split = sym (parts front kept now ∙ ap (prepend_known front) (same ∙ reached.coming) ∙ ap Some (sym reached.split));
       replies = sym (append-nil out) ∙ ap (λ t. out ++ t) (sym (no_replies w n)) ∙ ap (λ ls. out ++ (play_from limit w n ls).replies) (sym (law kept unended)) ∙ ap (λ p. p.replies) (reached.ahead goes kept);
     }

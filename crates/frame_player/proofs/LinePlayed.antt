@@ -1,6 +1,7 @@
 -- A line that passes: the play has come one line further.
 use Rattle.std.proofs.Common.{◌≡◌, ℕ, ◌+◌, ◌≤◌, Bool, true, false, List, [], ◌∷◌, ◌++◌, length, take, Option, Some, None, IfSome, option_map, Ok, refl, sym, ap, ◌∙◌, subst}
 use Rattle.std.proofs.lemmas.List.{append_assoc, take-append-drop}
+use Rattle.scene_lines.specs.declared.TheConstants.{LONGEST_LINE}
 use Rattle.scene_lines.specs.Reading.{Reading, coming}
 use Rattle.scene_lines.specs.SceneLines.{lines, has_feed, length_ahead, line_ahead, past_line}
 use Rattle.scene_words.specs.declared.version.Version.TheVariants.{One}
@@ -42,7 +43,7 @@ pub line_played : (limit : ℕ) (given : List ℕ) (left now : Option (List ℕ)
     → IfSome (coming old.held left) (λ bytes. IfSome (coming new.held now) (λ rest. lines bytes true ≡ new.line ∷ lines rest true))
     → IfSome (coming old.held left) (λ bytes. has_feed bytes ≡ false → new.over ≡ true)
     → (old.over ≡ true → new.over ≡ true)
-    → new.number ≡ old.number + 1 → new.number ≤ limit → length new.line ≤ 1024
+    → new.number ≡ old.number + 1 → new.number ≤ limit → length new.line ≤ LONGEST_LINE
     → allowed w (command One new.line) ≡ Ok said → v ≡ after w said → longer ≡ out ++ reply w said
     → IsReached limit given now new.held new.over v (new.number + 1) longer
 line_played limit given left now old new w v out longer said law reached line rest first last stays number within short passed ew eo =

@@ -6,6 +6,7 @@ use Rattle.fixed_box.specs.declared.no_memory.NoMemory.{NoMemory}
 use Rattle.pair_report.specs.declared.cause.Cause.{Cause}
 use Rattle.pair_report.specs.declared.cause.Cause.TheVariants as cause
 use Rattle.pair_report.specs.PairReport.{refused_line}
+use Rattle.scene_lines.specs.declared.TheConstants.{LONGEST_LINE}
 use Rattle.scene_lines.specs.declared.next.Next.TheVariants.{Line, End, Long, TooMany}
 use Rattle.scene_lines.specs.Next.{answer_at}
 use Rattle.scene_lines.specs.Reading.{Reading, coming}
@@ -41,7 +42,7 @@ pub line_refused : (limit : ℕ) (given : List ℕ) (left now : Option (List ℕ
     → IsReached limit given left old.held old.over w (old.number + 1) out
     → coming new.held now ≡ option_map past_line (coming old.held left)
     → IfSome (coming old.held left) (λ bytes. IfSome (coming new.held now) (λ rest. lines bytes true ≡ new.line ∷ lines rest true))
-    → new.number ≡ old.number + 1 → new.number ≤ limit → length new.line ≤ 1024
+    → new.number ≡ old.number + 1 → new.number ≤ limit → length new.line ≤ LONGEST_LINE
     → allowed w (command One new.line) ≡ Err c → longer ≡ out ++ refused_line new.number c
     → ((played limit (lines given true)).status ≡ Refused new.number c) × (longer ≡ report limit (lines given true))
 line_refused limit given left now old new w c out longer reached rest first number within short refused eo =
@@ -95,7 +96,7 @@ pub long_refused : (limit number n : ℕ) (given : List ℕ) (left : Option (Lis
 long_refused limit number n given left held over w out longer law reached exact number_is eo =
     let bytes = reached.bytes in
     let is : Long ≡ answer_at limit number bytes = subst (λ o. IfSome o (λ b. Long ≡ answer_at limit number b)) reached.coming exact in
-    let when = long_when (nat_eq (length bytes) 0) (nat_le limit number) (nat_lt 1024 (length (line_ahead bytes))) is in
+    let when = long_when (nat_eq (length bytes) 0) (nat_le limit number) (nat_lt LONGEST_LINE (length (line_ahead bytes))) is in
     refused_next limit given bytes (line_ahead bytes) (lines (past_line bytes) true) w n cause.Long out longer
     (subst (λ k. reply_first out (play_from limit w k (lines bytes true)) ≡ played limit (lines given true)) (sym number_is) reached.so_far)
     (law bytes (some_bytes (length bytes) when.0))
@@ -110,7 +111,7 @@ pub too_many_refused : (limit number n : ℕ) (given : List ℕ) (left : Option 
 too_many_refused limit number n given left held over w out longer law reached exact number_is eo =
     let bytes = reached.bytes in
     let is : TooMany ≡ answer_at limit number bytes = subst (λ o. IfSome o (λ b. TooMany ≡ answer_at limit number b)) reached.coming exact in
-    let when = too_many_when (nat_eq (length bytes) 0) (nat_le limit number) (nat_lt 1024 (length (line_ahead bytes))) is in
+    let when = too_many_when (nat_eq (length bytes) 0) (nat_le limit number) (nat_lt LONGEST_LINE (length (line_ahead bytes))) is in
     refused_next limit given bytes (line_ahead bytes) (lines (past_line bytes) true) w n cause.Lines out longer
     (subst (λ k. reply_first out (play_from limit w k (lines bytes true)) ≡ played limit (lines given true)) (sym number_is) reached.so_far)
     (law bytes (some_bytes (length bytes) when.0))

@@ -12,6 +12,7 @@ use Rattle.pair_events.specs.PairEvents.{events}
 use Rattle.pair_report.specs.declared.cause.Cause.{Cause}
 use Rattle.pair_report.specs.declared.cause.Cause.TheVariants as cause
 use Rattle.pair_report.specs.PairReport.{add_line, stale_line, frame_line, told_line, hits_line}
+use Rattle.scene_lines.specs.declared.TheConstants.{LONGEST_LINE}
 use Rattle.scene_words.specs.declared.version.Version.TheVariants.{One}
 use Rattle.scene_words.specs.declared.command.Command.{Command}
 use Rattle.scene_words.specs.declared.command.Command.TheVariants.{Blank, Header, Add, Move, Mask, Remove, Frame, BoxQ, PointQ, RayQ, SegQ}
@@ -96,5 +97,5 @@ allowed w said = if w.header then allowed_later w said else allowed_first said
 unfoldable pub asked : ℕ → World → ℕ → List ℕ → Result Command Cause
 asked limit w n line =
     if nat_lt limit n then Err cause.Lines
-    else (if nat_lt 1024 (length line) then Err cause.Long
+    else (if nat_lt LONGEST_LINE (length line) then Err cause.Long
     else allowed w (command One line))

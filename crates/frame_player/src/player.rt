@@ -1,5 +1,4 @@
 ghost use Rattle.std.specs.Prelude.{◌≡◌, ◌++◌, ◌<◌, false, length, Ok, OnOk, OnErr, IfOk};
-ghost use Rattle.std.specs.FinMap as map;
 
 use crate::allowed::{allow_first, allow_later};
 use crate::handle_lists::{push_hits, push_pairs};
@@ -28,6 +27,7 @@ pub(crate) struct Player<B: Drop> {
 }
 
 impl<B: BroadPhase + Drop> Player<B> {
+    ghost use Rattle.broad_index.specs.Fresh.{IsFresh};
     ghost use Rattle.scene_words.specs.declared.version.Version.TheVariants.{One};
     ghost use Rattle.scene_words.specs.SceneWords.{command};
     ghost use Rattle.frame_player.specs.Player.{world_in, IsPlaying, HasRoom, CountsOn, IsObeyed};
@@ -36,8 +36,7 @@ impl<B: BroadPhase + Drop> Player<B> {
     // The opening world.
     #[tactic(auto, using(crate::proofs::Changes::opening_boxes))]
     pub(crate) fn new(alloc: Global, index: B) -> Result<Player<B>, NoMemory>
-        requires empty { B.bodies index ≡ map.empty }
-        requires sound { B.spent index ≡ false }
+        requires { IsFresh (B.bodies index) (B.spent index) (B.exchanges index) }
         ensures opening { IfOk result (λ player. world_in player ≡ opening) }
         ensures playing { IfOk result (IsPlaying B.bodies B.spent) }
         ensures index { IfOk result (λ player. player.index ≡ index) }

@@ -1,5 +1,5 @@
 ghost use Rattle.std.specs.Prelude.{◌≡◌, ◌≢◌, ◌-◌, ◌^◌, ◌<◌, ◌≤◌, ◌++◌, [], true, false, IfOk, IfSome, MatchResult};
-ghost use Rattle.std.specs.FinMap as map;
+ghost use Rattle.broad_index.specs.Fresh.{IsFresh};
 ghost use Rattle.pair_report.specs.PairReport.{refused_line};
 ghost use Rattle.frame_player.specs.declared.status.Status.TheVariants.{Refused, Usage};
 ghost use Rattle.frame_player.specs.Ending.{IsTextOf, IsCountedAs, after_fault};
@@ -13,7 +13,7 @@ use broad_index::BroadPhase;
 use fixed_box::NoMemory;
 use pair_report::{Cause, put_end, put_refused};
 use play_io::{Sink, SinkFault, Source};
-use scene_lines::{LineReader, Next, line_laws};
+use scene_lines::{LineReader, MOST_LINES, Next, line_laws};
 use std::alloc::Global;
 use std::thread::Threads;
 
@@ -28,11 +28,9 @@ pub fn play<R: Threads + Sync, B: BroadPhase + Drop, S: Source, K: Sink>(
     source: &mut S,
     sink: &mut K,
 ) -> Status
-    requires empty { B.bodies index ≡ map.empty }
-    requires sound { B.spent index ≡ false }
-    requires uncounted { B.COUNTS ≡ true → B.exchanges index ≡ 0 }
+    requires fresh { IsFresh (B.bodies index) (B.spent index) (B.exchanges index) }
     requires some_lines { 1 ≤ limits.lines }
-    requires most_lines { limits.lines ≤ 268435456 }
+    requires most_lines { limits.lines ≤ MOST_LINES }
     requires source_count { S.faults source.old < 2 ^ 64 - 1 }
     requires sink_count { K.faults sink.old < 2 ^ 64 - 1 }
 
@@ -74,11 +72,9 @@ fn put_report<B: BroadPhase + Drop, S: Source>(
     source: &mut S,
     out: &mut Vec<u8>,
 ) -> Result<Status, NoMemory>
-    requires empty { B.bodies index ≡ map.empty }
-    requires sound { B.spent index ≡ false }
-    requires uncounted { B.COUNTS ≡ true → B.exchanges index ≡ 0 }
+    requires fresh { IsFresh (B.bodies index) (B.spent index) (B.exchanges index) }
     requires some_lines { 1 ≤ limit }
-    requires most_lines { limit ≤ 268435456 }
+    requires most_lines { limit ≤ MOST_LINES }
     requires source_count { S.faults source.old < 2 ^ 64 - 1 }
     requires nothing { out.old.items ≡ [] }
     ensures text { IfOk result (λ status. IfSome (S.left source.old) (λ given. IsTextOf limit given (S.left source.new) out.new.items status)) }

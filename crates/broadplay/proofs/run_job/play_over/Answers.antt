@@ -2,7 +2,7 @@
 use Rattle.scene_lines.specs.SceneLines.{lines}
 use Rattle.std.specs.Prelude.{true}
 use Rattle.frame_player.specs.Play.{report}
-use Rattle.broadplay.specs.declared.run_job.TheConstants.{MOST_LINES}
+use Rattle.scene_lines.specs.declared.TheConstants.{MOST_LINES}
 use Rattle.broadplay.proofs.NothingWritten.{nothing_written}
 use Rattle.broadplay.proofs.run_job.play_over.Goals as goal
 

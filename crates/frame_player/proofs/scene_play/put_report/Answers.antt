@@ -32,7 +32,7 @@ lines-init g c =
       number = omega (arith, number);
       frames = omega (arith, frames);
       gives = omega (arith, gives);
-      exchanged = λ on. let none = c.requires.uncounted on in let same = ap (λ index. g.B.BroadPhase.exchanges index) c.in_ok-player.ensures.index in omega (arith, none, same);
+      exchanged = λ on. let none = c.requires.fresh.uncounted in let same = ap (λ index. g.B.BroadPhase.exchanges index) c.in_ok-player.ensures.index in omega (arith, none, same);
       count = refl;
     }
 
@@ -104,7 +104,7 @@ returns-in-ReadFault-clause-text g c =
     let next = c.in-ReadFault.ensures in
     on_some (g.S.Source.left c.args.source.now) inv.reached (λ given reached.
     fault_replied c.args.limit (c.lines.reader.number + 1) given (g.S.Source.left c.lines.source) (g.S.Source.left c.next.new.source) c.lines.reader.held c.next.new.self.held c.lines.reader.over (world_in c.lines.player) c.lines.out.items
-    c.line_laws.ensures.unended reached next.kept next.unfinished (⊎_elim (λ over. absurd (next.over_sound over refl)) (λ goes. goes) (cases_Bool c.lines.reader.over)))
+    c.line_laws.ensures.unended c.line_laws.ensures.in_parts reached next.kept next.unfinished (⊎_elim (λ over. absurd (next.over_sound over refl)) (λ goes. goes) (cases_Bool c.lines.reader.over)))
 
 pub returns-then-not-player-clause-text : goal.returns-then-not-player-clause-text
 returns-then-not-player-clause-text g c =

@@ -2,14 +2,14 @@
 use Rattle.std.proofs.Common.{rules, ap, ◌∙◌, sym}
 use Rattle.std.specs.Prelude.{is_some}
 use Rattle.std.specs.FinMap.{contains_key}
-use Rattle.frame_player.proofs.Changes.{indexed_present}
+use Rattle.frame_player.proofs.Changes.{indexed_present, lives_small}
 use Rattle.frame_player.proofs.Kept.{removed_boxes}
 use Rattle.frame_player.proofs.player.Player.remove.Goals as goal
 
 pub leave-requires : goal.leave-requires
 leave-requires g c =
     let playing = c.requires.playing in
-    record { present = λ _. ap (λ b. contains_key b c.args.handle.slot) playing.boxes ∙ indexed_present c.args.handle c.args.self.now.table.entries playing.table.rising (ap is_some (sym c.in-Ok.ensures.found)) }
+    record { small = lives_small c.args.handle c.args.self.now.table.entries playing.table.small (ap is_some (sym c.in-Ok.ensures.found)); present = λ _. ap (λ b. contains_key b c.args.handle.slot) playing.boxes ∙ indexed_present c.args.handle c.args.self.now.table.entries playing.table.rising (ap is_some (sym c.in-Ok.ensures.found)) }
 
 pub returns-in-Ok-clause-obeyed : goal.returns-in-Ok-clause-obeyed
 returns-in-Ok-clause-obeyed g c =

@@ -2,10 +2,13 @@
 use Rattle.std.proofs.Common.{rules, ap, ◌∙◌, sym, arith}
 use Rattle.std.specs.List.{sum}
 use Rattle.std.specs.FinMap.{contains_key}
-use Rattle.frame_player.proofs.Changes.{indexed_present}
+use Rattle.frame_player.proofs.Changes.{indexed_present, lives_small}
 use Rattle.frame_player.proofs.Counts.{shifted_few}
 use Rattle.frame_player.proofs.Kept.{few_bodies, moved_boxes, on_shifted}
 use Rattle.frame_player.proofs.player.Player.shift.Goals as goal
+
+pub shift-requires-clause-small : goal.shift-requires-clause-small
+shift-requires-clause-small g c = lives_small c.args.handle c.args.self.now.table.entries c.requires.playing.table.small (sym c.in-Ok.ensures.known)
 
 pub shift-requires-clause-present : goal.shift-requires-clause-present
 shift-requires-clause-present g c _ =
