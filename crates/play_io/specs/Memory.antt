@@ -21,7 +21,7 @@ pub record FaultyLeft : Type 0 where
   pub calls : ℕ
   pub faults : ℕ
 
--- and of a sink, whose writes and flushes are counted together
+-- and of a sink, whose writes and flushes are counted together, with how many calls came after the first that failed
 pub record FaultyWritten : Type 0 where
   pub written : List ℕ
   pub settled : ℕ
@@ -29,6 +29,7 @@ pub record FaultyWritten : Type 0 where
   pub failing : List ℕ
   pub calls : ℕ
   pub faults : ℕ
+  pub since : ℕ
 
 -- whether the call that comes is one of those that fail
 abbrev pub fails_at : List ℕ → ℕ → Bool

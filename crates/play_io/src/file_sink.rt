@@ -2,7 +2,7 @@ ghost use Rattle.std.specs.Prelude.{◌≡◌, length, None, Ok, Err, MatchResul
 ghost use Rattle.std.specs.Io.KnownBytes.{Keeps, WriteAppends};
 ghost use Rattle.play_io.specs.Device.{with_fault, FaultsCounted};
 ghost use Rattle.play_io.specs.Source.{CountsFault};
-ghost use Rattle.play_io.specs.Sink.{PutsFront, IsWriteOf, Settles, SinkCount};
+ghost use Rattle.play_io.specs.Sink.{PutsFront, IsWriteOf, Settles, SinkCount, CountsSince};
 
 use crate::{Sink, SinkFault};
 use std::io;
@@ -62,6 +62,8 @@ impl<W: Write + Drop> Sink for FileSink<W> {
 
     ghost faults = { λ s. s.faults };
 
+    ghost since = { λ _. None };
+
     ghost tells_both = { λ _. refl };
 
     // A write that takes nothing of a piece that isn't empty is a fault.
@@ -69,6 +71,7 @@ impl<W: Write + Drop> Sink for FileSink<W> {
         ensures written { PutsFront None None result piece.now }
         ensures length { IsWriteOf result piece.now }
         ensures count { SinkCount self.old.faults self.new.faults result }
+        ensures since { CountsSince self.old.faults None None }
         ensures fault { IfErr result (λ fault. fault ≡ SinkFault.Failed) }
         ensures faults { FaultsCounted self.old.faults self.new.faults result }
         // The writer's bytes grow exactly by those that are answered, by none at a fault or of an empty piece.
@@ -84,6 +87,7 @@ impl<W: Write + Drop> Sink for FileSink<W> {
     fn flush(&mut self) -> Result<(), SinkFault>
         ensures settled { Settles None None None result }
         ensures count { SinkCount self.old.faults self.new.faults result }
+        ensures since { CountsSince self.old.faults None None }
         ensures fault { IfErr result (λ fault. fault ≡ SinkFault.Failed) }
         ensures faults { FaultsCounted self.old.faults self.new.faults result }
         ensures device { Keeps (W.contents self.old.device) (W.contents self.new.device) }

@@ -1,5 +1,5 @@
-ghost use Rattle.std.specs.Prelude.{◌≡◌, ◌≤◌, [], length, min, Some, IfOk, Ok, refl};
-ghost use Rattle.play_io.specs.Sink.{PutsFront, IsWriteOf, Settles, SinkCount};
+ghost use Rattle.std.specs.Prelude.{◌≡◌, ◌≤◌, [], length, min, Some, None, IfOk, Ok, refl};
+ghost use Rattle.play_io.specs.Sink.{PutsFront, IsWriteOf, Settles, SinkCount, CountsSince};
 
 use crate::{Sink, SinkFault};
 use std::alloc::Global;
@@ -52,6 +52,8 @@ impl Sink for HonestSink {
 
     ghost faults = { λ _. 0 };
 
+    ghost since = { λ _. None };
+
     ghost tells_both = { λ _. refl };
 
     fn write(&mut self, piece: &[u8]) -> Result<usize, SinkFault>
@@ -59,6 +61,7 @@ impl Sink for HonestSink {
         ensures length { IsWriteOf result piece.now }
         ensures settled { self.new.settled ≡ self.old.settled }
         ensures count { SinkCount 0 0 result }
+        ensures since { CountsSince 0 None None }
         // Each write takes as much as it may, unless memory runs out.
         ensures all { IfOk result (λ n. n ≡ min self.old.most (length piece.now)) }
         ensures most { self.new.most ≡ self.old.most }
@@ -76,6 +79,7 @@ impl Sink for HonestSink {
         ensures written { Some self.new.written ≡ Some self.old.written }
         ensures settled { Settles (Some self.old.written) (Some self.old.settled) (Some self.new.settled) result }
         ensures count { SinkCount 0 0 result }
+        ensures since { CountsSince 0 None None }
     {
         self.settled = self.bytes.len();
         Ok(())

@@ -52,6 +52,13 @@ impl MemSource {
             faults: 0,
         })
     }
+
+    /// How many reads were asked for so far. The number stays at the last of 64 bits.
+    pub fn calls(&self) -> u64
+        ensures { result ≡ self.now.calls }
+    {
+        self.calls
+    }
 }
 
 impl Source for MemSource {
