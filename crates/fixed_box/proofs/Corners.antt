@@ -57,7 +57,8 @@ pub lower_greatest : (p q r : Point) → is_at_most r p ≡ true → is_at_most 
 lower_greatest p q r a b =
     let first = axes r p a in
     let second = axes r q b in
-    all_three r (lower_corner p q) (min_greatest p.x q.x r.x first.x second.x) (min_greatest p.y q.y r.y first.y second.y) (min_greatest p.z q.z r.z first.z second.z)
+    all_three r (lower_corner p q) (min_greatest p.x q.x r.x first.x second.x) (min_greatest p.y q.y r.y first.y second.y)
+    (min_greatest p.z q.z r.z first.z second.z)
 
 pub upper_least : (p q r : Point) → is_at_most p r ≡ true → is_at_most q r ≡ true → is_at_most (upper_corner p q) r ≡ true
 upper_least p q r a b =
@@ -72,11 +73,15 @@ at_most_chain p q r a b =
     all_three p r (le_chain p.x q.x r.x first.x second.x) (le_chain p.y q.y r.y first.y second.y) (le_chain p.z q.z r.z first.z second.z)
 
 -- a coordinate as code reads it
-pub min_read : (m x y : ℤ) → SFits w32 m → SFits w32 x → SFits w32 y → m ≡ int_min (to_z w32 (of_z w32 x)) (to_z w32 (of_z w32 y)) → to_z w32 (of_z w32 m) ≡ int_min x y
-min_read m x y fits left right e = to_z-of_z w32 m fits ∙ e ∙ ap (λ a. int_min a (to_z w32 (of_z w32 y))) (to_z-of_z w32 x left) ∙ ap (int_min x) (to_z-of_z w32 y right)
+pub min_read : (m x y : ℤ) → SFits w32 m → SFits w32 x → SFits w32 y → m ≡ int_min (to_z w32 (of_z w32 x)) (to_z w32 (of_z w32 y))
+    → to_z w32 (of_z w32 m) ≡ int_min x y
+min_read m x y fits left right e = to_z-of_z w32 m fits ∙ e ∙ ap (λ a. int_min a (to_z w32 (of_z w32 y))) (to_z-of_z w32 x left)
+    ∙ ap (int_min x) (to_z-of_z w32 y right)
 
-pub max_read : (m x y : ℤ) → SFits w32 m → SFits w32 x → SFits w32 y → m ≡ int_max (to_z w32 (of_z w32 x)) (to_z w32 (of_z w32 y)) → to_z w32 (of_z w32 m) ≡ int_max x y
-max_read m x y fits left right e = to_z-of_z w32 m fits ∙ e ∙ ap (λ a. int_max a (to_z w32 (of_z w32 y))) (to_z-of_z w32 x left) ∙ ap (int_max x) (to_z-of_z w32 y right)
+pub max_read : (m x y : ℤ) → SFits w32 m → SFits w32 x → SFits w32 y → m ≡ int_max (to_z w32 (of_z w32 x)) (to_z w32 (of_z w32 y))
+    → to_z w32 (of_z w32 m) ≡ int_max x y
+max_read m x y fits left right e = to_z-of_z w32 m fits ∙ e ∙ ap (λ a. int_max a (to_z w32 (of_z w32 y))) (to_z-of_z w32 x left)
+    ∙ ap (int_max x) (to_z-of_z w32 y right)
 
 pub same_point : (a b c x y z : ℤ) → a ≡ x → b ≡ y → c ≡ z → ◌≡◌ {A = Point} (record { x = a; y = b; z = c }) (record { x = x; y = y; z = z })
 same_point a b c x y z d e f = cc

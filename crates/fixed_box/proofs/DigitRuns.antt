@@ -8,7 +8,7 @@ use Rattle.std.proofs.lemmas.Bool.{and_right, and_parts}
 use Rattle.std.proofs.lemmas.List.{take_all}
 use Rattle.std.proofs.lemmas.Bool.Decides.{nat_tests}
 use Rattle.std.proofs.Math.Nat.{pow-succ', mul_assoc}
-use Rattle.fixed_box.specs.declared.reading.Decimal.{Decimal}
+use Rattle.fixed_box.specs.declared.parsing.Decimal.{Decimal}
 use Rattle.fixed_box.specs.Fix.{is_numeral, digits_of_parts}
 use Rattle.fixed_box.specs.Decimal.{decimal_of, with_fraction}
 
@@ -50,19 +50,23 @@ run_stops most count b ds h =
 run_full : (most b : ℕ) (ds : List ℕ) → is_run most most (b ∷ ds) ≡ false
 run_full most b ds =
     let over : nat_le (most + suc (length ds)) most ≡ false = grind (arith, nat_tests) in
-    ap (λ t. nat_le 1 (most + suc (length ds)) && t && all_ascii_digits (b ∷ ds)) over ∙ ap (λ t. t && all_ascii_digits (b ∷ ds)) (and_right (nat_le 1 (most + suc (length ds))) false refl)
+    ap (λ t. nat_le 1 (most + suc (length ds)) && t && all_ascii_digits (b ∷ ds)) over
+    ∙ ap (λ t. t && all_ascii_digits (b ∷ ds)) (and_right (nat_le 1 (most + suc (length ds))) false refl)
 
-pub fraction_step : (whole fraction scale count b : ℕ) (ds : List ℕ) → is_ascii_digit b ≡ true → fraction_after whole fraction scale count (b ∷ ds) ≡ fraction_after whole (10 * fraction + (b - 48)) (scale * 10) (count + 1) ds
+pub fraction_step : (whole fraction scale count b : ℕ) (ds : List ℕ) → is_ascii_digit b ≡ true → fraction_after whole fraction scale count (b ∷ ds)
+    ≡ fraction_after whole (10 * fraction + (b - 48)) (scale * 10) (count + 1) ds
 fraction_step whole fraction scale count b ds h =
     let r : is_run 9 count (b ∷ ds) ≡ is_run 9 (count + 1) ds = run_step 9 count b ds h in
     let v : digits_value_after 10 fraction (b ∷ ds) ≡ digits_value_after 10 (10 * fraction + (b - 48)) ds = value_step fraction b ds h in
-    let s : scale * 10 ^ suc (length ds) ≡ scale * 10 * 10 ^ length ds = ap (λ x. scale * x) (pow-succ' 10 (length ds)) ∙ sym (mul_assoc scale 10 (10 ^ length ds)) in
+    let s : scale * 10 ^ suc (length ds) ≡ scale * 10 * 10 ^ length ds = ap (λ x. scale * x) (pow-succ' 10 (length ds))
+    ∙ sym (mul_assoc scale 10 (10 ^ length ds)) in
     ap (λ x. number_if x whole (digits_value_after 10 fraction (b ∷ ds)) (scale * 10 ^ suc (length ds))) r
     ∙ ap (λ x. number_if (is_run 9 (count + 1) ds) whole x (scale * 10 ^ suc (length ds))) v
     ∙ ap (λ x. number_if (is_run 9 (count + 1) ds) whole (digits_value_after 10 (10 * fraction + (b - 48)) ds) x) s
 
 pub fraction_stops : (whole fraction scale count b : ℕ) (ds : List ℕ) → is_ascii_digit b ≡ false → fraction_after whole fraction scale count (b ∷ ds) ≡ None
-fraction_stops whole fraction scale count b ds h = ap (λ r. number_if r whole (digits_value_after 10 fraction (b ∷ ds)) (scale * 10 ^ length (b ∷ ds))) (run_stops 9 count b ds h)
+fraction_stops whole fraction scale count b ds h = ap (λ r. number_if r whole (digits_value_after 10 fraction (b ∷ ds)) (scale * 10 ^ length (b ∷ ds)))
+    (run_stops 9 count b ds h)
 
 pub fraction_full : (whole fraction scale b : ℕ) (ds : List ℕ) → fraction_after whole fraction scale 9 (b ∷ ds) ≡ None
 fraction_full whole fraction scale b ds = ap (λ r. number_if r whole (digits_value_after 10 fraction (b ∷ ds)) (scale * 10 ^ length (b ∷ ds))) (run_full 9 b ds)
@@ -72,7 +76,8 @@ fraction_starts whole ds =
     ap (λ n. number_if (nat_le 1 n && nat_le n 9 && all_ascii_digits ds) whole (digits_value 10 ds) (1 * 10 ^ length ds)) (zero-add (length ds))
     ∙ ap (λ s. number_if (is_numeral 9 ds) whole (digits_value 10 ds) s) (omega arith)
 
-pub fraction_ends : (whole fraction scale count : ℕ) → 0 < count → count ≤ 9 → fraction_after whole fraction scale count [] ≡ Some (record { whole = whole; fraction = fraction; scale = scale })
+pub fraction_ends : (whole fraction scale count : ℕ) → 0 < count → count ≤ 9
+    → fraction_after whole fraction scale count [] ≡ Some (record { whole = whole; fraction = fraction; scale = scale })
 fraction_ends whole fraction scale count low high =
     let r : is_run 9 count [] ≡ true = grind (arith, nat_tests) in
     ap (λ x. number_if x whole fraction (scale * 1)) r ∙ ap (λ s. Some (record { whole = whole; fraction = fraction; scale = s })) (omega arith)
@@ -91,25 +96,30 @@ is_point b = b == 46
 point_no_digit : (b : ℕ) → is_point b ≡ true → is_ascii_digit b ≡ false
 point_no_digit b h = grind (arith, nat_tests)
 
-split_by_point : (b : ℕ) (text : List ℕ) (more : List (List ℕ)) → slice_split is_point text ≡ more → Split text more → (t : Bool) → is_point b ≡ t → Split (b ∷ text) (cond t ([] ∷ more) (onto_first b more))
+split_by_point : (b : ℕ) (text : List ℕ) (more : List (List ℕ)) → slice_split is_point text ≡ more → Split text more → (t : Bool) → is_point b ≡ t
+    → Split (b ∷ text) (cond t ([] ∷ more) (onto_first b more))
 split_by_point b text more e (undivided u) true p = divided [] text [] (ap (λ ps. [] ∷ ps) u) (ap (λ d. d && all_ascii_digits text) (point_no_digit b p))
-split_by_point b text more e (divided x y ps u n) true p = divided [] x (y ∷ ps) (ap (λ qs. [] ∷ qs) u) (ap (λ d. d && all_ascii_digits text) (point_no_digit b p))
+split_by_point b text more e (divided x y ps u n) true p =
+    divided [] x (y ∷ ps) (ap (λ qs. [] ∷ qs) u) (ap (λ d. d && all_ascii_digits text) (point_no_digit b p))
 split_by_point b text more e (undivided u) false p = undivided (ap (onto_first b) u)
-split_by_point b text more e (divided x y ps u n) false p = divided (b ∷ x) y ps (ap (onto_first b) u) (ap (λ d. is_ascii_digit b && d) n ∙ and_right _ false refl)
+split_by_point b text more e (divided x y ps u n) false p =
+    divided (b ∷ x) y ps (ap (onto_first b) u) (ap (λ d. is_ascii_digit b && d) n ∙ and_right _ false refl)
 
 split_of : (text : List ℕ) → Split text (slice_split is_point text)
 split_of [] = undivided refl
 split_of (b ∷ text) = split_by_point b text (slice_split is_point text) refl (split_of text) (is_point b) refl
 
 -- a point behind one to ten digits: the rest are the digits of a fraction
-fraction_by_split : (n count : ℕ) (text : List ℕ) (parts : List (List ℕ)) → Split text parts → is_run 10 count [] ≡ true → decimal_after n count ([] ∷ parts) ≡ with_fraction n text
+fraction_by_split : (n count : ℕ) (text : List ℕ) (parts : List (List ℕ)) → Split text parts → is_run 10 count [] ≡ true
+    → decimal_after n count ([] ∷ parts) ≡ with_fraction n text
 fraction_by_split n count text parts (undivided u) r = ap (λ ps. decimal_after n count ([] ∷ ps)) u ∙ ap (λ x. if x then with_fraction n text else None) r
 fraction_by_split n count text parts (divided x y ps u d) r =
     ap (λ qs. decimal_after n count ([] ∷ qs)) u
     ∙ sym (ap (λ v. number_if (nat_le 1 (length text) && nat_le (length text) 9 && v) n (digits_value 10 text) (10 ^ length text)) d
     ∙ ap (λ v. number_if v n (digits_value 10 text) (10 ^ length text)) (and_right (nat_le 1 (length text) && nat_le (length text) 9) false refl))
 
-pub decimal_point : (n count b : ℕ) (text : List ℕ) → b ≡ 46 → 0 < count → count ≤ 10 → decimal_after n count (slice_split is_point (b ∷ text)) ≡ with_fraction n text
+pub decimal_point : (n count b : ℕ) (text : List ℕ) → b ≡ 46 → 0 < count → count ≤ 10 → decimal_after n count (slice_split is_point (b ∷ text))
+    ≡ with_fraction n text
 decimal_point n count b text e low high =
     let r : is_run 10 count [] ≡ true = grind (arith, nat_tests) in
     ap (λ x. decimal_after n count (slice_split is_point (x ∷ text))) e ∙ fraction_by_split n count text (slice_split is_point text) (split_of text) r
@@ -117,18 +127,24 @@ decimal_point n count b text e low high =
 digit_no_point : (b : ℕ) → is_ascii_digit b ≡ true → is_point b ≡ false
 digit_no_point b h = grind (arith, nat_tests)
 
-step_parts : (n count b : ℕ) (parts : List (List ℕ)) → is_ascii_digit b ≡ true → decimal_after n count (onto_first b parts) ≡ decimal_after (10 * n + (b - 48)) (count + 1) parts
+step_parts : (n count b : ℕ) (parts : List (List ℕ)) → is_ascii_digit b ≡ true
+    → decimal_after n count (onto_first b parts) ≡ decimal_after (10 * n + (b - 48)) (count + 1) parts
 step_parts n count b [] h =
-    ap (λ r. number_if r (digits_value_after 10 n (b ∷ [])) 0 1) (run_step 10 count b [] h) ∙ ap (λ v. number_if (is_run 10 (count + 1) []) v 0 1) (value_step n b [] h)
+    ap (λ r. number_if r (digits_value_after 10 n (b ∷ [])) 0 1) (run_step 10 count b [] h)
+    ∙ ap (λ v. number_if (is_run 10 (count + 1) []) v 0 1) (value_step n b [] h)
 step_parts n count b (ds ∷ []) h =
-    ap (λ r. number_if r (digits_value_after 10 n (b ∷ ds)) 0 1) (run_step 10 count b ds h) ∙ ap (λ v. number_if (is_run 10 (count + 1) ds) v 0 1) (value_step n b ds h)
+    ap (λ r. number_if r (digits_value_after 10 n (b ∷ ds)) 0 1) (run_step 10 count b ds h)
+    ∙ ap (λ v. number_if (is_run 10 (count + 1) ds) v 0 1) (value_step n b ds h)
 step_parts n count b (ds ∷ fs ∷ []) h =
-    ap (λ r. if r then with_fraction (digits_value_after 10 n (b ∷ ds)) fs else None) (run_step 10 count b ds h) ∙ ap (λ v. if is_run 10 (count + 1) ds then with_fraction v fs else None) (value_step n b ds h)
+    ap (λ r. if r then with_fraction (digits_value_after 10 n (b ∷ ds)) fs else None) (run_step 10 count b ds h)
+    ∙ ap (λ v. if is_run 10 (count + 1) ds then with_fraction v fs else None) (value_step n b ds h)
 step_parts n count b (ds ∷ fs ∷ gs ∷ more) h = refl
 
-pub decimal_step : (n count b : ℕ) (text : List ℕ) → is_ascii_digit b ≡ true → decimal_after n count (slice_split is_point (b ∷ text)) ≡ decimal_after (10 * n + (b - 48)) (count + 1) (slice_split is_point text)
+pub decimal_step : (n count b : ℕ) (text : List ℕ) → is_ascii_digit b ≡ true → decimal_after n count (slice_split is_point (b ∷ text))
+    ≡ decimal_after (10 * n + (b - 48)) (count + 1) (slice_split is_point text)
 decimal_step n count b text h =
-    ap (λ t. decimal_after n count (cond t ([] ∷ slice_split is_point text) (onto_first b (slice_split is_point text)))) (digit_no_point b h) ∙ step_parts n count b (slice_split is_point text) h
+    ap (λ t. decimal_after n count (cond t ([] ∷ slice_split is_point text) (onto_first b (slice_split is_point text)))) (digit_no_point b h)
+    ∙ step_parts n count b (slice_split is_point text) h
 
 -- a byte at which no number goes on
 stop_parts : (n count b : ℕ) (parts : List (List ℕ)) → ((ds : List ℕ) → is_run 10 count (b ∷ ds) ≡ false) → decimal_after n count (onto_first b parts) ≡ None
@@ -143,29 +159,36 @@ early_point n [] = refl
 early_point n (fs ∷ []) = refl
 early_point n (fs ∷ gs ∷ more) = refl
 
-pub decimal_stops : (n count b : ℕ) (text : List ℕ) → is_ascii_digit b ≡ false → (b ≡ 46 → count ≡ 0) → decimal_after n count (slice_split is_point (b ∷ text)) ≡ None
+pub decimal_stops : (n count b : ℕ) (text : List ℕ) → is_ascii_digit b ≡ false → (b ≡ 46 → count ≡ 0)
+    → decimal_after n count (slice_split is_point (b ∷ text)) ≡ None
 decimal_stops n count b text h early =
-    elim (is_point b) as (λ t. is_point b ≡ t → decimal_after n count (cond t ([] ∷ slice_split is_point text) (onto_first b (slice_split is_point text))) ≡ None) [
-      | true ↦ λ e. let none : count ≡ 0 = early (grind (arith, nat_tests)) in ap (λ k. decimal_after n k ([] ∷ slice_split is_point text)) none ∙ early_point n (slice_split is_point text)
+    elim (is_point b) as (λ t. is_point b ≡ t → decimal_after n count (cond t ([] ∷ slice_split is_point text) (onto_first b (slice_split is_point text)))
+    ≡ None) [
+      | true ↦ λ e. let none : count ≡ 0 = early (grind (arith, nat_tests)) in ap (λ k. decimal_after n k ([] ∷ slice_split is_point text)) none
+          ∙ early_point n (slice_split is_point text)
       | false ↦ λ e. stop_parts n count b (slice_split is_point text) (λ ds. run_stops 10 count b ds h)
     ] refl
 
 pub decimal_full : (n b : ℕ) (text : List ℕ) → is_ascii_digit b ≡ true → decimal_after n 10 (slice_split is_point (b ∷ text)) ≡ None
 decimal_full n b text h =
-    ap (λ t. decimal_after n 10 (cond t ([] ∷ slice_split is_point text) (onto_first b (slice_split is_point text)))) (digit_no_point b h) ∙ stop_parts n 10 b (slice_split is_point text) (λ ds. run_full 10 b ds)
+    ap (λ t. decimal_after n 10 (cond t ([] ∷ slice_split is_point text) (onto_first b (slice_split is_point text)))) (digit_no_point b h)
+    ∙ stop_parts n 10 b (slice_split is_point text) (λ ds. run_full 10 b ds)
 
-pub decimal_ends : (n count : ℕ) → 0 < count → count ≤ 10 → decimal_after n count (slice_split is_point []) ≡ Some (record { whole = n; fraction = 0; scale = 1 })
+pub decimal_ends : (n count : ℕ) → 0 < count → count ≤ 10 → decimal_after n count (slice_split is_point [])
+    ≡ Some (record { whole = n; fraction = 0; scale = 1 })
 decimal_ends n count low high = let r : is_run 10 count [] ≡ true = grind (arith, nat_tests) in ap (λ x. number_if x n 0 1) r
 
 pub decimal_missing : (n : ℕ) → decimal_after n 0 (slice_split is_point []) ≡ None
 decimal_missing n = refl
 
 -- nothing read yet: what the parts mean
-alone : (ds : List ℕ) (b : Bool) → option_map decimal_of (if b then Some (record { whole = ds; fraction = [] }) else None) ≡ number_if b (digits_value 10 ds) 0 1
+alone : (ds : List ℕ) (b : Bool) → option_map decimal_of (if b then Some (record { whole = ds; fraction = [] }) else None)
+    ≡ number_if b (digits_value 10 ds) 0 1
 alone ds true = refl
 alone ds false = refl
 
-both : (ds fs : List ℕ) (a b : Bool) → option_map decimal_of (if a && b then Some (record { whole = ds; fraction = fs }) else None) ≡ (if a then (if b then Some (record { whole = digits_value 10 ds; fraction = digits_value 10 fs; scale = 10 ^ length fs }) else None) else None)
+both : (ds fs : List ℕ) (a b : Bool) → option_map decimal_of (if a && b then Some (record { whole = ds; fraction = fs }) else None)
+    ≡ (if a then (if b then Some (record { whole = digits_value 10 ds; fraction = digits_value 10 fs; scale = 10 ^ length fs }) else None) else None)
 both ds fs true true = refl
 both ds fs true false = refl
 both ds fs false b = refl
@@ -176,7 +199,8 @@ starts_run ds = ap (λ n. nat_le 1 n && nat_le n 10 && all_ascii_digits ds) (sym
 pub decimal_starts : (parts : List (List ℕ)) → option_map decimal_of (digits_of_parts parts) ≡ decimal_after 0 0 parts
 decimal_starts [] = refl
 decimal_starts (ds ∷ []) = alone ds (is_numeral 10 ds) ∙ ap (λ r. number_if r (digits_value 10 ds) 0 1) (starts_run ds)
-decimal_starts (ds ∷ fs ∷ []) = both ds fs (is_numeral 10 ds) (is_numeral 9 fs) ∙ ap (λ r. if r then with_fraction (digits_value 10 ds) fs else None) (starts_run ds)
+decimal_starts (ds ∷ fs ∷ []) = both ds fs (is_numeral 10 ds) (is_numeral 9 fs)
+    ∙ ap (λ r. if r then with_fraction (digits_value 10 ds) fs else None) (starts_run ds)
 decimal_starts (ds ∷ fs ∷ gs ∷ more) = refl
 
 -- the same lemmas where the bytes are those at the front of a slice
@@ -184,7 +208,8 @@ rest_of : (b : ℕ) (bs : List ℕ) → take (suc (length bs) - 1) bs ≡ bs
 rest_of b bs = take_all (suc (length bs) - 1) bs (omega arith)
 
 pub fraction_step_at : (whole fraction scale count : ℕ) (text : List ℕ) → 1 ≤ length text → is_ascii_digit (get_or text 0 0) ≡ true
-    → fraction_after whole fraction scale count text ≡ fraction_after whole (10 * fraction + (get_or text 0 0 - 48)) (scale * 10) (count + 1) (take (length text - 1) (drop 1 text))
+    → fraction_after whole fraction scale count text ≡ fraction_after whole (10 * fraction + (get_or text 0 0 - 48)) (scale * 10) (count + 1)
+    (take (length text - 1) (drop 1 text))
 fraction_step_at whole fraction scale count [] some h = absurd (omega arith)
 fraction_step_at whole fraction scale count (b ∷ bs) some h =
     fraction_step whole fraction scale count b bs h ∙ ap (fraction_after whole (10 * fraction + (b - 48)) (scale * 10) (count + 1)) (sym (rest_of b bs))
@@ -193,7 +218,8 @@ pub digit_small : (b : ℕ) → is_ascii_digit b ≡ true → b - 48 ≤ 9
 digit_small b h = grind (arith, nat_tests)
 
 pub decimal_step_at : (n count : ℕ) (text : List ℕ) → 1 ≤ length text → is_ascii_digit (get_or text 0 0) ≡ true
-    → decimal_after n count (slice_split is_point text) ≡ decimal_after (10 * n + (get_or text 0 0 - 48)) (count + 1) (slice_split is_point (take (length text - 1) (drop 1 text)))
+    → decimal_after n count (slice_split is_point text) ≡ decimal_after (10 * n + (get_or text 0 0 - 48)) (count + 1)
+    (slice_split is_point (take (length text - 1) (drop 1 text)))
 decimal_step_at n count [] some h = absurd (omega arith)
 decimal_step_at n count (b ∷ bs) some h =
     decimal_step n count b bs h ∙ ap (λ ys. decimal_after (10 * n + (b - 48)) (count + 1) (slice_split is_point ys)) (sym (rest_of b bs))
@@ -203,11 +229,13 @@ pub decimal_point_at : (n count : ℕ) (text : List ℕ) → 1 ≤ length text �
 decimal_point_at n count [] some e low high = absurd (omega arith)
 decimal_point_at n count (b ∷ bs) some e low high = decimal_point n count b bs e low high ∙ ap (with_fraction n) (sym (rest_of b bs))
 
-pub decimal_stops_at : (n count : ℕ) (text : List ℕ) → 1 ≤ length text → is_ascii_digit (get_or text 0 0) ≡ false → (get_or text 0 0 ≡ 46 → count ≡ 0) → decimal_after n count (slice_split is_point text) ≡ None
+pub decimal_stops_at : (n count : ℕ) (text : List ℕ) → 1 ≤ length text → is_ascii_digit (get_or text 0 0) ≡ false → (get_or text 0 0 ≡ 46 → count ≡ 0)
+    → decimal_after n count (slice_split is_point text) ≡ None
 decimal_stops_at n count [] some h early = absurd (omega arith)
 decimal_stops_at n count (b ∷ bs) some h early = decimal_stops n count b bs h early
 
-pub decimal_full_at : (n count : ℕ) (text : List ℕ) → count ≡ 10 → 1 ≤ length text → is_ascii_digit (get_or text 0 0) ≡ true → decimal_after n count (slice_split is_point text) ≡ None
+pub decimal_full_at : (n count : ℕ) (text : List ℕ) → count ≡ 10 → 1 ≤ length text → is_ascii_digit (get_or text 0 0) ≡ true
+    → decimal_after n count (slice_split is_point text) ≡ None
 decimal_full_at n count [] e some h = absurd (omega arith)
 decimal_full_at n count (b ∷ bs) e some h = ap (λ k. decimal_after n k (slice_split is_point (b ∷ bs))) e ∙ decimal_full n b bs h
 
@@ -223,4 +251,5 @@ pub split_alone : (ds : List ℕ) → all_ascii_digits ds ≡ true → slice_spl
 split_alone [] h = refl
 split_alone (d ∷ ds) h =
     let parts = and_parts (is_ascii_digit d) (all_ascii_digits ds) h in
-    ap (λ t. cond t ([] ∷ slice_split is_point ds) (onto_first d (slice_split is_point ds))) (digit_no_point d parts.0) ∙ ap (onto_first d) (split_alone ds parts.1)
+    ap (λ t. cond t ([] ∷ slice_split is_point ds) (onto_first d (slice_split is_point ds))) (digit_no_point d parts.0)
+    ∙ ap (onto_first d) (split_alone ds parts.1)

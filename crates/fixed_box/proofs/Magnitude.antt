@@ -4,7 +4,7 @@ use Rattle.std.specs.Char.{digit_value}
 use Rattle.std.specs.Str.Parse.{digits_value, digits_value_after}
 use Rattle.std.proofs.lemmas.Bool.{and_parts, leb-true}
 use Rattle.std.proofs.Math.Nat.{pow-succ', add-mul, mul_assoc}
-use Rattle.fixed_box.specs.declared.reading.Decimal.{Decimal}
+use Rattle.fixed_box.specs.declared.parsing.Decimal.{Decimal}
 use Rattle.fixed_box.specs.Fix.{Digits, is_numeral, digits_of_parts, nearest_raw, number_of, within_range, fix_of_digits}
 use Rattle.fixed_box.specs.Decimal.{decimal_of, magnitude_of}
 use Rattle.fixed_box.proofs.Rounding.{rounded_parts, nearest_negative, power_positive}
@@ -39,7 +39,8 @@ few_alone ds false d e = absurd (cc)
 numeral_few : (fs : List ℕ) → is_numeral 9 fs ≡ true → length fs ≤ 9
 numeral_few fs t = leb-true (length fs) 9 (and_parts _ _ (and_parts _ _ t).0).1
 
-few_behind : (ds fs : List ℕ) (b : Bool) (d : Digits) → (t : Bool) → is_numeral 9 fs ≡ t → cond (b && t) (Some (record { whole = ds; fraction = fs })) None ≡ Some d → length d.fraction ≤ 9
+few_behind : (ds fs : List ℕ) (b : Bool) (d : Digits) → (t : Bool) → is_numeral 9 fs ≡ t → cond (b && t) (Some (record { whole = ds; fraction = fs })) None
+    ≡ Some d → length d.fraction ≤ 9
 few_behind ds fs true d true t e = let same : record { whole = ds; fraction = fs } ≡ d = cc in omega (arith, numeral_few fs t, ap (λ d. length d.fraction) same)
 few_behind ds fs true d false t e = absurd (cc)
 few_behind ds fs false d b t e = absurd (cc)
@@ -51,17 +52,21 @@ places_few (ds ∷ []) d e = few_alone ds (is_numeral 10 ds) d e
 places_few (ds ∷ fs ∷ []) d e = few_behind ds fs (is_numeral 10 ds) d (is_numeral 9 fs) refl e
 places_few (ds ∷ fs ∷ gs ∷ more) d e = absurd (cc)
 
-nearest_of_sign : (negative : Bool) (n k : ℕ) → k ≤ 9 → nearest_raw (cond negative (neg_ℤ (pos n)) (pos n)) k ≡ cond negative (neg_ℤ (pos ((131072 * n + 10 ^ k) / (2 * 10 ^ k)))) (pos ((131072 * n + 10 ^ k) / (2 * 10 ^ k)))
+nearest_of_sign : (negative : Bool) (n k : ℕ) → k ≤ 9 → nearest_raw (cond negative (neg_ℤ (pos n)) (pos n)) k
+    ≡ cond negative (neg_ℤ (pos ((131072 * n + 10 ^ k) / (2 * 10 ^ k)))) (pos ((131072 * n + 10 ^ k) / (2 * 10 ^ k)))
 nearest_of_sign true n k few = nearest_negative n k few
 nearest_of_sign false n k few = refl
 
-pub signed_fix : (negative : Bool) (parts : List (List ℕ)) (number : Decimal) (m : ℕ) → Some number ≡ option_map decimal_of (digits_of_parts parts) → m ≡ magnitude_of number
+pub signed_fix : (negative : Bool) (parts : List (List ℕ)) (number : Decimal) (m : ℕ) → Some number ≡ option_map decimal_of (digits_of_parts parts)
+    → m ≡ magnitude_of number
     → within_range (cond negative (neg_ℤ (pos m)) (pos m)) ≡ fix_of_digits negative (digits_of_parts parts)
 signed_fix negative parts number m e is =
-    elim (digits_of_parts parts) as (λ o. digits_of_parts parts ≡ o → Some number ≡ option_map decimal_of o → within_range (cond negative (neg_ℤ (pos m)) (pos m)) ≡ fix_of_digits negative o) [
+    elim (digits_of_parts parts) as (λ o. digits_of_parts parts ≡ o → Some number ≡ option_map decimal_of o
+    → within_range (cond negative (neg_ℤ (pos m)) (pos m)) ≡ fix_of_digits negative o) [
       | None ↦ λ _ none. absurd (cc)
       | Some d ↦ λ found some.
           let same : number ≡ decimal_of d = cc in
           let size : m ≡ (131072 * number_of d + 10 ^ length d.fraction) / (2 * 10 ^ length d.fraction) = is ∙ ap magnitude_of same ∙ sym (magnitude_is d) in
-          ap within_range (ap (λ m. cond negative (neg_ℤ (pos m)) (pos m)) size ∙ sym (nearest_of_sign negative (number_of d) (length d.fraction) (places_few parts d found)))
+          ap within_range (ap (λ m. cond negative (neg_ℤ (pos m)) (pos m)) size
+          ∙ sym (nearest_of_sign negative (number_of d) (length d.fraction) (places_few parts d found)))
     ] refl e

@@ -22,7 +22,8 @@ use Rattle.fixed_box.proofs.Shown.{length-last_digits}
 
 digits_push : (ds : List ℕ) (d : ℕ) → all_ascii_digits ds ≡ true → is_ascii_digit d ≡ true → all_ascii_digits (ds ++ d ∷ []) ≡ true
 digits_push [] d h last = ap (λ t. t && true) last
-digits_push (c ∷ ds) d h last = let parts = and_parts (is_ascii_digit c) (all_ascii_digits ds) h in ap (λ t. t && all_ascii_digits (ds ++ d ∷ [])) parts.0 ∙ digits_push ds d parts.1 last
+digits_push (c ∷ ds) d h last = let parts = and_parts (is_ascii_digit c) (all_ascii_digits ds) h in ap (λ t. t && all_ascii_digits (ds ++ d ∷ [])) parts.0
+    ∙ digits_push ds d parts.1 last
 
 last_digit : (n : ℕ) → is_ascii_digit (48 + n % 10) ≡ true
 last_digit n = let small : n % 10 < 10 = omega arith in grind (arith, nat_tests)
@@ -56,9 +57,13 @@ shown_digits q = record { whole = decimal (q / 100000); fraction = last_digits 5
 digits_shown : (q : ℕ) → q < 2 ^ 32 → digits_of_text (show_magnitude q) ≡ Some (shown_digits q)
 digits_shown q small =
     let units : q / 100000 < 10 ^ 5 = omega arith in
-    let whole : is_numeral 10 (decimal (q / 100000)) ≡ true = is_numeral_from 10 (decimal (q / 100000)) (decimal_nonempty (q / 100000) (omega arith)) (omega (arith, length-decimal-le 5 (q / 100000) (omega arith) units (omega arith))) (digits_decimal own (q / 100000) (omega arith)) in
-    let fraction : is_numeral 9 (last_digits 5 (q % 100000)) ≡ true = is_numeral_from 9 (last_digits 5 (q % 100000)) (omega (arith, length-last_digits 5 (q % 100000))) (omega (arith, length-last_digits 5 (q % 100000))) (last_digits_all 5 (q % 100000)) in
-    ap digits_of_parts (split_digits (decimal (q / 100000)) (last_digits 5 (q % 100000)) (digits_decimal own (q / 100000) (omega arith)) ∙ ap (λ ps. decimal (q / 100000) ∷ ps) (split_alone (last_digits 5 (q % 100000)) (last_digits_all 5 (q % 100000))))
+    let whole : is_numeral 10 (decimal (q / 100000)) ≡ true = is_numeral_from 10 (decimal (q / 100000)) (decimal_nonempty (q / 100000) (omega arith))
+    (omega (arith, length-decimal-le 5 (q / 100000) (omega arith) units (omega arith))) (digits_decimal own (q / 100000) (omega arith)) in
+    let fraction : is_numeral 9 (last_digits 5 (q % 100000)) ≡ true =
+    is_numeral_from 9 (last_digits 5 (q % 100000)) (omega (arith, length-last_digits 5 (q % 100000))) (omega (arith, length-last_digits 5 (q % 100000)))
+    (last_digits_all 5 (q % 100000)) in
+    ap digits_of_parts (split_digits (decimal (q / 100000)) (last_digits 5 (q % 100000)) (digits_decimal own (q / 100000) (omega arith))
+    ∙ ap (λ ps. decimal (q / 100000) ∷ ps) (split_alone (last_digits 5 (q % 100000)) (last_digits_all 5 (q % 100000))))
     ∙ ap (λ t. cond (t && is_numeral 9 (last_digits 5 (q % 100000))) (Some (shown_digits q)) None) whole
     ∙ ap (λ t. cond t (Some (shown_digits q)) None) fraction
 
@@ -66,7 +71,8 @@ number_shown : (q : ℕ) → q < 2 ^ 32 → number_of (shown_digits q) ≡ q
 number_shown q small =
     let units : digits_value 10 (decimal (q / 100000)) ≡ q / 100000 = digits_value-decimal own (q / 100000) (omega arith) in
     let rest : digits_value 10 (last_digits 5 (q % 100000)) ≡ q % 100000 = last_digits_value 5 (q % 100000) (omega arith) in
-    number_of-digits (shown_digits q) ∙ ap (λ u. u * 100000 + digits_value 10 (last_digits 5 (q % 100000))) units ∙ ap (λ f. q / 100000 * 100000 + f) rest ∙ omega arith
+    number_of-digits (shown_digits q) ∙ ap (λ u. u * 100000 + digits_value 10 (last_digits 5 (q % 100000))) units ∙ ap (λ f. q / 100000 * 100000 + f) rest
+    ∙ omega arith
 
 -- hundred-thousandths are fine enough to tell raw numbers apart
 rounds_back : (a : ℕ) → (131072 * hundred_thousandths a + 100000) / 200000 ≡ a
@@ -74,7 +80,8 @@ rounds_back a = omega arith
 
 within : (r : ℤ) → negsuc 2147483647 ≤ℤ r → r ≤ℤ pos 2147483647 → within_range r ≡ Ok r
 within r low high =
-    ap (λ t. cond (t && int_le r (pos 2147483647)) (Ok r) (Err Range)) (true_from _ low.le) ∙ ap (λ t. cond {A = Result ℤ FixFault} t (Ok r) (Err Range)) (true_from _ high.le)
+    ap (λ t. cond (t && int_le r (pos 2147483647)) (Ok r) (Err Range)) (true_from _ low.le)
+    ∙ ap (λ t. cond {A = Result ℤ FixFault} t (Ok r) (Err Range)) (true_from _ high.le)
   where
     true_from : (b : Bool) → T b → b ≡ true
     true_from true h = refl
@@ -88,11 +95,13 @@ unsigned_fix (d ∷ ds) text some h =
     let no_sign : (d == 45) ≡ false = grind (arith, nat_tests) in
     ap (λ t. cond t (fix_of_digits true (digits_of_text (ds ++ text))) (fix_of_digits false (digits_of_text (d ∷ (ds ++ text))))) no_sign
 
-back : (negative : Bool) (a : ℕ) → a ≤ 2 ^ 31 → fix_of_digits negative (digits_of_text (show_magnitude (hundred_thousandths a))) ≡ within_range (cond negative (neg_ℤ (pos a)) (pos a))
+back : (negative : Bool) (a : ℕ) → a ≤ 2 ^ 31 → fix_of_digits negative (digits_of_text (show_magnitude (hundred_thousandths a)))
+    ≡ within_range (cond negative (neg_ℤ (pos a)) (pos a))
 back true a small =
     let q = hundred_thousandths a in
     ap (fix_of_digits true) (digits_shown (hundred_thousandths a) (omega arith))
-    ∙ ap within_range (ap (λ n. nearest_raw (neg_ℤ (pos n)) 5) (number_shown (hundred_thousandths a) (omega arith)) ∙ nearest_negative (hundred_thousandths a) 5 (omega arith) ∙ ap (λ n. neg_ℤ (pos n)) (rounds_back a))
+    ∙ ap within_range (ap (λ n. nearest_raw (neg_ℤ (pos n)) 5) (number_shown (hundred_thousandths a) (omega arith))
+    ∙ nearest_negative (hundred_thousandths a) 5 (omega arith) ∙ ap (λ n. neg_ℤ (pos n)) (rounds_back a))
 back false a small =
     ap (fix_of_digits false) (digits_shown (hundred_thousandths a) (omega arith))
     ∙ ap within_range (ap (λ n. nearest_raw (pos n) 5) (number_shown (hundred_thousandths a) (omega arith)) ∙ ap pos (rounds_back a))
@@ -101,7 +110,8 @@ pub round_trip : (r : ℤ) → negsuc 2147483647 ≤ℤ r → r ≤ℤ pos 21474
 round_trip (pos a) low high =
     let size : a ≤ 2147483647 = omega (arith, ints) in
     let units : hundred_thousandths a / 100000 < 2 ^ 64 = omega arith in
-    unsigned_fix (decimal (hundred_thousandths a / 100000)) (46 ∷ last_digits 5 (hundred_thousandths a % 100000)) (decimal_nonempty _ units) (digits_decimal own _ units)
+    unsigned_fix (decimal (hundred_thousandths a / 100000)) (46 ∷ last_digits 5 (hundred_thousandths a % 100000)) (decimal_nonempty _ units)
+    (digits_decimal own _ units)
     ∙ back false a (omega arith) ∙ within (pos a) low high
 round_trip (negsuc a) low high =
     let size : a ≤ 2147483647 = omega (arith, ints) in
@@ -120,7 +130,8 @@ plain_digits (d ∷ ds) h =
 
 plain_magnitude : (q : ℕ) → q < 2 ^ 32 → All IsPlain (show_magnitude q)
 plain_magnitude q small =
-    All-append IsPlain (decimal (q / 100000)) (46 ∷ last_digits 5 (q % 100000)) (plain_digits (decimal (q / 100000)) (digits_decimal own (q / 100000) (omega arith)))
+    All-append IsPlain (decimal (q / 100000)) (46 ∷ last_digits 5 (q % 100000))
+    (plain_digits (decimal (q / 100000)) (digits_decimal own (q / 100000) (omega arith)))
     (All-cons IsPlain 46 (last_digits 5 (q % 100000)) (omega arith, omega arith) (plain_digits (last_digits 5 (q % 100000)) (last_digits_all 5 (q % 100000))))
 
 -- a printed number has no other bytes

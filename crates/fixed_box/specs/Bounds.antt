@@ -5,6 +5,7 @@ use Rattle.std.specs.Coded.{Coded, code_by, coded×, coded_ℤ}
 use Rattle.fixed_box.specs.declared.point.Point.{Point}
 use Rattle.fixed_box.specs.Point.{is_at_most, lower_corner, upper_corner, lowered_corner, raised_corner}
 
+-- All points with `lo <= p <= hi` on each axis.
 pub record Bounds : Type 0 where
   pub lo : Point
   pub hi : Point

@@ -1,7 +1,7 @@
--- Numbers without a sign, as the reader holds them.
+-- Serves proofs alone: numbers without a sign, as `read_fix` holds them while it reads.
 use Rattle.std.specs.Prelude.{ℕ, ◌+◌, ◌*◌, ◌/◌, ◌^◌, ◌<◌, ◌≤◌, List, length, Option, Some, None, if◌then◌else◌}
 use Rattle.std.specs.Str.Parse.{digits_value}
-use Rattle.fixed_box.specs.declared.reading.Decimal.{Decimal}
+use Rattle.fixed_box.specs.declared.parsing.Decimal.{Decimal}
 use Rattle.fixed_box.specs.Fix.{Digits, is_numeral}
 
 -- the number that digits form

@@ -31,7 +31,8 @@ abbrev pub floor_div : ℤ → ℕ → ℤ
 floor_div (pos a) d = pos (a / d)
 floor_div (negsuc a) d = negsuc (a / d)
 
--- The raw number that is nearest to n / 10 ^ places: floor(65536 x + 1/2) of that number x. No tie arises with up to 16 places, since an odd multiple of 1/131072 needs 17.
+-- The raw number that is nearest to n / 10 ^ places: floor(65536 x + 1/2) of that number x. No tie arises with up to
+-- 16 places, since an odd multiple of 1/131072 needs 17.
 abbrev pub nearest_raw : ℤ → ℕ → ℤ
 nearest_raw n places = floor_div (pos 131072 *ℤ n +ℤ pos (10 ^ places)) (2 * 10 ^ places)
 

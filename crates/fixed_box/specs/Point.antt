@@ -1,3 +1,4 @@
+-- Points against each other, and corners made of them.
 use Rattle.std.specs.Prelude.{ℕ, ℤ, pos, ◌+ℤ◌, ◌-ℤ◌, Bool, ◌&&◌, int_le}
 use Rattle.std.specs.Int.{int_min, int_max, saturate_signed, w32}
 use Rattle.fixed_box.specs.declared.point.Point.{Point}

@@ -1,4 +1,4 @@
--- What is written into a buffer of bytes.
+-- Serves proofs alone: what `print_fix` has put into its buffer so far.
 use Rattle.std.specs.Prelude.{◌≡◌, ℕ, ◌+◌, List, ◌++◌, take, drop, length}
 
 -- A text stands from one place to another. What stood before it and behind it stays.

@@ -70,14 +70,15 @@ impl FBox {
         is_at_most(&self.lo, at) & is_at_most(at, &self.hi)
     }
 
-    /// Whether the other box lies in this one. A box holds itself.
+    /// Whether the other box lies in this one, as a fattened box is asked of the body that it was made for. A box holds
+    /// itself.
     pub fn holds_box(&self, other: &FBox) -> bool
         ensures { result ≡ encloses self.now other.now }
     {
         is_at_most(&self.lo, &other.lo) & is_at_most(&other.hi, &self.hi)
     }
 
-    /// The least box that holds both.
+    /// The least box that holds both: the bounding volume of two.
     pub fn union(&self, other: &FBox) -> FBox
         ensures corners { result ≡ hull self.now other.now }
         ensures this { IsTrue (encloses result self.now) }
@@ -91,7 +92,8 @@ impl FBox {
         }
     }
 
-    /// The box with each side moved outwards by so many raw units, stopped at the ends of 32 bits.
+    /// The box with each side moved outwards by so many raw units, stopped at the ends of 32 bits. With such a margin a
+    /// structure may keep the box of a body that moves little.
     pub fn fatten(&self, by: u32) -> FBox
         ensures corners { result ≡ fattened self.now by }
         ensures held { IsTrue (encloses result self.now) }

@@ -4,16 +4,16 @@
 mod fbox;
 mod fix_fault;
 mod no_memory;
+mod parsing;
 mod point;
 mod printing;
-mod reading;
 
 pub use fbox::FBox;
 pub use fix_fault::FixFault;
 pub use no_memory::NoMemory;
+pub use parsing::read_fix;
 pub use point::Point;
 pub use printing::{print_fix, printed_reads_back};
-pub use reading::read_fix;
 
 /// A coordinate in raw units: `raw` stands for `raw / 65,536`.
 pub type Fix = i32;

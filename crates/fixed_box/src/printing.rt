@@ -5,7 +5,7 @@ ghost use Rattle.fixed_box.specs.Puts.{Puts};
 use crate::Fix;
 
 /// Puts the text of a raw number at the front of a buffer, with five digits behind the point, and answers its length.
-/// The bytes behind it stay.
+/// The bytes behind it stay. It is for programs that write scenes: a scene is read by `read_fix`.
 pub fn print_fix(value: Fix, into: &mut [u8; 16]) -> usize
     ensures length { result ≡ length (show value) }
     ensures text { take result into.new ≡ show value }

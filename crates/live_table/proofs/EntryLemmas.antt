@@ -22,7 +22,8 @@ entered_first new (e ∷ later) h = rw (le-ltb (slot_of e) (slot_of new) (omega 
 pub length-entered : (new : Live) (es : List Live) → length (entered new es) ≡ length es + 1
 length-entered new [] = refl
 length-entered new (e ∷ later) =
-    elim (ltb (slot_of e) (slot_of new)) as (λ b. length (cond b (e ∷ entered new later) (new ∷ e ∷ later)) ≡ length (e ∷ later) + 1) [ true ↦ omega (arith, length-entered new later) | false ↦ omega arith ]
+    elim (ltb (slot_of e) (slot_of new)) as (λ b. length (cond b (e ∷ entered new later) (new ∷ e ∷ later)) ≡ length (e ∷ later) + 1)
+    [ true ↦ omega (arith, length-entered new later) | false ↦ omega arith ]
 
 pub least_above : (n : ℕ) (es : List Live) → Above (n + 1) es → least_from n es ≡ n
 least_above n [] h = refl

@@ -23,25 +23,30 @@ unfolding marks_of
 get_or-marks_of words k =
     elim (cases_lt k (64 * length words)) [
       | inl lt ↦ get_or-map-range_with_len (λ k. eqb (bit_at (get_or words (k / 64) 0) (k % 64)) 1) 0 (64 * length words) k k false lt (omega arith)
-      | inr past ↦ get_or_past (marks_of words) k false (omega (arith, length-marks_of words)) ∙ sym (blank words k (get_or_past words (k / 64) 0 (omega arith)))
+      | inr past ↦ get_or_past (marks_of words) k false (omega (arith, length-marks_of words))
+          ∙ sym (blank words k (get_or_past words (k / 64) 0 (omega arith)))
     ]
 
 pub unmarked : (words : List ℕ) (k : ℕ) → get_or words (k / 64) 0 ≡ 0 → get_or (marks_of words) k false ≡ false
 unmarked words k none = get_or-marks_of words k ∙ blank words k none
 
 -- a write of one word that changes one bit is a write of one mark
-pub marks_of-set : (words : List ℕ) (k w : ℕ) (b : Bool) → k < 64 * length words → eqb (bit_at w (k % 64)) 1 ≡ b → ((i : ℕ) → i < 64 → i ≢ k % 64 → bit_at w i ≡ bit_at (get_or words (k / 64) 0) i)
+pub marks_of-set : (words : List ℕ) (k w : ℕ) (b : Bool) → k < 64 * length words → eqb (bit_at w (k % 64)) 1 ≡ b
+    → ((i : ℕ) → i < 64 → i ≢ k % 64 → bit_at w i ≡ bit_at (get_or words (k / 64) 0) i)
     → marks_of (set words (k / 64) w) ≡ set (marks_of words) k b
 marks_of-set words k w b lt at others =
-    ext_get_or false _ _ (length-marks_of (set words (k / 64) w) ∙ ap (λ n. 64 * n) (length-set words (k / 64) w) ∙ sym (length-marks_of words) ∙ sym (length-set (marks_of words) k b))
+    ext_get_or false _ _ (length-marks_of (set words (k / 64) w) ∙ ap (λ n. 64 * n) (length-set words (k / 64) w) ∙ sym (length-marks_of words)
+    ∙ sym (length-set (marks_of words) k b))
     (λ j _. elim (cases_eq j k) [
       | inl same ↦
           let in_words : k / 64 < length words = omega arith in
           let in_marks : k < length (marks_of words) = omega (arith, length-marks_of words) in
           let word : get_or (set words (k / 64) w) (k / 64) 0 ≡ w = get_or-set_same words (k / 64) w 0 in_words in
-          rw same (get_or-marks_of (set words (k / 64) w) k ∙ ap (λ v. eqb (bit_at v (k % 64)) 1) word ∙ at ∙ sym (get_or-set_same (marks_of words) k b false in_marks))
+          rw same (get_or-marks_of (set words (k / 64) w) k ∙ ap (λ v. eqb (bit_at v (k % 64)) 1) word ∙ at
+          ∙ sym (get_or-set_same (marks_of words) k b false in_marks))
       | inr other ↦
-          get_or-marks_of (set words (k / 64) w) j ∙ unchanged j other ∙ sym (get_or-marks_of words j) ∙ sym (get_or-set_other (marks_of words) k j b false other)
+          get_or-marks_of (set words (k / 64) w) j ∙ unchanged j other ∙ sym (get_or-marks_of words j)
+          ∙ sym (get_or-set_other (marks_of words) k j b false other)
     ])
   where
     unchanged : (j : ℕ) → j ≢ k → eqb (bit_at (get_or (set words (k / 64) w) (j / 64) 0) (j % 64)) 1 ≡ eqb (bit_at (get_or words (j / 64) 0) (j % 64)) 1
@@ -49,18 +54,22 @@ marks_of-set words k w b lt at others =
         elim (cases_eq (j / 64) (k / 64)) [
           | inl same ↦
               let in_words : k / 64 < length words = omega arith in
-              let word : get_or (set words (k / 64) w) (j / 64) 0 ≡ w = ap (λ n. get_or (set words (k / 64) w) n 0) same ∙ get_or-set_same words (k / 64) w 0 in_words in
-              let bit : bit_at w (j % 64) ≡ bit_at (get_or words (j / 64) 0) (j % 64) = others (j % 64) (omega arith) (λ bits. other (omega arith)) ∙ ap (λ n. bit_at (get_or words n 0) (j % 64)) (sym same) in
+              let word : get_or (set words (k / 64) w) (j / 64) 0 ≡ w = ap (λ n. get_or (set words (k / 64) w) n 0) same
+              ∙ get_or-set_same words (k / 64) w 0 in_words in
+              let bit : bit_at w (j % 64) ≡ bit_at (get_or words (j / 64) 0) (j % 64) = others (j % 64) (omega arith) (λ bits. other (omega arith))
+              ∙ ap (λ n. bit_at (get_or words n 0) (j % 64)) (sym same) in
               ap (λ v. eqb (bit_at v (j % 64)) 1) word ∙ ap (λ n. eqb n 1) bit
           | inr apart ↦ ap (λ v. eqb (bit_at v (j % 64)) 1) (get_or-set_other words (k / 64) (j / 64) w 0 apart)
         ]
 
 -- the least mark is the lowest bit of the first word that isn't 0
-pub least_mark : (words : List ℕ) (word bit : ℕ) → word < length words → bit < 64 → ((k : ℕ) → k < word → get_or words k 0 ≡ 0) → bit_at (get_or words word 0) bit ≡ 1 → ((i : ℕ) → i < bit → bit_at (get_or words word 0) i ≡ 0)
+pub least_mark : (words : List ℕ) (word bit : ℕ) → word < length words → bit < 64 → ((k : ℕ) → k < word → get_or words k 0 ≡ 0)
+    → bit_at (get_or words word 0) bit ≡ 1 → ((i : ℕ) → i < bit → bit_at (get_or words word 0) i ≡ 0)
     → position (λ mark. mark) (marks_of words) ≡ Some (word * 64 + bit)
 least_mark words word bit in_words in_word before at below =
     let within : word * 64 + bit < length (marks_of words) = omega (arith, length-marks_of words) in
-    let least : position_or_len (λ mark. mark) (marks_of words) ≡ word * 64 + bit = position_or_len_is (λ mark. mark) (marks_of words) (word * 64 + bit) false (omega (arith, within)) early (λ _. here) in
+    let least : position_or_len (λ mark. mark) (marks_of words) ≡ word * 64 + bit = position_or_len_is (λ mark. mark) (marks_of words)
+    (word * 64 + bit) false (omega (arith, within)) early (λ _. here) in
     rw (least, lt-ltb (word * 64 + bit) (length (marks_of words)) within) refl
   where
     here : get_or (marks_of words) (word * 64 + bit) false ≡ true
@@ -79,7 +88,8 @@ least_mark words word bit in_words in_word before at below =
 -- without a mark there is no least one, and the other way round
 pub no_mark : (marks : List Bool) → ((k : ℕ) → get_or marks k false ≡ false) → position (λ mark. mark) marks ≡ None
 no_mark marks none =
-    let all : position_or_len (λ mark. mark) marks ≡ length marks = position_or_len_is (λ mark. mark) marks (length marks) false (omega arith) (λ k _. none k) (λ lt. absurd (omega arith)) in
+    let all : position_or_len (λ mark. mark) marks ≡ length marks = position_or_len_is (λ mark. mark) marks (length marks) false (omega arith)
+    (λ k _. none k) (λ lt. absurd (omega arith)) in
     rw (all, le-ltb (length marks) (length marks) (omega arith)) refl
 
 pub none_marked : (marks : List Bool) → position (λ mark. mark) marks ≡ None → (k : ℕ) → get_or marks k false ≡ false
@@ -87,7 +97,8 @@ none_marked marks none k =
     elim (cases_lt k (length marks)) [
       | inl lt ↦
           elim (cases_lt (position_or_len (λ mark. mark) marks) (length marks)) [
-            | inl found ↦ absurd (let e : cond (ltb (position_or_len (λ mark. mark) marks) (length marks)) (Some (position_or_len (λ mark. mark) marks)) None ≡ Some (position_or_len (λ mark. mark) marks) = rw (lt-ltb _ _ found) refl in cc)
+            | inl found ↦ absurd (let e : cond (ltb (position_or_len (λ mark. mark) marks) (length marks))
+                (Some (position_or_len (λ mark. mark) marks)) None ≡ Some (position_or_len (λ mark. mark) marks) = rw (lt-ltb _ _ found) refl in cc)
             | inr past ↦ fails_before_first (λ mark. mark) marks k false (omega (arith, past))
           ]
       | inr past ↦ get_or_past marks k false past
@@ -97,15 +108,20 @@ none_marked marks none k =
 pub zeros : (n k : ℕ) → get_or (replicate {A = ℕ} n 0) k 0 ≡ 0
 zeros n k =
     let none : ℕ = 0 in
-    elim (cases_lt k n) [ inl lt ↦ get_or-replicate n k none none lt | inr past ↦ get_or_past (replicate n none) k none (omega (arith, length-replicate n none, past)) ]
+    elim (cases_lt k n) [
+      | inl lt ↦ get_or-replicate n k none none lt
+      | inr past ↦ get_or_past (replicate n none) k none (omega (arith, length-replicate n none, past))
+    ]
 
 -- a search that begins behind words of 0 passes only words of 0
-pub blank_before : (words read : List ℕ) (first word : ℕ) → read ≡ words → ((k : ℕ) → k < first → get_or words k 0 ≡ 0) → ((k : ℕ) → first ≤ k → k < word → get_or read k 0 ≡ 0) → (k : ℕ) → k < word → get_or words k 0 ≡ 0
+pub blank_before : (words read : List ℕ) (first word : ℕ) → read ≡ words → ((k : ℕ) → k < first → get_or words k 0 ≡ 0)
+    → ((k : ℕ) → first ≤ k → k < word → get_or read k 0 ≡ 0) → (k : ℕ) → k < word → get_or words k 0 ≡ 0
 blank_before words read first word same early late k lt =
     elim (cases_lt k first) [ inl below ↦ early k below | inr above ↦ ap (λ xs. get_or xs k 0) (sym same) ∙ late k above lt ]
 
 -- `marks_of-set` at a word and a bit
-pub marks_of-set_bit : (words : List ℕ) (word bit w : ℕ) (b : Bool) → word < length words → bit < 64 → eqb (bit_at w bit) 1 ≡ b → ((i : ℕ) → i < 64 → i ≢ bit → bit_at w i ≡ bit_at (get_or words word 0) i)
+pub marks_of-set_bit : (words : List ℕ) (word bit w : ℕ) (b : Bool) → word < length words → bit < 64 → eqb (bit_at w bit) 1 ≡ b
+    → ((i : ℕ) → i < 64 → i ≢ bit → bit_at w i ≡ bit_at (get_or words word 0) i)
     → marks_of (set words word w) ≡ set (marks_of words) (word * 64 + bit) b
 marks_of-set_bit words word bit w b in_words in_word at others =
     let d : (word * 64 + bit) / 64 ≡ word = div-mul-add word 64 bit in_word in

@@ -1,9 +1,9 @@
--- Small tables that worked examples speak of.
-use Rattle.std.specs.Prelude.{ℕ, List, [], map}
+-- Serves worked examples alone: small tables that they speak of.
+use Rattle.std.specs.Prelude.{ℕ, List, map}
 use Rattle.fixed_box.specs.Bounds.{Bounds}
 use Rattle.live_table.specs.declared.handle.Handle.{Handle}
 use Rattle.live_table.specs.declared.masks.Masks.{Masks}
-use Rattle.live_table.specs.Table.{Table, after_give, after_take}
+use Rattle.live_table.specs.Table.{Table, empty_table, after_give, after_take}
 
 -- the handle of a slot and a generation
 abbrev pub under : ℕ → ℕ → Handle
@@ -15,7 +15,7 @@ handles_of t = map (λ entry. entry.handle) t.entries
 
 -- three boxes of the same kind
 abbrev pub three_given : Bounds → Masks → Table
-three_given body masks = give (give (give (record { entries = []; gives = [] })))
+three_given body masks = give (give (give empty_table))
   where
     give : Table → Table
     give t = after_give t body masks

@@ -1,6 +1,7 @@
--- What a table keeps: the slots that were given, and numbers that are known from them.
-use Rattle.std.specs.Prelude.{◌≡◌, ℕ, ◌+◌, ◌<◌, ◌≤◌, Bool, true, false, if◌then◌else◌, nat_lt, List, [], ◌∷◌, ◌++◌, length, map, Some, None, is_none, slice_index_or}
+-- Serves proofs alone: what a table keeps, which is the slots that were given, and numbers that are known from them.
+use Rattle.std.specs.Prelude.{◌≡◌, ℕ, ◌+◌, ◌-◌, ◌<◌, ◌≤◌, Bool, true, false, if◌then◌else◌, nat_lt, List, [], ◌∷◌, ◌++◌, length, map, replicate, Some, None, is_none, slice_index_or}
 use Rattle.std.specs.List.{filter_map, sum}
+use Rattle.fixed_box.specs.declared.TheConstants.{SLOTS}
 use Rattle.live_table.specs.declared.live.Live.{Live}
 use Rattle.live_table.specs.declared.slot.Slot.{Slot}
 use Rattle.live_table.specs.Entries.{slot_of}
@@ -9,9 +10,9 @@ use Rattle.live_table.specs.Entries.{slot_of}
 abbrev pub entries_of : List Slot → List Live
 entries_of slots = filter_map (λ slot. slot.live) slots
 
--- how often each was given
+-- how often each of all slots was given: those past the end never were
 abbrev pub gives_of : List Slot → List ℕ
-gives_of slots = map (λ slot. slot.gives) slots
+gives_of slots = map (λ slot. slot.gives) slots ++ replicate (SLOTS - length slots) 0
 
 -- which of them have no live box
 abbrev pub vacant : List Slot → List Bool
@@ -32,16 +33,16 @@ MarksVacant slots freed = (k : ℕ) → slice_index_or freed k false ≡ slice_i
 
 -- the marks of the freed slots and the two counts are those of the slots
 pub record IsKept (slots : List Slot) (freed : List Bool) (len given : ℕ) : Type 0 where
-  pub few : length slots ≤ 8192
+  pub few : length slots ≤ SLOTS
   pub placed : IsPlaced 0 slots
-  pub marks : length freed ≡ 8192
+  pub marks : length freed ≡ SLOTS
   pub marked : MarksVacant slots freed
   pub counted : len ≡ length (entries_of slots)
   pub summed : given ≡ sum (gives_of slots)
 
--- the least slot below 8,192 without a live box: one of these, or the next, which was never given
+-- the least of all slots without a live box: one of these, or the next, which was never given
 pub record IsLeastVacant (slots : List Slot) (slot : ℕ) : Type 0 where
-  pub small : slot < 8192
+  pub small : slot < SLOTS
   pub next : slot ≤ length slots
   pub at : slot < length slots → slice_index_or (vacant slots) slot false ≡ true
   pub least : (k : ℕ) → k < slot → slice_index_or (vacant slots) k false ≡ false

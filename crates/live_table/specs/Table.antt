@@ -1,24 +1,25 @@
 -- A table of live boxes, as clauses see it, and what each call makes of it.
-use Rattle.std.specs.Prelude.{◌≡◌, ℕ, zero, suc, ◌+◌, ◌<◌, ◌≤◌, IsTrue, List, [], ◌∷◌, length, slice_index}
+use Rattle.std.specs.Prelude.{◌≡◌, ℕ, ◌+◌, ◌<◌, ◌≤◌, IsTrue, List, [], length, replicate, slice_index, slice_set}
 use Rattle.std.specs.List.{All}
 use Rattle.fixed_box.specs.Bounds.{Bounds}
+use Rattle.fixed_box.specs.declared.TheConstants.{SLOTS}
 use Rattle.live_table.specs.declared.handle.Handle.{Handle}
 use Rattle.live_table.specs.declared.masks.Masks.{Masks}
 use Rattle.live_table.specs.declared.live.Live.{Live}
 use Rattle.live_table.specs.Entries.{slot_of, least_free, entered, with_body, with_masks, without, rises}
 
--- The live boxes in order of their slots, and how often each slot was given, from slot 0 on.
--- A slot past the end was never given.
+-- The live boxes in order of their slots, and how often each of the `SLOTS` slots was given.
 pub record Table : Type 0 where
   pub entries : List Live
   pub gives : List ℕ
 
+-- a table with no live box, whose slots were never given
+abbrev pub empty_table : Table
+empty_table = record { entries = []; gives = replicate SLOTS 0 }
+
 -- one more give of the slot
 abbrev pub raised : List ℕ → ℕ → List ℕ
-raised [] zero = 1 ∷ []
-raised [] (suc slot) = 0 ∷ raised [] slot
-raised (n ∷ more) zero = (n + 1) ∷ more
-raised (n ∷ more) (suc slot) = n ∷ raised more slot
+raised gives slot = slice_set gives slot (slice_index gives slot + 1)
 
 -- the handle of the next box: the least free slot, and how often that was given
 abbrev pub next_handle : Table → Handle
@@ -47,7 +48,8 @@ after_take t handle = record t { entries = without handle t.entries }
 pub record IsTable (t : Table) : Type 0 where
   -- the slots of the entries rise strictly
   pub rising : IsTrue (rises t.entries)
-  pub small : All (λ entry. slot_of entry < 8192) t.entries
-  pub few : length t.entries ≤ 8192
+  pub slots : length t.gives ≡ SLOTS
+  pub small : All (λ entry. slot_of entry < SLOTS) t.entries
+  pub few : length t.entries ≤ SLOTS
   -- The last give of a slot made its entry. So the slot was given, and its generation is below the number of gives.
   pub newest : All (λ entry. entry.handle.generation + 1 ≡ slice_index t.gives (slot_of entry)) t.entries

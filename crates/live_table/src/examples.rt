@@ -1,4 +1,4 @@
-ghost use Rattle.std.specs.Prelude.{◌≡◌, None, true, false, [], ◌∷◌};
+ghost use Rattle.std.specs.Prelude.{◌≡◌, None, true, false, [], ◌∷◌, take};
 ghost use Rattle.fixed_box.specs.Bounds.{Bounds};
 ghost use Rattle.live_table.specs.declared.masks.Masks.{Masks};
 ghost use Rattle.live_table.specs.Entries.{entry_at, rises};
@@ -12,7 +12,7 @@ fn slots_are_given_again()
     ensures left { (b : Bounds) (m : Masks) → handles_of (two_taken b m) ≡ under 2 0 ∷ [] }
     ensures next { (b : Bounds) (m : Masks) → next_handle (two_taken b m) ≡ under 0 1 }
     ensures again { (b : Bounds) (m : Masks) → handles_of (given_again b m) ≡ under 0 1 ∷ under 1 1 ∷ under 2 0 ∷ [] }
-    ensures gives { (b : Bounds) (m : Masks) → (given_again b m).gives ≡ 2 ∷ 2 ∷ 1 ∷ [] }
+    ensures gives { (b : Bounds) (m : Masks) → take 4 (given_again b m).gives ≡ 2 ∷ 2 ∷ 1 ∷ 0 ∷ [] }
     ensures order { (b : Bounds) (m : Masks) → rises (given_again b m).entries ≡ true }
     ensures stale { (b : Bounds) (m : Masks) → entry_at (under 1 0) (given_again b m).entries ≡ None }
     ensures unchanged { (b : Bounds) (m other : Masks) → after_set_masks (given_again b m) (under 1 0) other ≡ given_again b m }

@@ -1,17 +1,17 @@
-ghost use Rattle.std.specs.Prelude.{◌≡◌, ◌+◌, ◌<◌, ◌↔◌, [], length, IfOk, OnOk, OnErr, IsErr, is_ok, is_some};
+ghost use Rattle.std.specs.Prelude.{◌≡◌, ◌+◌, ◌<◌, ◌↔◌, length, IfOk, OnOk, OnErr, IsErr, is_ok, is_some};
 ghost use Rattle.std.specs.List.{sum};
 ghost use Rattle.std.specs.Result.{result_ok};
 ghost use Rattle.live_table.specs.Entries.{live_at, entry_at, IsLeastFree};
-ghost use Rattle.live_table.specs.Table.{next_handle, after_give, after_set_box, after_set_masks, after_take, IsTable};
+ghost use Rattle.live_table.specs.Table.{empty_table, next_handle, after_give, after_set_box, after_set_masks, after_take, IsTable};
 
 use crate::freed_slots::FreedSlots;
-use crate::slot::{SLOTS, Slot, open_slot};
+use crate::slot::{Slot, open_slot};
 use crate::{Full, Handle, Live, Masks, Stale};
-use fixed_box::{FBox, NoMemory};
+use fixed_box::{FBox, NoMemory, SLOTS};
 use std::alloc::Global;
 use std::marker::Model;
 
-/// The live boxes of a scene, at most 8,192, each under a handle.
+/// The live boxes of a scene, at most `SLOTS`, each under a handle.
 ///
 /// Clauses see the live boxes in order of their slots, and how often each slot was given. Only `new` takes memory.
 #[derive(Drop)]
@@ -25,6 +25,7 @@ pub struct LiveTable {
 
 impl Model for LiveTable {
     ghost use Rattle.std.specs.Prelude.{◌≤◌, vec_capacity};
+    ghost use Rattle.fixed_box.specs.declared.TheConstants.{SLOTS};
     ghost use Rattle.live_table.specs.Slots.{entries_of, gives_of, IsKept};
     ghost use Rattle.live_table.specs.Table.{Table};
 
@@ -32,16 +33,16 @@ impl Model for LiveTable {
 
     ghost view = { λ t. record { entries = entries_of t.slots.items; gives = gives_of t.slots.items } };
 
-    ghost invariant = { λ t. (8192 ≤ vec_capacity t.slots) × IsKept t.slots.items t.freed t.len t.given };
+    ghost invariant = { λ t. (SLOTS ≤ vec_capacity t.slots) × IsKept t.slots.items t.freed t.len t.given };
 }
 
 impl LiveTable {
     /// A table with no live box, and room for all that it may ever have.
     pub fn new(alloc: Global) -> Result<LiveTable, NoMemory>
-        ensures { IfOk result (λ table. table ≡ record { entries = []; gives = [] }) }
+        ensures { IfOk result (λ table. table ≡ empty_table) }
     {
         Ok(LiveTable {
-            slots: Vec::with_capacity(alloc, SLOTS)?,
+            slots: Vec::with_capacity(alloc, SLOTS as usize)?,
             freed: FreedSlots::new(alloc)?,
             len: 0,
             given: 0,
@@ -94,16 +95,16 @@ impl LiveTable {
         }
     }
 
-    /// Gives a box the least slot that no live box has. `Full` comes where 8,192 boxes are live.
+    /// Gives a box the least slot that no live box has. `Full` comes where `SLOTS` boxes are live.
     pub fn give(&mut self, body: FBox, masks: Masks) -> Result<Handle, Full>
         requires { sum self.old.gives < 4294967295 }
         ensures handle { IfOk result (λ handle. handle ≡ next_handle self.old) }
         ensures given { OnOk result (self.new ≡ after_give self.old body masks) }
-        ensures full { IsErr result ↔ (length self.old.entries ≡ 8192) }
+        ensures full { IsErr result ↔ (length self.old.entries ≡ SLOTS) }
         ensures err { OnErr result (self.new ≡ self.old) }
 
         // What follows for the handle, for the number of gives and for the table.
-        ensures small { IfOk result (λ handle. handle.slot < 8192) }
+        ensures small { IfOk result (λ handle. handle.slot < SLOTS) }
         ensures free { IfOk result (λ handle. IsLeastFree handle.slot self.old.entries) }
         ensures count { OnOk result (sum self.new.gives ≡ sum self.old.gives + 1) }
         ensures table { IsTable self.new }
@@ -132,7 +133,7 @@ impl LiveTable {
         ensures known { is_ok result ≡ is_some (entry_at handle self.old.entries) }
         ensures after { self.new ≡ after_set_box self.old handle body }
         ensures err { OnErr result (self.new ≡ self.old) }
-        ensures small { OnOk result (handle.slot < 8192) }
+        ensures small { OnOk result (handle.slot < SLOTS) }
         ensures table { IsTable self.new }
     {
         let moved = self.find(handle)?;
@@ -145,7 +146,7 @@ impl LiveTable {
         ensures known { is_ok result ≡ is_some (entry_at handle self.old.entries) }
         ensures after { self.new ≡ after_set_masks self.old handle masks }
         ensures err { OnErr result (self.new ≡ self.old) }
-        ensures small { OnOk result (handle.slot < 8192) }
+        ensures small { OnOk result (handle.slot < SLOTS) }
         ensures table { IsTable self.new }
     {
         let live = self.find(handle)?;
@@ -159,7 +160,7 @@ impl LiveTable {
         ensures handle { IfOk result (λ live. live.handle ≡ handle) }
         ensures after { self.new ≡ after_take self.old handle }
         ensures err { OnErr result (self.new ≡ self.old) }
-        ensures small { OnOk result (handle.slot < 8192) }
+        ensures small { OnOk result (handle.slot < SLOTS) }
         ensures table { IsTable self.new }
     {
         let taken = self.find(handle)?;

@@ -1,5 +1,5 @@
 use super::*;
-use fixed_box::{FBox, Point};
+use fixed_box::{FBox, Point, SLOTS};
 use std::process::Abort;
 use std::test::Fail;
 
@@ -72,14 +72,14 @@ fn each_change_shows_in_the_live_box(rt: HostRuntime) -> Result<(), Fail> {
 fn a_table_is_full_at_8192_boxes(rt: HostRuntime) -> Result<(), Fail> {
     let body = body_at(0).ok_or("a flat box")?;
     let mut table = LiveTable::new(rt.alloc())?;
-    for slot in 0..8192 {
+    for slot in 0..SLOTS {
         assert_eq!(rt; give(&rt, &mut table, body), Ok(under(slot, 0)));
     }
     assert_eq!(rt; give(&rt, &mut table, body), Err(Full));
-    for slot in [8191, 4000, 63, 64] {
+    for slot in [SLOTS - 1, 4000, 63, 64] {
         table.take(under(slot, 0))?;
     }
-    for slot in [63, 64, 4000, 8191] {
+    for slot in [63, 64, 4000, SLOTS - 1] {
         assert_eq!(rt; give(&rt, &mut table, body), Ok(under(slot, 1)));
     }
     assert_eq!(rt; give(&rt, &mut table, body), Err(Full));

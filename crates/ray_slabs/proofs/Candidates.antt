@@ -85,14 +85,16 @@ not_first true y h e = sym h ∙ e
 not_first false y h e = refl
 
 -- one slab more
-more : (s : Slab) (ss : List Slab) (t : Fraction) → pos 0 <ℤ t.den → fits t s ≡ true → list_all (fits t) ss ≡ true → (c : Candidate ss t) → (b : Bool) → fits c.place s ≡ b → Candidate (s ∷ ss) t
+more : (s : Slab) (ss : List Slab) (t : Fraction) → pos 0 <ℤ t.den → fits t s ≡ true → list_all (fits t) ss ≡ true → (c : Candidate ss t) → (b : Bool)
+    → fits c.place s ≡ b → Candidate (s ∷ ss) t
 more s ss t ht ft fts c true e = record {
   place = c.place;
   above_zero = c.above_zero;
   ahead = c.ahead;
   no_later = c.no_later;
   all_fit = all_of (fits c.place s) (list_all (fits c.place) ss) e c.all_fit;
-  among = λ P h. ap (λ b. P start || b) (list_any-append P (crossings s) (flat_map crossings ss)) ∙ or_more (P start) (list_any P (crossings s)) (list_any P (flat_map crossings ss)) (c.among P h);
+  among = λ P h. ap (λ b. P start || b) (list_any-append P (crossings s) (flat_map crossings ss))
+      ∙ or_more (P start) (list_any P (crossings s)) (list_any P (flat_map crossings ss)) (c.among P h);
 }
 more s ss t ht ft fts c false e =
     elim (fit s) [
@@ -105,14 +107,17 @@ more s ss t ht ft fts c false e =
           let inside : at_most c.place leave ≡ true = at_most_trans c.place t leave c.above_zero ht hl c.no_later to in
           let outside : at_most enter c.place ≡ false = not_first (at_most enter c.place) (at_most c.place leave) inside (sym (is c.place c.above_zero) ∙ e) in
           let before : at_most c.place enter ≡ true = at_most_total enter c.place outside in
-          let own : fits enter s ≡ true = is enter he ∙ all_of (at_most enter enter) (at_most enter leave) (at_most_refl enter) (at_most_trans enter t leave he ht hl from to) in
+          let own : fits enter s ≡ true = is enter he ∙ all_of (at_most enter enter) (at_most enter leave) (at_most_refl enter)
+          (at_most_trans enter t leave he ht hl from to) in
           record {
             place = enter;
             above_zero = he;
             ahead = at_most_trans start c.place enter (omega (arith, ints)) c.above_zero he c.ahead before;
             no_later = from;
             all_fit = all_of (fits enter s) (list_all (fits enter) ss) own (all_convex ss c.place enter t c.above_zero he ht before from c.all_fit fts);
-            among = λ P h. ap (λ b. P start || b) (list_any-append P (crossings s) (flat_map crossings ss)) ∙ or_true (P start) (list_any P (crossings s) || list_any P (flat_map crossings ss)) (true_or (list_any P (crossings s)) (list_any P (flat_map crossings ss)) (among P h));
+            among = λ P h. ap (λ b. P start || b) (list_any-append P (crossings s) (flat_map crossings ss))
+                ∙ or_true (P start) (list_any P (crossings s) || list_any P (flat_map crossings ss))
+                (true_or (list_any P (crossings s)) (list_any P (flat_map crossings ss)) (among P h));
           }
     ]
 
@@ -174,13 +179,15 @@ to_finish t = same_le (t.num *ℤ pos 1) (pos 1 *ℤ t.den) t.num t.den (omega (
 -- A fraction that fits shows a candidate that does.
 pub ray_candidate : (ss : List Slab) (t : Fraction) → pos 0 <ℤ t.den → fits_ray ss t ≡ true → list_any (fits_ray ss) (candidates ss) ≡ true
 ray_candidate ss t ht f =
-    let c : Candidate ss t = candidate ss t ht (from_start t ∙ first_of (int_le (pos 0) t.num) (list_all (fits t) ss) f) (second_of (int_le (pos 0) t.num) (list_all (fits t) ss) f) in
+    let c : Candidate ss t = candidate ss t ht (from_start t ∙ first_of (int_le (pos 0) t.num) (list_all (fits t) ss) f)
+    (second_of (int_le (pos 0) t.num) (list_all (fits t) ss) f) in
     c.among (fits_ray ss) (all_of (int_le (pos 0) c.place.num) (list_all (fits c.place) ss) (sym (from_start c.place) ∙ c.ahead) c.all_fit)
 
 pub seg_candidate : (ss : List Slab) (t : Fraction) → pos 0 <ℤ t.den → fits_seg ss t ≡ true → list_any (fits_seg ss) (candidates ss) ≡ true
 seg_candidate ss t ht f =
     let ahead : fits_ray ss t ≡ true = second_of (int_le t.num t.den) (fits_ray ss t) f in
-    let c : Candidate ss t = candidate ss t ht (from_start t ∙ first_of (int_le (pos 0) t.num) (list_all (fits t) ss) ahead) (second_of (int_le (pos 0) t.num) (list_all (fits t) ss) ahead) in
+    let c : Candidate ss t = candidate ss t ht (from_start t ∙ first_of (int_le (pos 0) t.num) (list_all (fits t) ss) ahead)
+    (second_of (int_le (pos 0) t.num) (list_all (fits t) ss) ahead) in
     let bound : at_most t finish ≡ true = to_finish t ∙ first_of (int_le t.num t.den) (fits_ray ss t) f in
     let within : at_most c.place finish ≡ true = at_most_trans c.place t finish c.above_zero ht (omega (arith, ints)) c.no_later bound in
     c.among (fits_seg ss) (all_of (int_le c.place.num c.place.den) (fits_ray ss c.place) (sym (to_finish c.place) ∙ within)

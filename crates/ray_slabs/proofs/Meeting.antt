@@ -12,8 +12,11 @@ use Rattle.ray_slabs.proofs.Candidates.{Found, found_among, ray_candidate, seg_c
 
 within : (p q : ℕ) (f d lo hi : ℤ) → fits (record { num = pos p; den = pos q }) (record { from = f; dir = d; lo = lo; hi = hi }) ≡ true → IsWithin p q f d lo hi
 within p q f d lo hi e =
-    let place : ℤ = pos q *ℤ f +ℤ pos p *ℤ d in
-    (le_of_test (pos q *ℤ lo) place (first_of (int_le (pos q *ℤ lo) place) (int_le place (pos q *ℤ hi)) e), le_of_test place (pos q *ℤ hi) (second_of (int_le (pos q *ℤ lo) place) (int_le place (pos q *ℤ hi)) e))
+    let place : ℤ = pos q *ℤ f +ℤ pos p *ℤ d in (
+      le_of_test (pos q *ℤ lo) place (first_of (int_le (pos q *ℤ lo) place) (int_le place (pos q *ℤ hi)) e),
+      le_of_test place (pos q *ℤ hi)
+          (second_of (int_le (pos q *ℤ lo) place) (int_le place (pos q *ℤ hi)) e),
+    )
 
 tested : (p q : ℕ) (f d lo hi : ℤ) → IsWithin p q f d lo hi → fits (record { num = pos p; den = pos q }) (record { from = f; dir = d; lo = lo; hi = hi }) ≡ true
 tested p q f d lo hi h =
@@ -26,7 +29,8 @@ record Numbers (f d : Vector) (b : WideBounds) (num den : ℤ) : Type 0 where
   num_is : pos meets.p ≡ num
   den_is : pos meets.q ≡ den
 
-numbers : (f d : Vector) (b : WideBounds) (num den : ℤ) → pos 0 <ℤ den → fits_ray (slabs_of f d b) (record { num = num; den = den }) ≡ true → Numbers f d b num den
+numbers : (f d : Vector) (b : WideBounds) (num den : ℤ) → pos 0 <ℤ den → fits_ray (slabs_of f d b) (record { num = num; den = den }) ≡ true
+    → Numbers f d b num den
 numbers f d b (pos p) (pos q) h e =
     let t : Fraction = record { num = pos p; den = pos q } in
     let x : Slab = record { from = f.x; dir = d.x; lo = b.lo.x; hi = b.hi.x } in
@@ -62,7 +66,8 @@ fitted f d b m =
 pub ray_law : (f d : Vector) (b : WideBounds) → IsTrue (in_ray f d b) ↔ RayMeets f d b
 unfolding in_ray
 ray_law f d b = (
-  λ e. let t : Found (fits_ray (slabs_of f d b)) = found_among (fits_ray (slabs_of f d b)) (slabs_of f d b) e in (numbers f d b t.place.num t.place.den t.above_zero t.passes).meets,
+  λ e. let t : Found (fits_ray (slabs_of f d b)) = found_among (fits_ray (slabs_of f d b)) (slabs_of f d b) e in
+      (numbers f d b t.place.num t.place.den t.above_zero t.passes).meets,
   λ m. ray_candidate (slabs_of f d b) (record { num = pos m.p; den = pos m.q }) (let h : 0 < m.q = m.above_zero in omega (arith, ints)) (fitted f d b m),
 )
 
@@ -70,10 +75,20 @@ pub seg_law : (a c : Vector) (b : WideBounds) → IsTrue (in_seg a c b) ↔ SegM
 unfolding in_seg
 seg_law a c b = (
   λ e.
-      let t : Found (fits_seg (slabs_of a (displacement a c) b)) = found_among (fits_seg (slabs_of a (displacement a c) b)) (slabs_of a (displacement a c) b) e in
-      let n : Numbers a (displacement a c) b t.place.num t.place.den = numbers a (displacement a c) b t.place.num t.place.den t.above_zero (second_of (int_le t.place.num t.place.den) (fits_ray (slabs_of a (displacement a c) b) t.place) t.passes) in
-      let le : t.place.num ≤ℤ t.place.den = le_of_test t.place.num t.place.den (first_of (int_le t.place.num t.place.den) (fits_ray (slabs_of a (displacement a c) b) t.place) t.passes) in
-      record { ahead = n.meets; at_most_one = let e : pos n.meets.p ≡ t.place.num = n.num_is in let f : pos n.meets.q ≡ t.place.den = n.den_is in omega (arith, ints) },
-  λ m. seg_candidate (slabs_of a (displacement a c) b) (record { num = pos m.ahead.p; den = pos m.ahead.q }) (let h : 0 < m.ahead.q = m.ahead.above_zero in omega (arith, ints))
-      (all_of (int_le (pos m.ahead.p) (pos m.ahead.q)) (fits_ray (slabs_of a (displacement a c) b) (record { num = pos m.ahead.p; den = pos m.ahead.q })) (test_of_le (pos m.ahead.p) (pos m.ahead.q) (let h : m.ahead.p ≤ m.ahead.q = m.at_most_one in omega (arith, ints))) (fitted a (displacement a c) b m.ahead)),
+      let t : Found (fits_seg (slabs_of a (displacement a c) b)) = found_among (fits_seg (slabs_of a (displacement a c) b))
+      (slabs_of a (displacement a c) b) e in
+      let n : Numbers a (displacement a c) b t.place.num t.place.den = numbers a (displacement a c) b t.place.num t.place.den t.above_zero
+      (second_of (int_le t.place.num t.place.den) (fits_ray (slabs_of a (displacement a c) b) t.place) t.passes) in
+      let le : t.place.num ≤ℤ t.place.den =
+      le_of_test t.place.num t.place.den (first_of (int_le t.place.num t.place.den) (fits_ray (slabs_of a (displacement a c) b) t.place) t.passes) in
+      record {
+        ahead = n.meets;
+        at_most_one = let e : pos n.meets.p ≡ t.place.num = n.num_is in let f : pos n.meets.q ≡ t.place.den = n.den_is in
+            omega (arith, ints);
+      },
+  λ m. seg_candidate (slabs_of a (displacement a c) b) (record { num = pos m.ahead.p; den = pos m.ahead.q }) (let h : 0 < m.ahead.q = m.ahead.above_zero in
+      omega (arith, ints))
+      (all_of (int_le (pos m.ahead.p) (pos m.ahead.q)) (fits_ray (slabs_of a (displacement a c) b) (record { num = pos m.ahead.p; den = pos m.ahead.q }))
+      (test_of_le (pos m.ahead.p) (pos m.ahead.q) (let h : m.ahead.p ≤ m.ahead.q = m.at_most_one in omega (arith, ints)))
+      (fitted a (displacement a c) b m.ahead)),
 )

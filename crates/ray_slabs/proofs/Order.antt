@@ -74,13 +74,16 @@ unscaled a b (negsuc n) h le = absurd (omega (arith, ints))
 
 -- equal differences have one test
 pub same_le : (a b c d : ℤ) → (b -ℤ a) ≡ (d -ℤ c) → int_le a b ≡ int_le c d
-same_le a b c d e = same_test (int_le a b) (int_le c d) (λ h. test_of_le c d (omega (arith, ints, le_of_test a b h))) (λ h. test_of_le a b (omega (arith, ints, le_of_test c d h)))
+same_le a b c d e = same_test (int_le a b) (int_le c d) (λ h. test_of_le c d (omega (arith, ints, le_of_test a b h)))
+    (λ h. test_of_le a b (omega (arith, ints, le_of_test c d h)))
 
 -- the order of fractions
 pub at_most_trans : (a b c : Fraction) → pos 0 <ℤ a.den → pos 0 <ℤ b.den → pos 0 <ℤ c.den → at_most a b ≡ true → at_most b c ≡ true → at_most a c ≡ true
 at_most_trans a b c ha hb hc ab bc =
-    let by_c : ((a.num *ℤ b.den) *ℤ c.den) ≤ℤ ((b.num *ℤ a.den) *ℤ c.den) = scaled (a.num *ℤ b.den) (b.num *ℤ a.den) c.den (omega (arith, ints)) (le_of_test (a.num *ℤ b.den) (b.num *ℤ a.den) ab) in
-    let by_a : ((b.num *ℤ c.den) *ℤ a.den) ≤ℤ ((c.num *ℤ b.den) *ℤ a.den) = scaled (b.num *ℤ c.den) (c.num *ℤ b.den) a.den (omega (arith, ints)) (le_of_test (b.num *ℤ c.den) (c.num *ℤ b.den) bc) in
+    let by_c : ((a.num *ℤ b.den) *ℤ c.den) ≤ℤ ((b.num *ℤ a.den) *ℤ c.den) = scaled (a.num *ℤ b.den) (b.num *ℤ a.den) c.den (omega (arith, ints))
+    (le_of_test (a.num *ℤ b.den) (b.num *ℤ a.den) ab) in
+    let by_a : ((b.num *ℤ c.den) *ℤ a.den) ≤ℤ ((c.num *ℤ b.den) *ℤ a.den) = scaled (b.num *ℤ c.den) (c.num *ℤ b.den) a.den (omega (arith, ints))
+    (le_of_test (b.num *ℤ c.den) (c.num *ℤ b.den) bc) in
     let swapped : (a.num *ℤ b.den) *ℤ c.den ≡ (a.num *ℤ c.den) *ℤ b.den = mul_swap a.num b.den c.den in
     let swapped' : (b.num *ℤ a.den) *ℤ c.den ≡ (b.num *ℤ c.den) *ℤ a.den = mul_swap b.num a.den c.den in
     let swapped'' : (c.num *ℤ b.den) *ℤ a.den ≡ (c.num *ℤ a.den) *ℤ b.den = mul_swap c.num b.den a.den in

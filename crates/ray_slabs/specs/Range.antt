@@ -1,4 +1,4 @@
--- The range of a slab's numbers.
+-- Serves proofs alone: the range of a slab's numbers, in which their differences fit 64 bits.
 use Rattle.std.specs.Prelude.{ℤ, pos, neg_ℤ, ◌^◌, ◌≤ℤ◌}
 
 -- The start and the faces are at most 2^34 from 0, and the direction is at most 2^35.

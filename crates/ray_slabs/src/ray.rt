@@ -28,8 +28,8 @@ pub fn ray_meets(ray: &Ray, body: &WBox) -> bool
     Interval::of_ray().clip_all(&slabs).is_some()
 }
 
-/// A ray meets a box exactly where the fraction `p/q` of its direction is in the box on each axis, for some whole
-/// numbers `p >= 0` and `q > 0`. So it meets each box that encloses one that it meets.
+/// A law for proofs, with nothing to run. A ray meets a box exactly where the fraction `p/q` of its direction is in the
+/// box on each axis, for some whole numbers `p >= 0` and `q > 0`. So it meets each box that encloses one that it meets.
 pub fn ray_law()
     ensures fraction { (from dir : Vector) (body : WideBounds) →
         IsTrue (in_ray from dir body) ↔ RayMeets from dir body }

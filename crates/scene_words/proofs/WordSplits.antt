@@ -35,7 +35,8 @@ cut_plain b bs h = let both = plain (is_blank b) (is_hash b) h in rw (both.1, on
 word_ahead : (line : List ℕ) → cut line ≡ onto_front (take (prefix_len in_word line) line) (cut (drop (prefix_len in_word line) line))
 word_ahead [] = refl
 word_ahead (b ∷ bs) =
-    elim (in_word b) as (λ t. in_word b ≡ t → cut (b ∷ bs) ≡ onto_front (take (cond t (1 + prefix_len in_word bs) 0) (b ∷ bs)) (cut (drop (cond t (1 + prefix_len in_word bs) 0) (b ∷ bs)))) [
+    elim (in_word b) as (λ t. in_word b ≡ t → cut (b ∷ bs) ≡ onto_front (take (cond t (1 + prefix_len in_word bs) 0) (b ∷ bs))
+    (cut (drop (cond t (1 + prefix_len in_word bs) 0) (b ∷ bs)))) [
       | true ↦ λ h. rw (one_plus (prefix_len in_word bs)) (cut_plain b bs h ∙ ap (onto_first b) (word_ahead bs))
       | false ↦ λ h. refl
     ] refl
@@ -53,7 +54,8 @@ past_word (b ∷ bs) =
 stops : (line : List ℕ) → prefix_len in_word line ≡ 0 → (parts : List (List ℕ)) × (cut line ≡ [] ∷ parts)
 stops [] h = ([], refl)
 stops (b ∷ bs) h =
-    elim (is_hash b) as (λ t. is_hash b ≡ t → (parts : List (List ℕ)) × (slice_split is_blank (take (cond (not t) (1 + position_or_len is_hash bs) 0) (b ∷ bs)) ≡ [] ∷ parts)) [
+    elim (is_hash b) as (λ t. is_hash b ≡ t → (parts : List (List ℕ))
+    × (slice_split is_blank (take (cond (not t) (1 + position_or_len is_hash bs) 0) (b ∷ bs)) ≡ [] ∷ parts)) [
       | true ↦ λ _. ([], refl)
       | false ↦ λ no_hash. rw (one_plus (position_or_len is_hash bs)) (
           elim (is_blank b) as (λ t. is_blank b ≡ t → (parts : List (List ℕ)) × (cond t ([] ∷ cut bs) (onto_first b (cut bs)) ≡ [] ∷ parts)) [
@@ -69,7 +71,8 @@ stops (b ∷ bs) h =
 pub words_ahead : (line : List ℕ) → 0 < prefix_len in_word line → words line ≡ take (prefix_len in_word line) line ∷ words (drop (prefix_len in_word line) line)
 words_ahead line some =
     let rest = stops (drop (prefix_len in_word line) line) (past_word line) in
-    ap (filter is_word) (word_ahead line ∙ ap (onto_front (take (prefix_len in_word line) line)) rest.1 ∙ onto_front_nothing (take (prefix_len in_word line) line) rest.0)
+    ap (filter is_word) (word_ahead line ∙ ap (onto_front (take (prefix_len in_word line) line)) rest.1
+    ∙ onto_front_nothing (take (prefix_len in_word line) line) rest.0)
     ∙ kept (take (prefix_len in_word line) line) rest.0 (omega (arith, length-prefix_len in_word line))
     ∙ ap (λ more. take (prefix_len in_word line) line ∷ more) (sym (ap (filter is_word) rest.1))
   where
@@ -85,7 +88,8 @@ words_none (b ∷ bs) no_blank no_word =
       | true ↦ λ _. refl
       | false ↦ λ no_hash. absurd (
           elim (is_blank b) as (λ t. is_blank b ≡ t → ⊥) [
-            | true ↦ λ blank. let some : cond (is_blank b) (1 + prefix_len is_blank bs) 0 ≡ 1 + prefix_len is_blank bs = rw blank refl in omega (arith, some, no_blank)
+            | true ↦ λ blank. let some : cond (is_blank b) (1 + prefix_len is_blank bs) 0 ≡ 1 + prefix_len is_blank bs = rw blank refl in
+                omega (arith, some, no_blank)
             | false ↦ λ blank.
                 let plain : in_word b ≡ true = rw (blank, no_hash) refl in
                 let some : cond (in_word b) (1 + prefix_len in_word bs) 0 ≡ 1 + prefix_len in_word bs = rw plain refl in

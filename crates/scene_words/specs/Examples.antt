@@ -1,4 +1,4 @@
--- What worked examples speak of.
+-- Serves worked examples alone: points, boxes and masks that they speak of.
 use Rattle.std.specs.Prelude.{ℕ, pos}
 use Rattle.fixed_box.specs.declared.point.Point.{Point}
 use Rattle.fixed_box.specs.Bounds.{Bounds}

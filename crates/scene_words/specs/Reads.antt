@@ -1,4 +1,4 @@
--- What the code reads from the front of a line, against what the words there say.
+-- Serves proofs alone: what the code reads from the front of a line, against what the words there say.
 use Rattle.std.specs.Prelude.{◌≡◌, ℕ, List, Result, Ok, Err}
 use Rattle.std.specs.Borrow.{Bor}
 use Rattle.scene_words.specs.declared.line_fault.LineFault.{LineFault}

@@ -24,6 +24,7 @@ is_blank b = b == 32 || b == 9
 abbrev pub is_hash : ℕ → Bool
 is_hash b = b == 35
 
+-- whether a piece between blanks is a word
 abbrev pub is_word : List ℕ → Bool
 is_word [] = false
 is_word (b ∷ bs) = true
@@ -43,6 +44,7 @@ abbrev pub first_as : {A : Type 0} → (List ℕ → Result A LineFault) → Lis
 first_as value [] = Err fault.Count
 first_as value (word ∷ more) = value word >>= λ x. Ok (x, more)
 
+-- a number, a handle or a mask at the front
 abbrev pub number_at : List (List ℕ) → Result (ℤ × List (List ℕ)) LineFault
 number_at = first_as number_of_word
 
@@ -131,6 +133,7 @@ abbrev pub by_verb : Version → Option Verb → List (List ℕ) → Result Comm
 by_verb version None ws = Err fault.Word
 by_verb version (Some v) ws = if allows v (length ws) then further_of version v ws else Err fault.Count
 
+-- what words say, the first of which is the command's
 unfoldable pub command_of : Version → List (List ℕ) → Result Command LineFault
 command_of version [] = Ok Blank
 command_of version (word ∷ more) = by_verb version (verb_of word) more

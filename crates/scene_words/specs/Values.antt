@@ -28,6 +28,7 @@ is_numeral radix most ds = nat_le 1 (length ds) && nat_le (length ds) most && li
 abbrev pub index_of_digits : List ℕ → Option ℕ
 index_of_digits ds = if is_numeral 10 10 ds && nat_le (digits_value 10 ds) 4294967295 then Some (digits_value 10 ds) else None
 
+-- the sign between a handle's two numbers
 abbrev pub is_colon : ℕ → Bool
 is_colon b = b == 58
 

@@ -3,16 +3,16 @@
 
 mod command;
 mod examples;
+mod line_commands;
 mod line_fault;
 mod line_words;
-mod reading;
 mod values;
 mod verb;
 mod version;
 
 pub use command::Command;
+pub use line_commands::read_command;
 pub use line_fault::LineFault;
-pub use reading::read_command;
 pub use version::Version;
 
 #[cfg(test)]

@@ -1,3 +1,4 @@
+-- The first level whose cells are longer is the least, since the loop has passed those below it.
 use Rattle.std.proofs.Common.{◌*◌, ◌+◌, sym, arith}
 use Rattle.std.proofs.lemmas.Nat.{one_shl}
 use Rattle.fixed_box.proofs.Levels.{least_level}

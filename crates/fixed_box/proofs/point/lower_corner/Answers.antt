@@ -1,3 +1,4 @@
+-- On each axis the lesser coordinate is at most both, and no greater one is.
 use Rattle.std.proofs.Common.{◌≡◌, true, subst, sym, rules}
 use Rattle.fixed_box.specs.declared.point.Point.{Point}
 use Rattle.fixed_box.specs.Point.{is_at_most}

@@ -1,3 +1,4 @@
+-- The digits before the last one are put first, and that digit behind them.
 use Rattle.std.proofs.Common.{arith}
 use Rattle.std.proofs.lemmas.Fmt.{decimal_digit}
 use Rattle.fixed_box.proofs.Shown.{length_decimal_step, puts_decimal}

@@ -1,3 +1,4 @@
+-- The digits before the last one are put first, and that digit behind them.
 use Rattle.std.proofs.Common.{◌-◌, ◌/◌, arith}
 use Rattle.fixed_box.proofs.Shown.{length-last_digits, puts_last_digits}
 use Rattle.fixed_box.proofs.printing.+put_last_digits.Goals as goal

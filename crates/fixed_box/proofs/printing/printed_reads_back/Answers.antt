@@ -1,3 +1,4 @@
+-- Both laws are lemmas on what is printed.
 use Rattle.fixed_box.proofs.RoundTrip.{round_trip, shown_bytes}
 use Rattle.fixed_box.proofs.printing.printed_reads_back.Goals as goal
 

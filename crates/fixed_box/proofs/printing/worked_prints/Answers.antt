@@ -1,3 +1,4 @@
+-- Each text is computed.
 use Rattle.std.proofs.Common.{refl}
 use Rattle.std.specs.Fmt.{digits}
 use Rattle.fixed_box.proofs.printing.worked_prints.Goals as goal

@@ -1,3 +1,4 @@
+-- The quick test misses no candidate. Else one of them fits exactly where the clipped interval is left.
 use Rattle.std.proofs.Common.{sym, ◌∙◌, ◌&&◌}
 use Rattle.std.specs.List.{list_all, list_any}
 use Rattle.ray_slabs.specs.Crossing.{fits, candidates, fits_ray, in_ray}
@@ -17,5 +18,7 @@ unfolding in_ray
 returns c =
     c.is_some.ensures
     ∙ ray_answer c.clip_all.result c.slabs-slabs.result
-    (λ t h. c.clip_all.ensures.left t h ∙ (λ i. contains (record { enter = c.of_ray.ensures.enter i; leave = c.of_ray.ensures.leave i }) t && list_all (fits t) c.slabs-slabs.result)) c.clip_all.ensures.not_empty
+    (λ t h. c.clip_all.ensures.left t h
+    ∙ (λ i. contains (record { enter = c.of_ray.ensures.enter i; leave = c.of_ray.ensures.leave i }) t && list_all (fits t) c.slabs-slabs.result))
+    c.clip_all.ensures.not_empty
     ∙ (λ i. list_any (fits_ray (c.slabs-slabs.ensures i)) (candidates (c.slabs-slabs.ensures i)))

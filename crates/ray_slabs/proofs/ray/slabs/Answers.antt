@@ -1,3 +1,4 @@
+-- Each number of each slab is read back from a wide point.
 use Rattle.std.proofs.Common.{◌≡◌, ap, ◌∙◌, [], ◌∷◌}
 use Rattle.ray_slabs.specs.Vector.{Vector}
 use Rattle.ray_slabs.proofs.Read.{read_back}

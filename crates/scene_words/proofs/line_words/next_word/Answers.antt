@@ -1,3 +1,4 @@
+-- The first word ends where a blank or a comment begins.
 use Rattle.std.proofs.Common.{◌<◌, sym, ◌∙◌, refl, arith}
 use Rattle.std.specs.List.{prefix_len}
 use Rattle.std.proofs.lemmas.List.Sums.{prefix_len-le-length}
@@ -14,4 +15,5 @@ returns-clause-words c =
     ∙ rw (← c.word_len-len.ensures, ← c.split_at.ensures.front, ← c.split_at.ensures.back) refl
 
 pub returns-then-len-eq0-clause-words : goal.returns-then-len-eq0-clause-words
-returns-then-len-eq0-clause-words c = sym c.after_blanks-rest.ensures.words ∙ words_none c.after_blanks-rest.result.now c.after_blanks-rest.ensures.no_blank (sym c.word_len-len.ensures ∙ c.if-len-eq0.true)
+returns-then-len-eq0-clause-words c = sym c.after_blanks-rest.ensures.words ∙ words_none c.after_blanks-rest.result.now c.after_blanks-rest.ensures.no_blank
+    (sym c.word_len-len.ensures ∙ c.if-len-eq0.true)

@@ -1,28 +1,38 @@
+-- The opened slot is filled: entries, gives, marks and counts follow from a write of that one slot.
 use Rattle.std.proofs.Common.{◌≡◌, ℕ, Bool, false, ◌+◌, List, Some, arith, length, get_or, set, sum, ap, sym, subst, ◌∙◌, refl}
 use Rattle.fixed_box.specs.Bounds.{Bounds}
+use Rattle.fixed_box.specs.declared.TheConstants.{SLOTS}
 use Rattle.live_table.specs.declared.masks.Masks.{Masks}
 use Rattle.live_table.specs.declared.slot.Slot.{Slot}
 use Rattle.live_table.specs.Entries.{IsLeastFree}
 use Rattle.live_table.specs.Slots.{opened, entries_of, gives_of, IsKept, IsLeastVacant}
 use Rattle.live_table.specs.Table.{next_handle, after_give, IsTable}
-use Rattle.live_table.proofs.SlotLemmas.{table_in, table_of, len_full, len_le, not_full, opened_place, gives_le, next_is, given_is, kept_give, give_sum, least_free_so}
+use Rattle.live_table.proofs.PlacedSlots.{table_in}
+use Rattle.live_table.proofs.SlotCounts.{len_full, len_le, gives_le}
+use Rattle.live_table.proofs.KeptTable.{table_of}
+use Rattle.live_table.proofs.OpenedSlot.{not_full, opened_place, least_free_so}
+use Rattle.live_table.proofs.GivenSlot.{next_is, given_is, kept_give, give_sum}
 use Rattle.live_table.proofs.table.LiveTable.give.Goals as goal
 
 -- the slot as it is afterwards
 abbrev filled : ℕ → ℕ → Bounds → Masks → Slot
-filled slot gives body masks = record { gives = gives + 1; live = Some (record { handle = record { slot = slot; generation = gives }; body = body; masks = masks }) }
+filled slot gives body masks =
+    record { gives = gives + 1; live = Some (record { handle = record { slot = slot; generation = gives }; body = body; masks = masks }) }
 
 -- what is kept, once the opened slot is filled
-kept_filled : (slots items : List Slot) (freed marks : List Bool) (len given slot : ℕ) (place : Slot) (body : Bounds) (masks : Masks) → IsKept slots freed len given → IsLeastVacant slots slot → items ≡ opened slot slots → marks ≡ set freed slot false
+kept_filled : (slots items : List Slot) (freed marks : List Bool) (len given slot : ℕ) (place : Slot) (body : Bounds) (masks : Masks)
+    → IsKept slots freed len given → IsLeastVacant slots slot → items ≡ opened slot slots → marks ≡ set freed slot false
     → place ≡ get_or items slot place → IsKept (set items slot (filled slot place.gives body masks)) marks (len + 1) (given + 1)
 kept_filled slots items freed marks len given slot place body masks kept least opens unmarks at =
     let gives = opened_place slots items slot place least opens at in
-    rw (opens, unmarks) (kept_give slots freed len given slot (filled slot place.gives body masks) (record { handle = record { slot = slot; generation = place.gives }; body = body; masks = masks }) kept least (ap (λ n. n + 1) gives) refl refl refl)
+    rw (opens, unmarks) (kept_give slots freed len given slot (filled slot place.gives body masks)
+    (record { handle = record { slot = slot; generation = place.gives }; body = body; masks = masks }) kept least (ap (λ n. n + 1) gives) refl refl refl)
 
 pub returns-in_default-clause-full : goal.returns-in_default-clause-full
 returns-in_default-clause-full c =
     let slots = c.self.inside.slots.items in
-    let full : length (entries_of slots) ≡ 8192 = len_full slots c.in_default.ensures.live ∙ omega (arith, c.in_default.ensures.full, c.self.inside.slots.ok.0) in
+    let full : length (entries_of slots) ≡ SLOTS = len_full slots c.in_default.ensures.live
+    ∙ omega (arith, c.in_default.ensures.full, c.self.inside.slots.ok.0) in
     (λ _. ap (λ t. length t.entries) (sym c.self.view_is) ∙ full, λ _. refl)
 
 pub returns-in_default-clause-table : goal.returns-in_default-clause-table
@@ -30,7 +40,8 @@ returns-in_default-clause-table c = subst (λ items. IsTable (table_in items)) (
 
 pub overflow_add-place : goal.overflow_add-place
 overflow_add-place c =
-    let gives = opened_place c.self.inside.slots.items c.open_slot.new.slots.items c.in-Some.slot c.index_mut-place.result.now c.in-Some.ensures.least c.in-Some.ensures.opened c.index_mut-place.ensures.value in
+    let gives = opened_place c.self.inside.slots.items c.open_slot.new.slots.items c.in-Some.slot c.index_mut-place.result.now c.in-Some.ensures.least
+    c.in-Some.ensures.opened c.index_mut-place.ensures.value in
     omega (arith, gives, gives_le c.self.inside.slots.items c.in-Some.slot, ap (λ t. sum t.gives) c.self.view_is, c.requires)
 
 pub overflow_add-self : goal.overflow_add-self
@@ -39,14 +50,16 @@ overflow_add-self c = omega (arith, c.self.invariant.1.counted, len_le c.self.in
 pub invariant_of-self-2 : goal.invariant_of-self-2
 invariant_of-self-2 c = (
   c.in-Some.ensures.room,
-  kept_filled c.self.inside.slots.items c.open_slot.new.slots.items c.self.inside.freed c.open_slot.new.freed c.self.inside.len c.self.inside.given c.in-Some.slot c.index_mut-place.result.now c.args.body c.args.masks
+  kept_filled c.self.inside.slots.items c.open_slot.new.slots.items c.self.inside.freed c.open_slot.new.freed c.self.inside.len c.self.inside.given
+      c.in-Some.slot c.index_mut-place.result.now c.args.body c.args.masks
       c.self.invariant.1 c.in-Some.ensures.least c.in-Some.ensures.opened c.in-Some.ensures.unmarked c.index_mut-place.ensures.value,
 )
 
 pub returns-clause-handle : goal.returns-clause-handle
 returns-clause-handle c =
     let slots = c.self.inside.slots.items in
-    let gives = opened_place slots c.open_slot.new.slots.items c.in-Some.slot c.index_mut-place.result.now c.in-Some.ensures.least c.in-Some.ensures.opened c.index_mut-place.ensures.value in
+    let gives = opened_place slots c.open_slot.new.slots.items c.in-Some.slot c.index_mut-place.result.now c.in-Some.ensures.least c.in-Some.ensures.opened
+    c.index_mut-place.ensures.value in
     next_is slots c.in-Some.slot c.index_mut-place.result.now.gives c.self.invariant.1.placed c.in-Some.ensures.least gives ∙ ap next_handle c.self.view_is
 
 pub returns-clause-given : goal.returns-clause-given
@@ -58,7 +71,8 @@ returns-clause-given c =
     let gives = opened_place slots c.open_slot.new.slots.items slot place least c.in-Some.ensures.opened c.index_mut-place.ensures.value in
     let handle = next_is slots slot place.gives c.self.invariant.1.placed least gives in
     ap (λ items. table_in (set items slot (filled slot place.gives c.args.body c.args.masks))) c.in-Some.ensures.opened
-    ∙ given_is slots slot (filled slot place.gives c.args.body c.args.masks) c.args.body c.args.masks (record { slot = slot; generation = place.gives }) c.self.invariant.1.placed least handle (ap (λ n. n + 1) gives) refl
+    ∙ given_is slots slot (filled slot place.gives c.args.body c.args.masks) c.args.body c.args.masks
+    (record { slot = slot; generation = place.gives }) c.self.invariant.1.placed least handle (ap (λ n. n + 1) gives) refl
     ∙ ap (λ t. after_give t c.args.body c.args.masks) c.self.view_is
 
 pub returns-clause-full : goal.returns-clause-full
@@ -68,7 +82,8 @@ returns-clause-full c =
 
 pub returns-clause-free : goal.returns-clause-free
 returns-clause-free c =
-    subst (λ t. IsLeastFree c.in-Some.slot t.entries) c.self.view_is (least_free_so c.self.inside.slots.items c.in-Some.slot c.self.invariant.1.placed c.in-Some.ensures.least)
+    subst (λ t. IsLeastFree c.in-Some.slot t.entries) c.self.view_is
+    (least_free_so c.self.inside.slots.items c.in-Some.slot c.self.invariant.1.placed c.in-Some.ensures.least)
 
 pub returns-clause-count : goal.returns-clause-count
 returns-clause-count c =
@@ -82,5 +97,6 @@ returns-clause-count c =
 
 pub returns-clause-table : goal.returns-clause-table
 returns-clause-table c =
-    table_of (kept_filled c.self.inside.slots.items c.open_slot.new.slots.items c.self.inside.freed c.open_slot.new.freed c.self.inside.len c.self.inside.given c.in-Some.slot c.index_mut-place.result.now c.args.body c.args.masks
+    table_of (kept_filled c.self.inside.slots.items c.open_slot.new.slots.items c.self.inside.freed c.open_slot.new.freed c.self.inside.len
+    c.self.inside.given c.in-Some.slot c.index_mut-place.result.now c.args.body c.args.masks
     c.self.invariant.1 c.in-Some.ensures.least c.in-Some.ensures.opened c.in-Some.ensures.unmarked c.index_mut-place.ensures.value)

@@ -1,3 +1,4 @@
+-- What is at least the greater of two is at least both.
 use Rattle.std.proofs.Common.{sym}
 use Rattle.ray_slabs.specs.Interval.{at_most}
 use Rattle.ray_slabs.proofs.Order.{implied_first, implied_last, at_most_trans, at_most_total}
@@ -11,4 +12,5 @@ returns-then-is_at_most c t h =
 pub returns-else-is_at_most : goal.returns-else-is_at_most
 returns-else-is_at_most c t h =
     implied_last (at_most c.args.self t) (at_most c.args.other t)
-    (at_most_trans c.args.other c.args.self t c.is_at_most.ensures.others c.is_at_most.ensures.own h (at_most_total c.args.self c.args.other (sym c.if-is_at_most.ensures.test)))
+    (at_most_trans c.args.other c.args.self t c.is_at_most.ensures.others c.is_at_most.ensures.own h
+    (at_most_total c.args.self c.args.other (sym c.if-is_at_most.ensures.test)))

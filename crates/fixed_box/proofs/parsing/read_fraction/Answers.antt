@@ -1,8 +1,9 @@
+-- The digits so far, and what is left of the text, make the fraction that all of its digits make.
 use Rattle.std.proofs.Common.{◌≡◌, ◌-◌, ◌≤◌, true, get_or, sym, ◌∙◌, arith}
 use Rattle.std.proofs.lemmas.Grind.{common_steps}
 use Rattle.std.specs.Char.{is_ascii_digit}
 use Rattle.fixed_box.proofs.DigitRuns.{fraction_step_at, digit_small}
-use Rattle.fixed_box.proofs.reading.read_fraction.Goals as goal
+use Rattle.fixed_box.proofs.parsing.read_fraction.Goals as goal
 
 pub fraction-preserved : goal.fraction-preserved
 fraction-preserved c =

@@ -1,7 +1,7 @@
 use Rattle.std.proofs.Common.{◌≡◌, ◌<◌, ◌≤◌, ◌^◌, length, ◌==◌}
 use Rattle.std.specs.List.{slice_split}
 use Rattle.fixed_box.proofs.DigitRuns.{decimal_after}
-use Rattle.fixed_box.proofs.reading.read_decimal.Given as goal
+use Rattle.fixed_box.proofs.parsing.read_decimal.Given as goal
 
 -- what is read and what is left make the number of the whole text
 abbrev pub invariant-whole : goal.invariant-whole

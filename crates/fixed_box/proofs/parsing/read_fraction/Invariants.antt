@@ -1,6 +1,6 @@
 use Rattle.std.proofs.Common.{◌≡◌, ◌<◌, ◌≤◌, ◌^◌, length}
 use Rattle.fixed_box.proofs.DigitRuns.{fraction_after}
-use Rattle.fixed_box.proofs.reading.read_fraction.Given as goal
+use Rattle.fixed_box.proofs.parsing.read_fraction.Given as goal
 
 -- what is read and what is left make the number of the whole text
 abbrev pub invariant-fraction : goal.invariant-fraction
