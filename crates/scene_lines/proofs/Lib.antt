@@ -1,3 +1,4 @@
 pub mod Cutting
+pub mod FeedCount
 pub mod Ranges
 pub mod Settling

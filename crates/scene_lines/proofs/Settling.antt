@@ -18,7 +18,7 @@ strip_len xs =
     cond_both (nat_eq (slice_index xs (length xs - 1)) 13) (take (length xs - 1) xs) xs (λ line. length xs ≤ length line + 1)
     (λ _. omega (arith, length-take (length xs - 1) xs)) (λ _. omega arith)
 
-line_ahead_len : (xs : List ℕ) → length_ahead xs ≤ length (line_ahead xs) + 1
+pub line_ahead_len : (xs : List ℕ) → length_ahead xs ≤ length (line_ahead xs) + 1
 line_ahead_len xs = omega (arith, strip_len (take (length_ahead xs) xs), length-take (length_ahead xs) xs, length_ahead-within xs)
 
 -- a fact where a line is handed out

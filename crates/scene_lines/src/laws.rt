@@ -1,6 +1,7 @@
-ghost use Rattle.std.specs.Prelude.{◌≡◌, ◌+◌, ◌<◌, ℕ, List, [], ◌∷◌, ◌++◌, length, take, true, false, Option};
+ghost use Rattle.std.specs.Prelude.{◌≡◌, ◌+◌, ◌<◌, ◌≤◌, ℕ, List, [], ◌∷◌, ◌++◌, length, take, true, false, Option};
+ghost use Rattle.std.specs.List.{count_by};
 ghost use Rattle.scene_lines.specs.Reading.{coming};
-ghost use Rattle.scene_lines.specs.SceneLines.{lines, has_feed, length_ahead, line_ahead, past_line, IsPrefix};
+ghost use Rattle.scene_lines.specs.SceneLines.{lines, is_feed, has_feed, length_ahead, line_ahead, past_line, IsPrefix};
 
 /// What is known of cutting bytes into lines. It does nothing.
 pub fn line_laws()
@@ -13,6 +14,9 @@ pub fn line_laws()
         ≡ line_ahead bytes ∷ lines more false }
     // Bytes with no line feed have no line before the input has ended.
     ensures unended { (bytes : List ℕ) → has_feed bytes ≡ false → lines bytes false ≡ [] }
+    // A line is shorter than its bytes by one carriage return at most, and ends at its first line feed.
+    ensures near { (bytes : List ℕ) → length_ahead bytes ≤ length (line_ahead bytes) + 1 }
+    ensures one_feed { (bytes : List ℕ) → count_by is_feed (take (length_ahead bytes + 1) bytes) ≤ 1 }
     // Bytes held in two parts come as the first part does before the other.
     ensures in_parts { (front back : List ℕ) (left : Option (List ℕ)) → coming (front ++ back) left ≡ coming front (coming back left) }
 {}

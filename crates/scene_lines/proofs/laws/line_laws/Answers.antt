@@ -2,7 +2,9 @@
 use Rattle.std.proofs.Common.{length, le_refl, true, List, ℕ, subst, sym, false}
 use Rattle.scene_lines.specs.SceneLines.{lines, IsPrefix}
 use Rattle.scene_lines.proofs.Cutting.{lines_first, lines_prefix, lines_ended, lines_open}
+use Rattle.scene_lines.proofs.FeedCount.{one_feed}
 use Rattle.scene_lines.proofs.Ranges.{prepend_known-append}
+use Rattle.scene_lines.proofs.Settling.{line_ahead_len}
 use Rattle.scene_lines.proofs.laws.line_laws.Goals as goal
 
 pub returns-clause-first : goal.returns-clause-first
@@ -21,3 +23,9 @@ returns-clause-unended c = lines_open
 
 pub returns-clause-in_parts : goal.returns-clause-in_parts
 returns-clause-in_parts c = prepend_known-append
+
+pub returns-clause-near : goal.returns-clause-near
+returns-clause-near c = line_ahead_len
+
+pub returns-clause-one_feed : goal.returns-clause-one_feed
+returns-clause-one_feed c = one_feed
