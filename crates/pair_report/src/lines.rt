@@ -1,6 +1,7 @@
 ghost use Rattle.std.specs.Prelude.{◌≡◌, ◌+◌, ◌≤◌, ◌++◌, length, take, vec_len, codes, decimal, OnOk, OnErr};
 ghost use Rattle.pair_report.specs.declared.report_line.TheConstants.{ROOM};
-ghost use Rattle.pair_report.specs.PairReport.{handle_text, add_line, stale_line, frame_line, event_text, told_line, exchanges_line, kind_text, handles_text, hits_line, end_line, cause_text, refused_line};
+ghost use Rattle.pair_report.specs.PairReport.{handle_text, add_line, stale_line, frame_line, event_text, told_line, exchanges_line, kind_text};
+ghost use Rattle.pair_report.specs.PairReport.{handles_text, hits_line, end_line, cause_text, refused_line};
 
 use crate::Cause;
 use crate::report_line::ReportLine;
