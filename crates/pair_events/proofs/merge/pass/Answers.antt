@@ -1,3 +1,4 @@
+-- A former pair that stands before a present one stands before all later ones, so it is none of them and is over.
 use Rattle.std.proofs.Common.{◌≡◌, ◌∷◌, [], ◌++◌, true, sym, ◌∙◌, ap}
 use Rattle.pair_events.specs.declared.told.Event.TheVariants.{Over}
 use Rattle.pair_events.specs.PairEvents.{kept_or_begun, ended, rises}
