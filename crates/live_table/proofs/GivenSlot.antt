@@ -12,7 +12,8 @@ use Rattle.live_table.proofs.EntryLemmas.{length-entered}
 use Rattle.live_table.proofs.PlacedSlots.{table_in}
 use Rattle.live_table.proofs.SlotCounts.{gives_at, gives_set, sum_set}
 use Rattle.live_table.proofs.WrittenSlot.{enter_set, placed_set, marked_set}
-use Rattle.live_table.proofs.OpenedSlot.{get_or-opened, length-opened, opened_few, entries_of-opened, gives-opened, vacant-opened, placed_opened, live_in_vacant, least_free_is}
+use Rattle.live_table.proofs.OpenedSlot.{get_or-opened, length-opened, opened_few, entries_of-opened, gives-opened, vacant-opened, placed_opened}
+use Rattle.live_table.proofs.OpenedSlot.{live_in_vacant, least_free_is}
 
 give_entries : (slots : List Slot) (slot : ℕ) (s : Slot) (new : Live) → IsPlaced 0 slots → IsLeastVacant slots slot → s.live ≡ Some new → slot_of new ≡ slot
     → entries_of (set (opened slot slots) slot s) ≡ entered new (entries_of slots)

@@ -57,7 +57,8 @@ impl LiveTable {
         self.len
     }
 
-    /// How many boxes were given a slot, those that were taken since among them.
+    /// How many boxes were given a slot, those that were taken since among them. It is for callers of `give`, which asks
+    /// for a number below 4,294,967,295.
     pub fn given(&self) -> u32
         ensures { result ≡ sum self.now.gives }
     {

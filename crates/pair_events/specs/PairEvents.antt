@@ -7,6 +7,7 @@ use Rattle.pair_events.specs.declared.hpair.HPair.{HPair}
 use Rattle.pair_events.specs.declared.told.Told.{Told}
 use Rattle.pair_events.specs.declared.told.Event.TheVariants.{Begin, Stay, Over}
 
+-- A handle is a slot and a generation.
 abbrev pub same_handle : Handle → Handle → Bool
 same_handle h k = h.slot == k.slot && h.generation == k.generation
 
@@ -14,6 +15,7 @@ same_handle h k = h.slot == k.slot && h.generation == k.generation
 abbrev pub same_pair : HPair → HPair → Bool
 same_pair p q = same_handle p.a q.a && same_handle p.b q.b
 
+-- whether the pair is among them
 abbrev pub has : List HPair → HPair → Bool
 has pairs p = list_any (same_pair p) pairs
 
@@ -41,7 +43,7 @@ rises pairs = rises_by precedes pairs
 abbrev pub is_in_order : List HPair → Bool
 is_in_order pairs = list_all (λ p. nat_lt p.a.slot p.b.slot) pairs && rises pairs
 
--- a list doesn't begin with a pair that stands before p
+-- Serves proofs alone: a list doesn't begin with a pair that stands before p.
 abbrev pub begins_at : HPair → List HPair → Bool
 begins_at p [] = true
 begins_at p (q ∷ qs) = not (precedes q p)

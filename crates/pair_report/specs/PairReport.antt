@@ -25,6 +25,7 @@ stale_line handle = codes "stale " ++ handle_text handle ++ codes "\n"
 abbrev pub frame_line : ℕ → ℕ → List ℕ
 frame_line number pairs = codes "frame " ++ decimal number ++ codes " " ++ decimal pairs ++ codes "\n"
 
+-- an event is named by its word
 abbrev pub event_text : Event → List ℕ
 event_text Begin = codes "begin "
 event_text Stay = codes "stay "
@@ -57,6 +58,7 @@ hits_line kind handles = kind_text kind ++ decimal (length handles) ++ handles_t
 abbrev pub end_line : ℕ → ℕ → ℕ → List ℕ
 end_line lines frames live = codes "end " ++ decimal lines ++ codes " " ++ decimal frames ++ codes " " ++ decimal live ++ codes "\n"
 
+-- and a cause by its own
 abbrev pub cause_text : Cause → List ℕ
 cause_text cause.Lines = codes "lines"
 cause_text cause.Long = codes "long"

@@ -1,5 +1,7 @@
 ghost use Rattle.std.specs.Prelude.{◌≡◌, ◌+◌, ◌≤◌, ◌++◌, length, take, vec_len, codes, decimal, OnOk, OnErr};
-ghost use Rattle.pair_report.specs.PairReport.{handle_text, add_line, stale_line, frame_line, event_text, told_line, exchanges_line, kind_text, handles_text, hits_line, end_line, cause_text, refused_line};
+ghost use Rattle.pair_report.specs.declared.report_line.TheConstants.{ROOM};
+ghost use Rattle.pair_report.specs.PairReport.{handle_text, add_line, stale_line, frame_line, event_text, told_line, exchanges_line, kind_text};
+ghost use Rattle.pair_report.specs.PairReport.{handles_text, hits_line, end_line, cause_text, refused_line};
 
 use crate::Cause;
 use crate::report_line::ReportLine;
@@ -60,7 +62,7 @@ pub fn put_told(told: &Told, out: &mut Vec<u8>) -> Result<(), NoMemory>
     Ok(out.extend_from_slice(line.bytes())?)
 }
 
-/// The exchanges of a frame: `exchanges N`.
+/// The exchanges of a frame: `exchanges N`. It is for a play that counts them.
 pub fn put_exchanges(number: u64, out: &mut Vec<u8>) -> Result<(), NoMemory>
     ensures ok { OnOk result (out.new.items ≡ out.old.items ++ exchanges_line number) }
     ensures err { OnErr result (out.new.items ≡ out.old.items) }
@@ -161,7 +163,7 @@ pub fn put_refused(line: u32, cause: Cause, out: &mut Vec<u8>) -> Result<(), NoM
 }
 
 fn put_handle(handle: Handle, line: &mut ReportLine)
-    requires { length line.old + 41 ≤ 128 }
+    requires { length line.old + 41 ≤ ROOM }
     ensures text { line.new ≡ line.old ++ handle_text handle }
     ensures length { length line.new ≤ length line.old + 41 }
 {

@@ -3,23 +3,25 @@ ghost use Rattle.std.specs.Prelude.{◌≡◌, ◌+◌, ◌≤◌, ◌++◌, [],
 use itoa::Buffer;
 use std::marker::Model;
 
-const ROOM: usize = 128;
+// The most bytes of a line that is made at once. The longest has fewer.
+pub(crate) const ROOM: usize = 128;
 
 // One line of a report while it is made, in a room of fixed size, so that it goes out whole or not at all.
 #[derive(Drop)]
 pub(crate) struct ReportLine {
-    bytes: [u8; 128],
+    bytes: [u8; ROOM],
     len: usize,
 }
 
 impl Model for ReportLine {
     ghost use Rattle.std.specs.Prelude.{ℕ, List, take, ◌≤◌};
+    ghost use Rattle.pair_report.specs.declared.report_line.TheConstants.{ROOM};
 
     ghost Value = { List ℕ };
 
     ghost view = { λ line. take line.len line.bytes };
 
-    ghost invariant = { λ line. line.len ≤ 128 };
+    ghost invariant = { λ line. line.len ≤ ROOM };
 }
 
 impl ReportLine {
@@ -27,7 +29,7 @@ impl ReportLine {
         ensures { result ≡ [] }
     {
         ReportLine {
-            bytes: [0; 128],
+            bytes: [0; ROOM],
             len: 0,
         }
     }
@@ -40,7 +42,7 @@ impl ReportLine {
 
     // Puts text at the end.
     pub(crate) fn text(&mut self, text: &[u8])
-        requires { length self.old + length text.now ≤ 128 }
+        requires { length self.old + length text.now ≤ ROOM }
         ensures { self.new ≡ self.old ++ text.now }
     {
         let end = self.len + text.len();
@@ -50,7 +52,7 @@ impl ReportLine {
 
     // Puts a number at the end, in decimal.
     pub(crate) fn number(&mut self, number: u64)
-        requires { length self.old + 20 ≤ 128 }
+        requires { length self.old + 20 ≤ ROOM }
         ensures text { self.new ≡ self.old ++ decimal number }
         ensures length { length self.new ≤ length self.old + 20 }
     {

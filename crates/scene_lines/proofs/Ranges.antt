@@ -1,5 +1,6 @@
 -- Ranges of a buffer, and bytes known to come.
-use Rattle.std.proofs.Common.{◌≡◌, ℕ, ◌+◌, ◌-◌, ◌≤◌, min, List, ◌++◌, length, take, drop, refl, ⊎_elim, sym, ap, ◌∙◌, arith, Some, None, slice_range, append-nil}
+use Rattle.std.proofs.Common.{◌≡◌, ℕ, ◌+◌, ◌-◌, ◌≤◌, min, List, ◌++◌, length, take, drop, refl, ⊎_elim, sym, ap, ◌∙◌, arith, Some, None, slice_range}
+use Rattle.std.proofs.Common.{append-nil}
 use Rattle.std.specs.Prelude.{Option}
 use Rattle.std.specs.Io.KnownBytes.{prepend_known}
 use Rattle.std.proofs.lemmas.List.{take-take, drop-drop, drop-take, append_assoc, take-append-drop, length-take, take_all, drop_all, take_at}

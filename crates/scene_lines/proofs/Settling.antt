@@ -1,5 +1,6 @@
 -- Where the bytes held settle the answer, whatever bytes follow them.
-use Rattle.std.proofs.Common.{◌≡◌, ℕ, ◌+◌, ◌-◌, ◌<◌, ◌≤◌, Bool, true, false, cond, List, [], ◌∷◌, ◌++◌, length, take, refl, sym, ap, ◌∙◌, subst, arith, nat_eq, nat_lt, nat_le, inl, inr, ⊎_elim, ◌⊎◌, Some, None, IfSome, Option, slice_index, append-nil}
+use Rattle.std.proofs.Common.{◌≡◌, ℕ, ◌+◌, ◌-◌, ◌<◌, ◌≤◌, Bool, true, false, cond, List, [], ◌∷◌, ◌++◌, length, take, refl, sym, ap, ◌∙◌, subst}
+use Rattle.std.proofs.Common.{arith, nat_eq, nat_lt, nat_le, inl, inr, ⊎_elim, ◌⊎◌, Some, None, IfSome, Option, slice_index, append-nil}
 use Rattle.std.specs.Option.{option_map}
 use Rattle.std.specs.Str.Lines.{strip_carriage_return}
 use Rattle.std.proofs.lemmas.Bool.{cases_Bool, cases_lt, cond_both, ne_eqb, eqb-false, leb-false, ltb-false, lt-ltb, le-leb}
@@ -10,7 +11,8 @@ use Rattle.scene_lines.specs.Next.{answer_at, OnLine, UnlessFault}
 use Rattle.scene_lines.specs.Reading.{coming}
 use Rattle.scene_lines.specs.declared.TheConstants.{LONGEST_LINE}
 use Rattle.scene_lines.specs.SceneLines.{lines, has_feed, length_ahead, line_ahead, past_line}
-use Rattle.scene_lines.proofs.Cutting.{length_ahead-append, length_ahead-le, length_ahead-within, line_ahead-append, past_line-append, no_feed_below, feed_below, lines_first}
+use Rattle.scene_lines.proofs.Cutting.{length_ahead-append, length_ahead-le, length_ahead-within, line_ahead-append, past_line-append, no_feed_below}
+use Rattle.scene_lines.proofs.Cutting.{feed_below, lines_first}
 
 -- a line is shorter by one carriage return at most
 strip_len : (xs : List ℕ) → length xs ≤ length (strip_carriage_return xs) + 1

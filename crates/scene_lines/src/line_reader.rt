@@ -189,7 +189,7 @@ impl LineReader {
         self.number
     }
 
-    /// Whether an answer other than a line was given.
+    /// Whether an answer other than a line was given. It is for callers of `next`, which asks that none was.
     pub fn ended(&self) -> bool
         ensures { result ≡ self.now.ended }
     {

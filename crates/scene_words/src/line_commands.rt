@@ -1,6 +1,7 @@
 ghost use Rattle.std.specs.Prelude.{◌≡◌};
 ghost use Rattle.scene_words.specs.Verbs.{version_word};
-ghost use Rattle.scene_words.specs.SceneWords.{words, command, further_of, header_of, number_at, point_at, handle_at, mask_at, mask_or, box_between, add_of, move_of, mask_of, remove_of, box_of, point_of, ray_of, seg_of};
+ghost use Rattle.scene_words.specs.SceneWords.{words, command, further_of, header_of, number_at, point_at, handle_at, mask_at, mask_or, box_between};
+ghost use Rattle.scene_words.specs.SceneWords.{add_of, move_of, mask_of, remove_of, box_of, point_of, ray_of, seg_of};
 ghost use Rattle.scene_words.specs.Reads.{Reads};
 
 use crate::line_words::{count_words, next_word};

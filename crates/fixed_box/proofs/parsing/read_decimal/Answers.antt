@@ -3,7 +3,9 @@ use Rattle.std.proofs.Common.{◌≡◌, ◌==◌, get_or, sym, ◌∙◌, arith
 use Rattle.std.specs.List.{slice_split}
 use Rattle.fixed_box.proofs.DigitRuns.{decimal_point_at, decimal_stops_at, decimal_full_at, decimal_starts}
 use Rattle.fixed_box.proofs.parsing.read_decimal.Goals as goal
-use Rattle.fixed_box.proofs.parsing.read_decimal.Goals.{then-not-is_ascii_digit-via-then-not-is_ascii_digit, then-not-is_ascii_digit-via-else-not-is_ascii_digit+then-count-eq-WHOLE_DIGITS, else-byte-eq46-via-then-byte-eq46+else-count-gt0, else-byte-eq46-via-else-byte-eq46}
+use Rattle.fixed_box.proofs.parsing.read_decimal.Goals.{then-not-is_ascii_digit-via-then-not-is_ascii_digit}
+use Rattle.fixed_box.proofs.parsing.read_decimal.Goals.{then-not-is_ascii_digit-via-else-not-is_ascii_digit+then-count-eq-WHOLE_DIGITS}
+use Rattle.fixed_box.proofs.parsing.read_decimal.Goals.{else-byte-eq46-via-then-byte-eq46+else-count-gt0, else-byte-eq46-via-else-byte-eq46}
 
 pub returns-then-count-gt0-clause-value : goal.returns-then-count-gt0-clause-value
 returns-then-count-gt0-clause-value c =

@@ -1,4 +1,4 @@
--- a present pair, by how it stands to the first of the former ones
+-- By the order, a present pair is only where the first of the former ones left is, if it is there at all.
 use Rattle.std.proofs.Common.{◌≡◌, true, false, not, List, ◌∷◌, [], ◌++◌, sym, ◌∙◌, ap, subst, refl}
 use Rattle.pair_events.specs.declared.hpair.HPair.{HPair}
 use Rattle.pair_events.specs.declared.told.Event.TheVariants.{Begin, Stay, Over}
