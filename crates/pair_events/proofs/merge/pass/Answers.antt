@@ -1,8 +1,4 @@
-<<<<<<< HEAD
--- a former pair that stands before a present one is over
-=======
 -- A former pair that stands before a present one stands before all later ones, so it is none of them and is over.
->>>>>>> low/main
 use Rattle.std.proofs.Common.{◌≡◌, ◌∷◌, [], ◌++◌, true, sym, ◌∙◌, ap}
 use Rattle.fixed_box.specs.RisingLaws.{later_rise}
 use Rattle.pair_events.specs.declared.told.Event.TheVariants.{Over}
