@@ -1,4 +1,4 @@
--- What meets the box of a slot.
+-- Definitions: what meets the box of a slot.
 use Rattle.std.specs.Prelude.{ℕ, not, ◌&&◌, ◌==◌, List, [], map, filter, Option, Some, None}
 use Rattle.std.specs.Ordering.{nat_cmp}
 use Rattle.std.specs.FinMap.{FinMap, entries, get}

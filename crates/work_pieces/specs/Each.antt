@@ -1,4 +1,4 @@
--- What a call of a closure at each item of a list gives.
+-- Definitions: what calls of a closure at the items of a list give.
 use Rattle.std.specs.Prelude.{◌≡◌, List, [], ◌∷◌, All, Result, Ok}
 use denote.Ref.{Bor}
 use denote.Param.Members.{Shared}
