@@ -1,1 +1,12 @@
+pub mod AmongEntries
+pub mod Answering
+pub mod Gathering
+pub mod Holding
+pub mod MapMembers
+pub mod Merging
+pub mod OneRising
+pub mod Renewing
+pub mod Seeking
+pub mod Settled
 pub mod SortedEntries
+pub mod Touching

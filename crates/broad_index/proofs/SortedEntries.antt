@@ -1,12 +1,14 @@
 -- Entries in order of their slots, the map that they are, and the place of a slot among them.
-use Rattle.std.proofs.Common.{◌≡◌, ℕ, zero, suc, ◌<◌, ◌≤◌, Bool, true, false, cond, T, ◌&&◌, List, [], ◌∷◌, length, get_or, set, insert, remove, not, None, is_some, Some, refl, sym, ap, ◌∙◌, subst, arith, nat_lt}
+use Rattle.std.proofs.Common.{◌≡◌, ℕ, zero, suc, ◌<◌, ◌≤◌, Bool, true, false, cond, T, ◌&&◌, List, [], ◌∷◌, length, get_or, set, insert, remove, not, None}
+use Rattle.std.proofs.Common.{is_some, Some, refl, sym, ap, ◌∙◌, subst, arith, nat_lt}
 use Rattle.std.specs.Ordering.{nat_cmp, is_lt, is_eq, eq_by_cmp}
 use Rattle.std.specs.declared.cmp.Ordering.{Ordering}
 use Rattle.std.specs.declared.cmp.Ordering.TheVariants.{Less, Equal, Greater}
 use Rattle.std.specs.Cmp.{ranked, nat_cmp_is, eq_by_cmp_equiv, alike_right}
 use Rattle.std.specs.List.{AllWithin}
 use Rattle.std.specs.List.Sorted.{IsPartitionedBy}
-use Rattle.std.specs.FinMap.{entries, entries-insert, entries-from_sorted, from_sorted, is_sorted, find, empty, remove as remove_key, get-remove, same_map, nat_cmp-IsAntisymmetric, empty_of_len, len-entries, same_entries_map, contains_key, get-from_sorted, insert as insert_key}
+use Rattle.std.specs.FinMap.{entries, entries-insert, entries-from_sorted, from_sorted, is_sorted, find, empty, remove as remove_key, get-remove, same_map}
+use Rattle.std.specs.FinMap.{nat_cmp-IsAntisymmetric, empty_of_len, len-entries, same_entries_map, contains_key, get-from_sorted, insert as insert_key}
 use Rattle.std.specs.FinMap.Entries.{put, below_all, is_sorted-put, where_key, is_sorted-where_key, find-where_key}
 use Rattle.std.proofs.lemmas.Cmp.{nat_cmp_total}
 use Rattle.std.proofs.lemmas.Bool.Decides.{nat_tests}
@@ -16,7 +18,9 @@ both_from true b h = (tt, h)
 both_from false b h = absurd h
 
 lt_from : (x y : ℕ) → T (is_lt (nat_cmp x y)) → x < y
-lt_from x y h = elim (nat_cmp x y) as (λ r. r ≡ nat_cmp x y → T (is_lt r) → x < y) [ Less ↦ λ e _. ranked x y Less e | Equal ↦ λ _ h. absurd h | Greater ↦ λ _ h. absurd h ] refl h
+lt_from x y h =
+    elim (nat_cmp x y) as
+    (λ r. r ≡ nat_cmp x y → T (is_lt r) → x < y) [ Less ↦ λ e _. ranked x y Less e | Equal ↦ λ _ h. absurd h | Greater ↦ λ _ h. absurd h ] refl h
 
 after : (k x : ℕ) → nat_lt x k ≡ true → nat_cmp k x ≡ Greater
 after k x lt = let below : x < k = grind (arith, nat_tests) in sym (nat_cmp_is k x Greater below)
@@ -66,7 +70,8 @@ module _ {X : Type 0} where
   insert_is_put [] k v (suc i) absent le below above = absurd (omega arith)
   insert_is_put (e ∷ es) k v zero absent le below above =
       let not_lt : nat_lt e.0 k ≡ false = above 0 e (omega arith) (omega arith) in
-      elim (eq_by_cmp nat_cmp k e.0) as (λ b. eq_by_cmp nat_cmp k e.0 ≡ b → is_some (cond b (Some e.1) (find nat_cmp k es)) ≡ false → insert (e ∷ es) 0 (k, v) ≡ put nat_cmp k v (e ∷ es)) [
+      elim (eq_by_cmp nat_cmp k e.0) as
+      (λ b. eq_by_cmp nat_cmp k e.0 ≡ b → is_some (cond b (Some e.1) (find nat_cmp k es)) ≡ false → insert (e ∷ es) 0 (k, v) ≡ put nat_cmp k v (e ∷ es)) [
         | true ↦ λ _ none. cc
         | false ↦ λ ne _. rw (before k e.0 not_lt ne) refl
       ] refl absent
@@ -74,17 +79,21 @@ module _ {X : Type 0} where
       let lt : nat_lt e.0 k ≡ true = below 0 e (omega arith) (omega arith) in
       let greater : nat_cmp k e.0 ≡ Greater = after k e.0 lt in
       let rest : is_some (find nat_cmp k es) ≡ false = subst (λ r. is_some (cond (is_eq r) (Some e.1) (find nat_cmp k es)) ≡ false) greater absent in
-      rw greater (ap (λ xs. e ∷ xs) (insert_is_put es k v i rest (omega arith) (λ j d lo hi. below (suc j) d (omega arith) (omega arith)) (λ j d lo hi. above (suc j) d (omega arith) (omega arith))))
+      rw greater
+      (ap (λ xs. e ∷ xs) (insert_is_put es k v i rest (omega arith) (λ j d lo hi. below (suc j) d (omega arith) (omega arith))
+      (λ j d lo hi. above (suc j) d (omega arith) (omega arith))))
 
   -- sorted entries are a map, and putting one in is putting it into the map
   pub sorted_put : (es : List (ℕ × X)) (k : ℕ) (v : X) → T (is_sorted nat_cmp es) → T (is_sorted nat_cmp (put nat_cmp k v es))
   sorted_put es k v h = is_sorted-put nat_cmp nat_cmp_total k v es h
 
-  pub from_sorted-put : (es : List (ℕ × X)) (k : ℕ) (v : X) → T (is_sorted nat_cmp es) → from_sorted {R = nat_cmp} (put nat_cmp k v es) ≡ insert_key (from_sorted {R = nat_cmp} es) k v
+  pub from_sorted-put : (es : List (ℕ × X)) (k : ℕ) (v : X) → T (is_sorted nat_cmp es)
+      → from_sorted {R = nat_cmp} (put nat_cmp k v es) ≡ insert_key (from_sorted {R = nat_cmp} es) k v
   from_sorted-put es k v h = same_entries_map _ _ (entries-from_sorted nat_cmp (put nat_cmp k v es) (sorted_put es k v h)
       ∙ sym (entries-insert nat_cmp_total (from_sorted {R = nat_cmp} es) k v ∙ ap (put nat_cmp k v) (entries-from_sorted nat_cmp es h)))
 
-  pub absent_from : (es : List (ℕ × X)) (k : ℕ) → T (is_sorted nat_cmp es) → contains_key (from_sorted {R = nat_cmp} es) k ≡ false → is_some (find nat_cmp k es) ≡ false
+  pub absent_from : (es : List (ℕ × X)) (k : ℕ) → T (is_sorted nat_cmp es) → contains_key (from_sorted {R = nat_cmp} es) k ≡ false
+      → is_some (find nat_cmp k es) ≡ false
   absent_from es k h absent = ap is_some (sym (get-from_sorted nat_cmp es k h)) ∙ absent
 
   pub from_sorted-nil : from_sorted {R = nat_cmp} [] ≡ empty {K = ℕ} {X = X} {R = nat_cmp}
@@ -102,7 +111,8 @@ module _ {X : Type 0} where
       rw less (none_below k x es le (both_from _ _ h).1)
 
   -- at the place where those below a slot end, the slot stands where it is present
-  here : (e : ℕ × X) (es : List (ℕ × X)) (k : ℕ) → T (is_sorted nat_cmp (e ∷ es)) → is_some (find nat_cmp k (e ∷ es)) ≡ true → nat_lt e.0 k ≡ false → nat_cmp k e.0 ≡ Equal
+  here : (e : ℕ × X) (es : List (ℕ × X)) (k : ℕ) → T (is_sorted nat_cmp (e ∷ es)) → is_some (find nat_cmp k (e ∷ es)) ≡ true → nat_lt e.0 k ≡ false
+      → nat_cmp k e.0 ≡ Equal
   here e es k h present ge =
       elim (eq_by_cmp nat_cmp k e.0) as (λ b. eq_by_cmp nat_cmp k e.0 ≡ b → is_some (cond b (Some e.1) (find nat_cmp k es)) ≡ true → nat_cmp k e.0 ≡ Equal) [
         | true ↦ λ tied _. tie (nat_cmp k e.0) tied
@@ -125,11 +135,13 @@ module _ {X : Type 0} where
   past : (e : ℕ × X) (es : List (ℕ × X)) (k : ℕ) → is_some (find nat_cmp k (e ∷ es)) ≡ true → nat_lt e.0 k ≡ true → is_some (find nat_cmp k es) ≡ true
   past e es k present lt = subst (λ r. is_some (cond (is_eq r) (Some e.1) (find nat_cmp k es)) ≡ true) (after k e.0 lt) present
 
-  pub present_within : (es : List (ℕ × X)) (k : ℕ) (i : ℕ) → is_some (find nat_cmp k es) ≡ true → i ≤ length es → AllWithin (λ e. nat_lt e.0 k ≡ true) es 0 i → i < length es
+  pub present_within : (es : List (ℕ × X)) (k : ℕ) (i : ℕ) → is_some (find nat_cmp k es) ≡ true → i ≤ length es → AllWithin (λ e. nat_lt e.0 k ≡ true) es 0 i
+      → i < length es
   present_within [] k i present le below = cc
   present_within (e ∷ es) k zero present le below = omega arith
   present_within (e ∷ es) k (suc i) present le below =
-      let rest : i < length es = present_within es k i (past e es k present (below 0 e (omega arith) (omega arith))) (omega arith) (λ j d lo hi. below (suc j) d (omega arith) (omega arith)) in omega arith
+      let rest : i < length es = present_within es k i (past e es k present (below 0 e (omega arith) (omega arith))) (omega arith)
+      (λ j d lo hi. below (suc j) d (omega arith) (omega arith)) in omega arith
 
   pub set_is_put : (es : List (ℕ × X)) (k : ℕ) (v : X) (i : ℕ) → T (is_sorted nat_cmp es) → is_some (find nat_cmp k es) ≡ true → i ≤ length es
       → AllWithin (λ e. nat_lt e.0 k ≡ true) es 0 i → AllWithin (λ e. nat_lt e.0 k ≡ false) es i (length es) → set es i (k, v) ≡ put nat_cmp k v es
@@ -139,7 +151,9 @@ module _ {X : Type 0} where
       rw equal (ap (λ x. (x, v) ∷ es) (ranked k e.0 Equal (sym equal)))
   set_is_put (e ∷ es) k v (suc i) h present le below above =
       let lt : nat_lt e.0 k ≡ true = below 0 e (omega arith) (omega arith) in
-      rw (after k e.0 lt) (ap (λ xs. e ∷ xs) (set_is_put es k v i (both_from _ _ h).1 (past e es k present lt) (omega arith) (λ j d lo hi. below (suc j) d (omega arith) (omega arith)) (λ j d lo hi. above (suc j) d (omega arith) (omega arith))))
+      rw (after k e.0 lt)
+      (ap (λ xs. e ∷ xs) (set_is_put es k v i (both_from _ _ h).1 (past e es k present lt) (omega arith)
+      (λ j d lo hi. below (suc j) d (omega arith) (omega arith)) (λ j d lo hi. above (suc j) d (omega arith) (omega arith))))
 
   all_stay : (k : ℕ) (es : List (ℕ × X)) → T (below_all nat_cmp k es) → where_key nat_cmp (other_than k) es ≡ es
   all_stay k [] h = refl
@@ -156,14 +170,18 @@ module _ {X : Type 0} where
       rw equal (sym (all_stay k es (subst (λ x. T (below_all nat_cmp x es)) (sym same) (both_from _ _ h).0)))
   remove_is_filter (e ∷ es) k (suc i) h present le below above =
       let lt : nat_lt e.0 k ≡ true = below 0 e (omega arith) (omega arith) in
-      rw (after k e.0 lt) (ap (λ xs. e ∷ xs) (remove_is_filter es k i (both_from _ _ h).1 (past e es k present lt) (omega arith) (λ j d lo hi. below (suc j) d (omega arith) (omega arith)) (λ j d lo hi. above (suc j) d (omega arith) (omega arith))))
+      rw (after k e.0 lt)
+      (ap (λ xs. e ∷ xs) (remove_is_filter es k i (both_from _ _ h).1 (past e es k present lt) (omega arith)
+      (λ j d lo hi. below (suc j) d (omega arith) (omega arith)) (λ j d lo hi. above (suc j) d (omega arith) (omega arith))))
 
   pub sorted_removed : (es : List (ℕ × X)) (k : ℕ) (i : ℕ) → T (is_sorted nat_cmp es) → is_some (find nat_cmp k es) ≡ true → i ≤ length es
       → AllWithin (λ e. nat_lt e.0 k ≡ true) es 0 i → AllWithin (λ e. nat_lt e.0 k ≡ false) es i (length es) → T (is_sorted nat_cmp (remove es i))
-  sorted_removed es k i h present le below above = subst (λ xs. T (is_sorted nat_cmp xs)) (sym (remove_is_filter es k i h present le below above)) (is_sorted-where_key nat_cmp (other_than k) es h)
+  sorted_removed es k i h present le below above =
+      subst (λ xs. T (is_sorted nat_cmp xs)) (sym (remove_is_filter es k i h present le below above)) (is_sorted-where_key nat_cmp (other_than k) es h)
 
   pub from_sorted-remove : (es : List (ℕ × X)) (k : ℕ) (i : ℕ) → T (is_sorted nat_cmp es) → is_some (find nat_cmp k es) ≡ true → i ≤ length es
-      → AllWithin (λ e. nat_lt e.0 k ≡ true) es 0 i → AllWithin (λ e. nat_lt e.0 k ≡ false) es i (length es) → from_sorted {R = nat_cmp} (remove es i) ≡ remove_key (from_sorted {R = nat_cmp} es) k
+      → AllWithin (λ e. nat_lt e.0 k ≡ true) es 0 i → AllWithin (λ e. nat_lt e.0 k ≡ false) es i (length es)
+      → from_sorted {R = nat_cmp} (remove es i) ≡ remove_key (from_sorted {R = nat_cmp} es) k
   from_sorted-remove es k i h present le below above =
       same_map nat_cmp_total nat_cmp-IsAntisymmetric _ _ (λ q.
       get-from_sorted nat_cmp (remove es i) q (sorted_removed es k i h present le below above)
@@ -172,5 +190,6 @@ module _ {X : Type 0} where
       ∙ turned (eq_by_cmp nat_cmp k q) _ _ ∙ ap (λ b. cond b None (find nat_cmp q es)) (same_tie k q)
       ∙ sym (get-remove nat_cmp_total (from_sorted {R = nat_cmp} es) k q ∙ ap (cond (eq_by_cmp nat_cmp q k) None) (get-from_sorted nat_cmp es q h)))
 
-  pub present_from : (es : List (ℕ × X)) (k : ℕ) → T (is_sorted nat_cmp es) → contains_key (from_sorted {R = nat_cmp} es) k ≡ true → is_some (find nat_cmp k es) ≡ true
+  pub present_from : (es : List (ℕ × X)) (k : ℕ) → T (is_sorted nat_cmp es) → contains_key (from_sorted {R = nat_cmp} es) k ≡ true
+      → is_some (find nat_cmp k es) ≡ true
   present_from es k h present = ap is_some (sym (get-from_sorted nat_cmp es k h)) ∙ present

@@ -1,4 +1,4 @@
--- The boxes of a map that meet a query.
+-- Definitions: the boxes of a map that meet a query.
 use Rattle.std.specs.Prelude.{ℕ, Bool, List, map, filter}
 use Rattle.std.specs.Ordering.{nat_cmp}
 use Rattle.std.specs.FinMap.{FinMap, entries}

@@ -1,4 +1,4 @@
--- An index at the outset.
+-- Definitions: an index at the outset.
 use Rattle.std.specs.Prelude.{◌≡◌, ℕ, Bool, false}
 use Rattle.std.specs.Ordering.{nat_cmp}
 use Rattle.std.specs.FinMap.{FinMap, empty}

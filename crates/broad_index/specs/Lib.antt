@@ -1,6 +1,10 @@
 pub mod Exchanges
 pub mod Found
 pub mod Fresh
+pub mod Held
 pub mod Index
+pub mod Members
 pub mod Near
 pub mod NearRises
+pub mod Searched
+pub mod Touched

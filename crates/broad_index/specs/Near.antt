@@ -1,4 +1,4 @@
--- The pairs of boxes that meet, of a map from slot to box.
+-- Definitions: the pairs of boxes that meet, of a map from slot to box.
 use Rattle.std.specs.Prelude.{ℕ, Bool, ◌&&◌, ◌||◌, nat_lt, ◌==◌, List, [], ◌∷◌, ◌++◌, map, filter}
 use Rattle.std.specs.Ordering.{nat_cmp}
 use Rattle.std.specs.FinMap.{FinMap, entries}

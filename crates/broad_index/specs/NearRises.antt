@@ -16,7 +16,7 @@ use Rattle.fixed_box.specs.RisingLaws.{all_hold, filtered_rise, joined_rise, map
 use Rattle.broad_index.specs.declared.pair.Pair.{Pair}
 use Rattle.broad_index.specs.Near.{partners, near_of, near, precedes, rises}
 
-true_from : (b : Bool) → T b → b ≡ true
+pub true_from : (b : Bool) → T b → b ≡ true
 true_from true h = refl
 true_from false h = absurd h
 
@@ -34,14 +34,14 @@ by_second : (p q : Pair) → p.a ≡ q.a → nat_lt p.b q.b ≡ true → precede
 by_second p q same lt = grind (arith, nat_tests)
 
 -- the entries of a map rise by their slots
-abbrev slot_lt : ℕ × Bounds → ℕ × Bounds → Bool
+abbrev pub slot_lt : ℕ × Bounds → ℕ × Bounds → Bool
 slot_lt e f = nat_lt e.0 f.0
 
 slots_above : (slot : ℕ) (es : List (ℕ × Bounds)) → below_all nat_cmp slot es ≡ true → list_all (λ e. nat_lt slot e.0) es ≡ true
 slots_above slot [] h = refl
 slots_above slot (e ∷ es) h = both_true (lt_from slot e.0 (first_so _ _ h)) (slots_above slot es (second_so _ _ h))
 
-entries_rise : (es : List (ℕ × Bounds)) → is_sorted nat_cmp es ≡ true → rises_by slot_lt es ≡ true
+pub entries_rise : (es : List (ℕ × Bounds)) → is_sorted nat_cmp es ≡ true → rises_by slot_lt es ≡ true
 entries_rise [] h = refl
 entries_rise (e ∷ es) h = both_true (slots_above e.0 es (first_so _ _ h)) (entries_rise es (second_so _ _ h))
 
@@ -70,7 +70,8 @@ near_of_rises (e ∷ later) h =
     (partners_rise e.0 e.1 later (second_so _ _ h))
     (near_of_rises later (second_so _ _ h))
     (list_all-map (λ p. list_all (precedes p) (near_of later)) (pair e.0) (filter (λ o. meets e.1 o.1) later)
-    ∙ all_hold (λ o. list_all (precedes (pair e.0 o)) (near_of later)) (λ o. before_near (pair e.0 o) later (first_so _ _ h)) (filter (λ o. meets e.1 o.1) later))
+    ∙ all_hold (λ o. list_all (precedes (pair e.0 o)) (near_of later)) (λ o. before_near (pair e.0 o) later (first_so _ _ h))
+    (filter (λ o. meets e.1 o.1) later))
 
 pub near_rises : (bodies : FinMap nat_cmp Bounds) → rises (near bodies) ≡ true
 near_rises bodies = near_of_rises (entries bodies) (entries_rise (entries bodies) (true_from _ (entries_sorted bodies)))

@@ -1,4 +1,4 @@
-ghost use Rattle.std.specs.Prelude.{◌≡◌, ℕ, ◌+◌, ◌<◌, ◌≤◌, ◌^◌, ◌++◌, Bool, true, false, OnOk, OnErr};
+ghost use Rattle.std.specs.Prelude.{◌≡◌, ℕ, ◌+◌, ◌<◌, ◌≤◌, ◌^◌, ◌++◌, Bool, true, false, List, [], length, map as mapped, sum, All, Option, None, OnOk, OnErr, IfOk, IfSome};
 ghost use Rattle.std.specs.Ordering.{nat_cmp};
 ghost use Rattle.std.specs.FinMap as map;
 ghost use Rattle.fixed_box.specs.Bounds.{Bounds};
@@ -6,9 +6,14 @@ ghost use Rattle.broad_index.specs.Exchanges.{passed_by_add, passed_by_shift};
 ghost use Rattle.broad_index.specs.Found.{found};
 ghost use Rattle.broad_index.specs.Near.{near, rises};
 ghost use Rattle.broad_index.specs.NearRises.{near_rises};
+ghost use Rattle.slot_search.specs.Reach.{reach};
 
 use crate::{Pair, Query};
 use fixed_box::{FBox, NoMemory, SLOTS};
+use slot_search::{Seeker, seek_many};
+use std::alloc::Global;
+use std::thread::Threads;
+use work_pieces::Gate;
 
 /// A broad phase keeps moving boxes under slots and tells which of them may touch.
 ///
@@ -28,6 +33,9 @@ use fixed_box::{FBox, NoMemory, SLOTS};
 ///
 /// Where memory runs out in `add` or `shift`, the index is spent, and nothing is said of its map from then on but that
 /// the other calls leave it. A spent index answers want of memory wherever a call may.
+///
+/// `pairs_with` searches on several threads where the structure shares a [`Seeker`] with them, and else it is `pairs`. A
+/// structure that shares none has `NoSeeker` for its `Shared`, seeks no slot, and keeps the bodies of `share` and `merge`.
 pub trait BroadPhase {
     /// Whether exchanges of endpoints are counted.
     const COUNTS: bool;
@@ -42,6 +50,18 @@ pub trait BroadPhase {
 
     /// The number of exchanges since the index was made or last cleared.
     ghost exchanges: { Self → ℕ };
+
+    /// What an `Ok` of `pairs` or `pairs_with` does to what the index keeps beside its boxes, as marks and counters.
+    ghost paired: { Self → Self → Type 0 };
+
+    /// The slots that are sought on several threads, in this order.
+    ghost sought: { Self → List ℕ } = { λ _. [] };
+
+    /// What the search of each slot costs, where that is told.
+    ghost costs: { Self → Option (ℕ → ℕ) } = { λ _. None };
+
+    /// What several threads search while nobody changes the index.
+    type Shared: Seeker + Sync;
 
     /// Puts a box under a slot that is absent. After an `Err` the index is spent.
     fn add(&mut self, slot: u32, body: FBox) -> Result<(), NoMemory>
@@ -81,7 +101,38 @@ pub trait BroadPhase {
         ensures err { OnErr result (out.new.items ≡ out.old.items) }
         ensures bodies { bodies self.new ≡ bodies self.old }
         ensures spent { spent self.new ≡ spent self.old }
-        ensures exchanges { spent self.old ≡ false → exchanges self.new ≡ exchanges self.old };
+        ensures exchanges { spent self.old ≡ false → exchanges self.new ≡ exchanges self.old }
+        ensures paired { OnOk result (paired self.old self.new) }
+        ensures kept { OnErr result (self.new ≡ self.old) };
+
+    /// The same, where several threads search at once. The slots that are sought are cut into pieces of
+    /// `ceil(n / workers)`, and each piece enters the gate once, as [`seek_many`] says.
+    final fn pairs_with<R: Threads + Sync, G: Gate + Sync>(
+        &mut self,
+        rt: &R,
+        workers: u32,
+        gate: &G,
+        out: &mut Vec<Pair>,
+    ) -> Result<(), NoMemory>
+    where
+        Self: Sync + Sized,
+        requires workers { (1 ≤ workers) × (workers ≤ 16) }
+        ensures was_sound { OnOk result (spent self.old ≡ false) }
+        ensures ok { OnOk result (out.new.items ≡ out.old.items ++ near (bodies self.old)) }
+        ensures err { OnErr result (out.new.items ≡ out.old.items) }
+        ensures bodies { bodies self.new ≡ bodies self.old }
+        ensures spent { spent self.new ≡ spent self.old }
+        ensures exchanges { spent self.old ≡ false → exchanges self.new ≡ exchanges self.old }
+        ensures paired { OnOk result (paired self.old self.new) }
+        ensures kept { OnErr result (self.new ≡ self.old) }
+    {
+        let alloc = *out.allocator();
+        let Some((index, slots)) = self.share(alloc)? else {
+            return self.pairs(out);
+        };
+        let (lists, cost) = seek_many(rt, alloc, index, &slots, workers, gate)?;
+        self.merge(&slots, &lists, cost, out)
+    }
 
     /// Appends the present slots whose boxes meet a query, in rising order. After an `Err` `out` is as before.
     fn hits(&self, query: &Query, out: &mut Vec<u32>) -> Result<(), NoMemory>
@@ -99,6 +150,45 @@ pub trait BroadPhase {
         ensures cleared { spent self.old ≡ false → exchanges self.new ≡ 0 }
         ensures bodies { bodies self.new ≡ bodies self.old }
         ensures spent { spent self.new ≡ spent self.old };
+
+    /// What several threads may search, with the slots to seek, and `None` where `pairs` finds all by itself.
+    fn share(&self, alloc: Global) -> Result<Option<(&Self::Shared, Vec<u32>)>, NoMemory>
+        ensures sound { IfOk result (λ shared. IfSome shared (λ s. spent self.now ≡ false)) }
+        ensures bodies { IfOk result (λ shared. IfSome shared (λ s. Self.Shared.bodies s.0.now ≡ bodies self.now)) }
+        ensures costs { IfOk result (λ shared. IfSome shared (λ s. Self.Shared.costs s.0.now ≡ costs self.now)) }
+        ensures slots { IfOk result (λ shared. IfSome shared (λ s. s.1.items ≡ sought self.now)) }
+        ensures present { IfOk result (λ shared. IfSome shared (λ s. All (λ slot. map.contains_key (bodies self.now) slot ≡ true) s.1.items)) }
+        ensures few { IfOk result (λ shared. IfSome shared (λ s. length s.1.items < 2 ^ 32)) }
+    {
+        Ok(None)
+    }
+
+    /// Does what `pairs` does, where it is known what each slot reaches that was sought, and what the searches cost.
+    fn merge(
+        &mut self,
+        slots: &[u32],
+        lists: &[Vec<u32>],
+        cost: u64,
+        out: &mut Vec<Pair>,
+    ) -> Result<(), NoMemory>
+        requires sound { spent self.old ≡ false }
+        requires slots { slots.now ≡ sought self.old }
+        requires lists { mapped (λ list. list.items) lists.now ≡ mapped (reach (bodies self.old)) slots.now }
+        requires cost { IfSome (costs self.old) (λ each. cost ≡ sum (mapped each slots.now)) }
+        ensures was_sound { OnOk result (spent self.old ≡ false) }
+        ensures ok { OnOk result (out.new.items ≡ out.old.items ++ near (bodies self.old)) }
+        ensures err { OnErr result (out.new.items ≡ out.old.items) }
+        ensures bodies { bodies self.new ≡ bodies self.old }
+        ensures spent { spent self.new ≡ spent self.old }
+        ensures exchanges { spent self.old ≡ false → exchanges self.new ≡ exchanges self.old }
+        ensures paired { OnOk result (paired self.old self.new) }
+        ensures kept { OnErr result (self.new ≡ self.old) }
+    {
+        let _ = slots;
+        let _ = lists;
+        let _ = cost;
+        self.pairs(out)
+    }
 
     /// An index that doesn't count has no exchanges.
     ghost uncounted: { (index : Self) → COUNTS ≡ false → exchanges index ≡ 0 };

@@ -10,6 +10,7 @@ ghost use Rattle.broad_index.specs.Near.{near_of, partners};
 
 use crate::{BroadPhase, Pair, Query};
 use fixed_box::{FBox, NoMemory};
+use slot_search::NoSeeker;
 use std::alloc::Global;
 use std::marker::Model;
 
@@ -59,6 +60,11 @@ impl BroadPhase for PlainIndex {
     ghost COUNTS = { false };
 
     ghost exchanges = { λ _. 0 };
+
+    // It changes nothing.
+    ghost paired = { λ old new. new ≡ old };
+
+    type Shared = NoSeeker;
 
     ghost uncounted = { λ _ _. refl };
 

@@ -1,4 +1,4 @@
--- Lists in rising order, whatever their elements and whichever the order.
+-- Definitions: lists in rising order, whatever their elements and whichever the order.
 use Rattle.std.specs.Prelude.{Bool, true, ◌&&◌, List, [], ◌∷◌}
 use Rattle.std.specs.List.{list_all}
 

@@ -1,0 +1,111 @@
+-- What a sort and a `dedup` leave.
+use Rattle.std.proofs.Common.{◌≡◌, ℕ, ◌<◌, Bool, true, false, cond, ◌&&◌, ◌||◌, ◌==◌, nat_lt, List, [], ◌∷◌, refl, sym, ap, ◌∙◌, arith, inl, inr}
+use lib.Dec.{eqb}
+use Rattle.std.specs.List.{list_all, list_any, dedup, dedup_from, AllByRecursion}
+use Rattle.std.specs.List.Sorted.{IsPermutation, IsSorted, IsStrictlySortedBy}
+use Rattle.std.specs.Ordering.{nat_cmp, is_eq, eq_by_cmp, on, then_cmp, ordering_then}
+use Rattle.std.specs.declared.cmp.Ordering.{Ordering}
+use Rattle.std.specs.declared.cmp.Ordering.TheVariants.{Less, Equal, Greater}
+use Rattle.std.specs.Cmp.{IsTotalOrder, ranked}
+use Rattle.std.specs.Cmp.Derive.{both_true}
+use Rattle.std.proofs.lemmas.Bool.{cases_Bool}
+use Rattle.std.proofs.lemmas.Bool.Decides.{nat_tests}
+use Rattle.std.proofs.lemmas.Cmp.{nat_cmp_total, on_total, then_total}
+use Rattle.std.proofs.lemmas.List.Kept.{IsStrictlySortedBy-dedup}
+use Rattle.std.proofs.lemmas.List.Sorted.{list_any-IsPermutation}
+use Rattle.broad_index.specs.declared.pair.Pair.{Pair}
+use Rattle.fixed_box.specs.Rising.{rises_by}
+use Rattle.broad_index.specs.Near.{precedes, rises}
+use Rattle.broad_index.specs.Members.{same_pair, slots_rise}
+use Rattle.broad_index.proofs.MapMembers.{eq_cmp}
+use Rattle.broad_index.proofs.OneRising.{is_same}
+
+or_twice : (a b : Bool) → (a || b) ≡ (a || (a || b))
+or_twice true b = refl
+or_twice false b = refl
+
+module _ {X : Type 0} (same : X → X → Bool) (means : (x y : X) → same x y ≡ true → x ≡ y) (test : X → Bool) where
+  any_from : (k : X) (xs : List X) → list_any test (dedup_from same k xs) ≡ (test k || list_any test xs)
+  any_from k [] = refl
+  any_from k (x ∷ xs) =
+      elim (cases_Bool (same x k)) as
+      (λ _. list_any test (cond (same x k) (dedup_from same k xs) (k ∷ dedup_from same x xs)) ≡ (test k || (test x || list_any test xs))) [
+        | inl t ↦
+            ap (λ b. list_any test (cond b (dedup_from same k xs) (k ∷ dedup_from same x xs))) t ∙ any_from k xs ∙ or_twice (test k) (list_any test xs)
+            ∙ ap (λ z. test k || (test z || list_any test xs)) (sym (means x k t))
+        | inr f ↦ ap (λ b. list_any test (cond b (dedup_from same k xs) (k ∷ dedup_from same x xs))) f ∙ ap (λ b. test k || b) (any_from x xs)
+      ]
+
+  any_dedup : (xs : List X) → list_any test (dedup same xs) ≡ list_any test xs
+  any_dedup [] = refl
+  any_dedup (x ∷ xs) = any_from x xs
+
+  pub any_settled : (xs ys : List X) → IsPermutation xs ys → list_any test (dedup same ys) ≡ list_any test xs
+  any_settled xs ys moved = any_dedup ys ∙ sym (list_any-IsPermutation test xs ys moved)
+
+module _ {X : Type 0} (R : X → X → Ordering) (lt : X → X → Bool) (less : (x y : X) → R x y ≡ Less → lt x y ≡ true) where
+  all_after : (x : X) (xs : List X) → AllByRecursion (λ y. R x y ≡ Less) xs → list_all (lt x) xs ≡ true
+  all_after x [] h = refl
+  all_after x (y ∷ ys) h = both_true (less x y h.0) (all_after x ys h.1)
+
+  rises_from : (xs : List X) → IsStrictlySortedBy R xs → rises_by lt xs ≡ true
+  unfolding IsStrictlySortedBy
+  rises_from [] h = refl
+  rises_from (x ∷ xs) h = both_true (all_after x xs h.0) (rises_from xs h.1)
+
+  pub rises_settled : (o : IsTotalOrder R) (same : X → X → Bool) → ((x y : X) → same x y ≡ eq_by_cmp R x y) → (xs : List X) → IsSorted R xs
+      → rises_by lt (dedup same xs) ≡ true
+  rises_settled o same ties xs sorted = rises_from (dedup same xs) (IsStrictlySortedBy-dedup o ties xs sorted)
+
+nat_less : (x y : ℕ) → nat_cmp x y ≡ Less → nat_lt x y ≡ true
+nat_less x y e = let l : x < y = ranked x y Less (sym e) in grind (arith, nat_tests)
+
+pub slots_settled : (xs : List ℕ) → IsSorted nat_cmp xs → slots_rise (dedup eqb xs) ≡ true
+slots_settled xs sorted = rises_settled nat_cmp nat_lt nat_less nat_cmp_total eqb (λ x y. sym (eq_cmp x y)) xs sorted
+
+-- by a and then by b
+abbrev pub pair_cmp : Pair → Pair → Ordering
+pair_cmp = then_cmp (on (λ p. p.a) nat_cmp) (on (λ p. p.b) nat_cmp)
+
+pair_ties : (p q : Pair) → same_pair p q ≡ eq_by_cmp pair_cmp p q
+pair_ties p q =
+    ap (λ b. b && (p.b == q.b)) (sym (eq_cmp p.a q.a)) ∙ ap (λ b. eq_by_cmp nat_cmp p.a q.a && b) (sym (eq_cmp p.b q.b))
+    ∙ both (nat_cmp p.a q.a) (nat_cmp p.b q.b)
+  where
+    both : (r s : Ordering) → (is_eq r && is_eq s) ≡ is_eq (ordering_then r s)
+    both Less s = refl
+    both Equal s = refl
+    both Greater s = refl
+
+pair_less : (p q : Pair) → pair_cmp p q ≡ Less → precedes p q ≡ true
+pair_less p q h = elim (nat_cmp p.a q.a) as (λ r. r ≡ nat_cmp p.a q.a → ordering_then r (nat_cmp p.b q.b) ≡ Less → precedes p q ≡ true) [
+  | Less ↦ λ e _. ap (λ b. b || (p.a == q.a && nat_lt p.b q.b)) (nat_less p.a q.a (sym e))
+  | Equal ↦ λ e g. second p.a q.a p.b q.b (ranked p.a q.a Equal e) (nat_less p.b q.b g)
+  | Greater ↦ λ _ g. cc
+] refl h
+  where
+    second : (a c b d : ℕ) → a ≡ c → nat_lt b d ≡ true → (nat_lt a c || (a == c && nat_lt b d)) ≡ true
+    second a c b d e l = grind (arith, nat_tests)
+
+pub pairs_settled : (xs : List Pair) → IsSorted pair_cmp xs → rises (dedup same_pair xs) ≡ true
+pairs_settled xs sorted =
+    rises_settled pair_cmp precedes pair_less (then_total (on_total (λ p. p.a) nat_cmp_total) (on_total (λ p. p.b) nat_cmp_total)) same_pair pair_ties xs sorted
+
+pub less_precedes : (p q : Pair) → Less ≡ pair_cmp p q → precedes p q ≡ true
+less_precedes p q e = pair_less p q (sym e)
+
+pub greater_precedes : (p q : Pair) → Greater ≡ pair_cmp p q → precedes q p ≡ true
+greater_precedes p q h = elim (nat_cmp p.a q.a) as (λ r. r ≡ nat_cmp p.a q.a → Greater ≡ ordering_then r (nat_cmp p.b q.b) → precedes q p ≡ true) [
+  | Less ↦ λ _ g. cc
+  | Equal ↦ λ e g. second q.a p.a q.b p.b (sym (ranked p.a q.a Equal e)) (ranked p.b q.b Greater g)
+  | Greater ↦ λ e _. first q.a p.a q.b p.b (ranked p.a q.a Greater e)
+] refl h
+  where
+    second : (a c b d : ℕ) → a ≡ c → b < d → (nat_lt a c || (a == c && nat_lt b d)) ≡ true
+    second a c b d e l = grind (arith, nat_tests)
+
+    first : (a c b d : ℕ) → a < c → (nat_lt a c || (a == c && nat_lt b d)) ≡ true
+    first a c b d l = grind (arith, nat_tests)
+
+pub equal_is : (p q : Pair) → Equal ≡ pair_cmp p q → p ≡ q
+equal_is p q h = is_same p q (pair_ties p q ∙ sym (ap is_eq h))

@@ -1,0 +1,126 @@
+ghost use Rattle.std.specs.Prelude.{◌≡◌, ◌+◌, ◌*◌, ◌^◌, ◌<◌, ◌≤◌, ◌/◌, ◌%◌, min, length, IfOk, slice_index_or, ℕ};
+ghost use Rattle.std.specs.Int.{div_ceil};
+ghost use Rattle.std.specs.Fork.{slice_chunk};
+ghost use Rattle.work_pieces.specs.Each.{Each, AcceptsAll, Gives};
+
+use crate::Gate;
+use fixed_box::NoMemory;
+use std::alloc::Global;
+use std::thread;
+use std::thread::Threads;
+
+/// Answers each item of a list, and gives the answers in the items' order, whichever piece ends first.
+///
+/// The list is cut into pieces of `ceil(n / workers)` items, the last one possibly shorter. Each piece is done by one
+/// thread, which enters the gate with the piece's number before its first item. Where there is no item, there is no piece.
+pub fn by_pieces<
+    R: Threads + Sync,
+    T: Sync,
+    X: Send + Drop,
+    F: Fn(&T) -> Result<X, NoMemory> + Sync,
+    G: Gate + Sync,
+>(
+    rt: &R,
+    alloc: Global,
+    items: &[T],
+    workers: u32,
+    gate: &G,
+    answer: &F,
+) -> Result<Vec<X>, NoMemory>
+    requires few { length items.now < 2 ^ 32 }
+    requires workers { (1 ≤ workers) × (workers ≤ 16) }
+    requires accepts { AcceptsAll F.Fn answer.now items.now }
+    ensures { IfOk result (λ answers. Each (Gives F.Fn answer.now) items.now answers.items) }
+{
+    if items.is_empty() {
+        return Ok(Vec::new(alloc));
+    }
+    let size = piece_size(items.len(), workers);
+    let pieces = thread::map_chunks(
+        rt,
+        alloc,
+        items,
+        size,
+        &|start, piece| do_piece(alloc, piece, start, size, gate, answer),
+    )?;
+    joined(alloc, items, size, answer, pieces)
+}
+
+// How many items a piece has, but for the last one.
+fn piece_size(items: usize, workers: u32) -> usize
+    requires { 0 < workers }
+    ensures { result ≡ div_ceil items workers }
+{
+    items.div_ceil(workers as usize)
+}
+
+// The number of the piece that begins at a place.
+fn piece_at(start: usize, size: usize) -> u32
+    requires size { 0 < size }
+    requires begins { start % size ≡ 0 }
+    requires small { start < 2 ^ 32 }
+    ensures { size * result ≡ start }
+{
+    (start / size) as u32
+}
+
+// Answers each item of the piece that begins at a place.
+fn do_piece<T, X: Drop, F: Fn(&T) -> Result<X, NoMemory>, G: Gate>(
+    alloc: Global,
+    items: &[T],
+    start: usize,
+    size: usize,
+    gate: &G,
+    answer: &F,
+) -> Result<Vec<X>, NoMemory>
+    requires size { 0 < size }
+    requires begins { start % size ≡ 0 }
+    requires small { start < 2 ^ 32 }
+    requires accepts { AcceptsAll F.Fn answer.now items.now }
+    ensures { IfOk result (λ answers. Each (Gives F.Fn answer.now) items.now answers.items) }
+{
+    gate.enter(piece_at(start, size));
+    answers_of(alloc, items, answer)
+}
+
+// Answers each item of a list.
+fn answers_of<T, X: Drop, F: Fn(&T) -> Result<X, NoMemory>>(
+    alloc: Global,
+    items: &[T],
+    answer: &F,
+) -> Result<Vec<X>, NoMemory>
+    requires { AcceptsAll F.Fn answer.now items.now }
+    ensures { IfOk result (λ answers. Each (Gives F.Fn answer.now) items.now answers.items) }
+{
+    let mut answers = Vec::new(alloc);
+    let mut rest = items;
+    'items: while let Some((item, more)) = rest.split_first() {
+        answers.push(answer(item)?)?;
+        rest = more;
+    }
+    Ok(answers)
+}
+
+// The answers of all pieces, in the order of the pieces.
+fn joined<T, X: Drop, F: Fn(&T) -> Result<X, NoMemory>>(
+    alloc: Global,
+    items: &[T],
+    size: usize,
+    answer: &F,
+    pieces: Vec<Result<Vec<X>, NoMemory>>,
+) -> Result<Vec<X>, NoMemory>
+    requires size { 0 < size }
+    requires count { length pieces.items ≡ length items.now / size + min 1 (length items.now % size) }
+    requires each { (n : ℕ) (d : _) → n < length pieces.items → IfOk (slice_index_or pieces.items n d) (λ v. Each (Gives F.Fn answer.now) (slice_chunk items.now size n) v.items) }
+    ensures { IfOk result (λ answers. Each (Gives F.Fn answer.now) items.now answers.items) }
+{
+    let _ = items;
+    let _ = size;
+    let _ = answer;
+    let mut answers = Vec::new(alloc);
+    'pieces: for piece in pieces {
+        let mut some = piece?;
+        answers.append(&mut some)?;
+    }
+    Ok(answers)
+}

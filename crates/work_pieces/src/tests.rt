@@ -1,0 +1,76 @@
+ghost use Rattle.std.specs.Prelude.{◌≡◌, Ok};
+
+use super::*;
+use fixed_box::NoMemory;
+use std::sync::atomic::{AtomicU32, Ordering};
+use std::test::Fail;
+
+// How often each of the first two pieces was entered, and how often another.
+#[derive(Drop)]
+struct Entries {
+    first: AtomicU32,
+    second: AtomicU32,
+    others: AtomicU32,
+}
+
+impl Entries {
+    fn new() -> Entries {
+        Entries {
+            first: AtomicU32::new(0),
+            second: AtomicU32::new(0),
+            others: AtomicU32::new(0),
+        }
+    }
+
+    fn counts(&self) -> [u32; 3] {
+        [
+            self.first.load(Ordering::SeqCst),
+            self.second.load(Ordering::SeqCst),
+            self.others.load(Ordering::SeqCst),
+        ]
+    }
+}
+
+impl Gate for Entries {
+    fn enter(&self, piece: u32) {
+        let entries = match piece {
+            0 => &self.first,
+            1 => &self.second,
+            _ => &self.others,
+        };
+        entries.fetch_add(1, Ordering::SeqCst);
+    }
+}
+
+fn same(item: &u32) -> Result<u32, NoMemory>
+    ensures { result ≡ Ok item.now }
+{
+    Ok(*item)
+}
+
+#[test]
+fn each_piece_is_entered_once(rt: HostRuntime) -> Result<(), Fail> {
+    let gate = Entries::new();
+    let answers = by_pieces(&rt, rt.alloc(), &[7, 5, 9], 2, &gate, &|item| same(item))?;
+    assert_eq!(rt; answers.as_slice(), [7, 5, 9].as_slice());
+    assert_eq!(rt; gate.counts(), [1, 1, 0]);
+    Ok(())
+}
+
+#[test]
+fn no_item_enters_no_piece(rt: HostRuntime) -> Result<(), Fail> {
+    let gate = Entries::new();
+    let answers = by_pieces(&rt, rt.alloc(), &[], 4, &gate, &|item| same(item))?;
+    assert!(rt; answers.is_empty());
+    assert_eq!(rt; gate.counts(), [0, 0, 0]);
+    Ok(())
+}
+
+#[test]
+fn one_worker_does_one_piece(rt: HostRuntime) -> Result<(), Fail> {
+    let gate = Entries::new();
+    let answers = by_pieces(&rt, rt.alloc(), &[7, 5, 9], 1, &gate, &|item| same(item))?;
+    assert_eq!(rt; answers.as_slice(), [7, 5, 9].as_slice());
+    assert_eq!(rt; gate.counts(), [1, 0, 0]);
+    Ok(())
+}
