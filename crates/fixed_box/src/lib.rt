@@ -3,6 +3,7 @@
 
 mod fbox;
 mod fix_fault;
+mod laws;
 mod no_memory;
 mod point;
 mod printing;
@@ -10,6 +11,7 @@ mod reading;
 
 pub use fbox::FBox;
 pub use fix_fault::FixFault;
+pub use laws::box_laws;
 pub use no_memory::NoMemory;
 pub use point::Point;
 pub use printing::{print_fix, printed_reads_back};
