@@ -1,0 +1,82 @@
+ghost use Rattle.std.specs.Prelude.{true, ◌≡◌, ◌≢◌, ℕ, ◌+◌, ◌<◌, ◌≤◌, ◌^◌, IfOk, Some, None, IsSome, option_map, [], reverse, false, map, ◌⊎◌, length, ◌∷◌, All};
+ghost use Rattle.std.specs.List.Sorted.{IsPermutation};
+ghost use Rattle.slab.specs.Slab.{get, slab_len, Updates, ContainsKey};
+ghost use Rattle.tree_nodes.specs.Exchange.{SameLeaves, KeepsHeight, ToExchange, ToTighten};
+ghost use Rattle.tree_nodes.specs.Insertion.{ToInsert, Inserted};
+ghost use Rattle.tree_nodes.specs.Moved.{moved, leaf_moved, refitted};
+ghost use Rattle.tree_nodes.specs.Path.{ToRemove, Removed, Leads, ToSearch, PathFound, ToMove};
+ghost use Rattle.tree_nodes.specs.Rotation.{ToAdjust, Children, RotationParts, ToRebalance, rotated, lower, higher, rotated_up, rebalanced};
+ghost use Rattle.tree_nodes.specs.Stored.{Holds, Sound, SoundIn, tree_of, StandsAt};
+ghost use Rattle.tree_nodes.specs.Tree.{Tree, top, height_in, view_in, count_of, height, one, leaves, leaves_in, Leaf as LeafOf, IsLeafOf, view_at};
+ghost use Rattle.fixed_box.specs.Bounds.{Bounds};
+ghost use Rattle.tree_nodes.specs.declared.node_view.NodeView.TheVariants.{Leaf as LeafNode};
+
+use crate::adjusting::adjust;
+use crate::growth::by_growth;
+use crate::refitting::refit;
+use crate::{MOST_NODES, NodeView};
+use fixed_box::{FBox, SLOTS};
+use slab::Slab;
+
+// Puts a leaf into the slab and its tree. Answers the leaf and the new root.
+pub(crate) fn insert_leaf(
+    slab: &mut Slab<NodeView>,
+    parents: &mut [usize],
+    root: Option<usize>,
+    slot: u32,
+    fat: FBox,
+) -> (usize, usize)
+    requires sound { SoundIn slab.old root (tree_of slab.old root) }
+    requires room { MOST_NODES ≤ slab.old.capacity }
+    requires few { length (leaves_in (tree_of slab.old root)) < SLOTS }
+    requires absent { All (λ x. x.slot ≢ slot) (leaves_in (tree_of slab.old root)) }
+    ensures sound { SoundIn slab.new (Some result.1) (tree_of slab.new (Some result.1)) }
+    ensures leaves { IsPermutation (record { node = result.0; slot = slot; fat = fat } ∷ leaves_in (tree_of slab.old root)) (leaves_in (tree_of slab.new (Some result.1))) }
+    ensures capacity { slab.new.capacity ≡ slab.old.capacity }
+{
+    let leaf = slab.insert_reserved(NodeView::Leaf { slot, fat });
+    match root {
+        None => (leaf, leaf),
+        Some(at) => {
+            let new_parent = slab.insert_reserved(NodeView::Leaf { slot, fat });
+            (
+                leaf,
+                insert_below(slab, parents, at, leaf, new_parent, &fat),
+            )
+        }
+    }
+}
+
+// Puts a leaf into a tree, below the child whose hull grows least at each node, with the new parent over it.
+fn insert_below(
+    slab: &mut Slab<NodeView>,
+    parents: &mut [usize],
+    at: usize,
+    leaf: usize,
+    new_parent: usize,
+    fat: &FBox,
+) -> usize
+    requires { (s : ℕ) × (b : Bounds) × (t : Tree) × ToInsert slab.old at leaf new_parent s b t }
+    ensures there { (s : ℕ) (b : Bounds) (t : Tree) → ToInsert slab.old at leaf new_parent s b t → (u : Tree) × Inserted slab.new result leaf new_parent s b t u }
+    ensures kept { (s : ℕ) (b : Bounds) (t u : Tree) → ToInsert slab.old at leaf new_parent s b t → ((k : ℕ) → (count_of t k + (one leaf k + one new_parent k)) + count_of u k ≤ 1) → Holds slab.old u → Holds slab.new u }
+    ensures here { (k : ℕ) → IsSome (get slab.old k) → IsSome (get slab.new k) }
+    ensures len { slab_len slab.new ≡ slab_len slab.old }
+    ensures capacity { slab.new.capacity ≡ slab.old.capacity }
+{
+    match slab[at] {
+        NodeView::Leaf { slot: _, fat: _ } => {
+            refit(slab, parents, new_parent, at, leaf);
+            new_parent
+        }
+        NodeView::Inner {
+            left,
+            right,
+            hull: _,
+            height: _,
+        } => {
+            let (down, stay) = by_growth(slab, left, right, fat);
+            let below = insert_below(slab, parents, down, leaf, new_parent, fat);
+            adjust(slab, parents, at, below, stay)
+        }
+    }
+}

@@ -1,0 +1,78 @@
+ghost use Rattle.std.specs.Prelude.{true, ◌≡◌, ◌≢◌, ℕ, ◌+◌, ◌<◌, ◌≤◌, ◌^◌, IfOk, Some, None, IsSome, option_map, [], reverse, false, map, ◌⊎◌, length, ◌∷◌, All};
+ghost use Rattle.std.specs.List.Sorted.{IsPermutation};
+ghost use Rattle.slab.specs.Slab.{get, slab_len, Updates, ContainsKey};
+ghost use Rattle.tree_nodes.specs.Exchange.{SameLeaves, KeepsHeight, ToExchange, ToTighten};
+ghost use Rattle.tree_nodes.specs.Insertion.{ToInsert, Inserted};
+ghost use Rattle.tree_nodes.specs.Moved.{moved, leaf_moved, refitted};
+ghost use Rattle.tree_nodes.specs.Path.{ToRemove, Removed, Leads, ToSearch, PathFound, ToMove};
+ghost use Rattle.tree_nodes.specs.Rotation.{ToAdjust, Children, RotationParts, ToRebalance, rotated, lower, higher, rotated_up, rebalanced};
+ghost use Rattle.tree_nodes.specs.Stored.{Holds, Sound, SoundIn, tree_of, StandsAt};
+ghost use Rattle.tree_nodes.specs.Tree.{Tree, top, height_in, view_in, count_of, height, one, leaves, leaves_in, Leaf as LeafOf, IsLeafOf, view_at};
+ghost use Rattle.fixed_box.specs.Bounds.{Bounds};
+ghost use Rattle.tree_nodes.specs.declared.node_view.NodeView.TheVariants.{Leaf as LeafNode};
+
+use crate::NodeView;
+use crate::node_slab::replace;
+use crate::path::{Path, path_to};
+use crate::refitting::refit;
+use fixed_box::FBox;
+use slab::Slab;
+use smallvec::SmallVec;
+use std::alloc::Global;
+
+// Gives a leaf of the slab's tree another box, and refits the nodes above it.
+pub(crate) fn move_in_place(
+    slab: &mut Slab<NodeView>,
+    parents: &mut [usize],
+    root: Option<usize>,
+    node: usize,
+    fat: &FBox,
+    alloc: Global,
+)
+    requires sound { SoundIn slab.old root (tree_of slab.old root) }
+    requires leaf { IsLeafOf (tree_of slab.old root) node }
+    ensures sound { SoundIn slab.new root (tree_of slab.new root) }
+    ensures moved { tree_of slab.new root ≡ option_map (moved node fat.now) (tree_of slab.old root) }
+    ensures capacity { slab.new.capacity ≡ slab.old.capacity }
+{
+    let Some(at) = root else {
+        return;
+    };
+    let mut path: Path = SmallVec::new(alloc);
+    path_to(slab, parents, at, node, &mut path);
+    move_below(slab, parents, at, path.as_slice(), fat);
+}
+
+// Gives the leaf at the end of a path another box, and refits the nodes above it.
+fn move_below(
+    slab: &mut Slab<NodeView>,
+    parents: &mut [usize],
+    at: usize,
+    path: &[usize],
+    fat: &FBox,
+)
+    requires { (node : ℕ) × (t : Tree) × ToMove slab.old at node path.now t }
+    ensures there { (node : ℕ) (t : Tree) → ToMove slab.old at node path.now t → StandsAt slab.new at (moved node fat.now t) }
+    ensures kept { (node : ℕ) (t v : Tree) → ToMove slab.old at node path.now t → ((k : ℕ) → count_of t k + count_of v k ≤ 1) → Holds slab.old v → Holds slab.new v }
+    ensures here { (k : ℕ) → IsSome (get slab.old k) → IsSome (get slab.new k) }
+    ensures len { slab_len slab.new ≡ slab_len slab.old }
+    ensures capacity { slab.new.capacity ≡ slab.old.capacity }
+{
+    match slab[at] {
+        NodeView::Leaf { slot, fat: _ } => {
+            replace(slab, at, NodeView::Leaf { slot, fat: *fat });
+        }
+        NodeView::Inner {
+            left,
+            right,
+            hull: _,
+            height: _,
+        } => {
+            let [next, rest @ ..] = path else {
+                return;
+            };
+            move_below(slab, parents, *next, rest, fat);
+            refit(slab, parents, at, left, right);
+        }
+    }
+}
