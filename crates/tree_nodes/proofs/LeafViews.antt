@@ -20,7 +20,7 @@ same_one n k e = rw e refl
 pub other_one : (n k : ℕ) → one n k ≡ 0 → eqb n k ≡ false
 other_one n k z = elim (eqb n k) as (λ b. eqb n k ≡ b → b ≡ false) [ true ↦ λ e. let o = same_one n k e in absurd (omega arith) | false ↦ λ e. refl ] refl
 
-only_one : (x y : LeafOf) → Contains (y ∷ []) x → y ≡ x
+pub only_one : (x y : LeafOf) → Contains (y ∷ []) x → y ≡ x
 only_one x y h = at h.0 h.1 h.2
   where
     at : (k : ℕ) → k < 1 → slice_index_or (y ∷ []) k x ≡ x → y ≡ x

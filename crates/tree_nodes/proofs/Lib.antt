@@ -13,3 +13,4 @@ mod LeafViews
 mod LeafMoves
 mod Adjusted
 pub mod TreeLaws
+pub mod NodesViews

@@ -71,7 +71,7 @@ counted_within (fork n h k l r) u w =
     ⊎_elim (λ e. subst (λ x. 1 ≤ count_of (fork n h k l r) (top x)) (sym e) (top_counted (fork n h k l r)))
     (λ v. ⊎_elim (λ a. let x = counted_within l u a in omega arith) (λ a. let x = counted_within r u a in omega arith) v) w
 
-top_viewed : (t : Tree) → view_at t (top t) ≡ Some (view_of t)
+pub top_viewed : (t : Tree) → view_at t (top t) ≡ Some (view_of t)
 top_viewed (tip n s b) = let e : eqb n n ≡ true = grind (arith, nat_tests) in rw e refl
 top_viewed (fork n h k l r) = let e : eqb n n ≡ true = grind (arith, nat_tests) in rw e refl
 

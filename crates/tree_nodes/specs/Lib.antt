@@ -1,4 +1,5 @@
 pub mod Exchange
+pub mod Filled
 pub mod Insertion
 pub mod Moved
 pub mod Path

@@ -1,5 +1,5 @@
 -- How a slab keeps a tree: what ties the nodes of a `Nodes` to the tree that clauses see.
-use Rattle.std.specs.Prelude.{◌≡◌, ℕ, zero, suc, ◌+◌, ◌≤◌, Option, None, Some, length}
+use Rattle.std.specs.Prelude.{◌≡◌, ℕ, zero, suc, ◌+◌, ◌≤◌, Option, None, Some, IsSome, length}
 use Rattle.std.specs.List.{sum_by}
 use Rattle.slab.specs.Slab.{Slab, get, slab_len}
 use Rattle.fixed_box.specs.declared.TheConstants.{SLOTS}
@@ -64,3 +64,13 @@ SoundIn slab (Some key) (Some t) = (key ≡ top t) × Sound slab t
 pub record StandsAt (slab : Slab NodeView) (at : ℕ) (t : Tree) : Type 0 where
   pub holds : Holds slab t
   pub is_at : top t ≡ at
+
+-- no number occurs in both trees
+abbrev pub Apart : Tree → Tree → Type 0
+Apart t v = (k : ℕ) → count_of t k + count_of v k ≤ 1
+
+-- no key is freed, none is taken, and the room stays
+pub record KeepsKeys (old new : Slab NodeView) : Type 0 where
+  pub here : (k : ℕ) → IsSome (get old k) → IsSome (get new k)
+  pub len : slab_len new ≡ slab_len old
+  pub capacity : new.capacity ≡ old.capacity

@@ -1,5 +1,5 @@
 -- What a tree of boxes is to a clause, and what calls answer about it.
-use Rattle.std.specs.Prelude.{◌≡◌, ◌⊎◌, ℕ, zero, suc, ◌+◌, ◌≤◌, ◌==◌, max, List, [], ◌∷◌, ◌++◌, length, Option, None, Some, if◌then◌else◌}
+use Rattle.std.specs.Prelude.{◌≡◌, ◌⊎◌, ℕ, zero, suc, ◌+◌, ◌≤◌, ◌==◌, max, List, [], ◌∷◌, ◌++◌, length, Option, None, Some, IsSome, if◌then◌else◌}
 use Rattle.std.specs.List.{sum_by}
 use Rattle.fixed_box.specs.declared.TheConstants.{SLOTS}
 use Rattle.fixed_box.specs.Bounds.{Bounds, hull, meets}
@@ -126,3 +126,8 @@ IsTreeIn (Some t) = IsTree t
 -- a leaf has this number
 abbrev pub IsLeafOf : Option Tree → ℕ → Type 0
 IsLeafOf t node = (s : ℕ) × (b : Bounds) × (view_in t node ≡ Some (variant.Leaf s b))
+
+-- the children that a node shows are nodes of the tree
+abbrev pub ChildrenShown : Option Tree → NodeView → Type 0
+ChildrenShown t (variant.Leaf slot fat) = Unit {0}
+ChildrenShown t (variant.Inner left right hull height) = IsSome (view_in t left) × IsSome (view_in t right)

@@ -1,15 +1,9 @@
-ghost use Rattle.std.specs.Prelude.{true, ◌≡◌, ◌≢◌, ℕ, ◌+◌, ◌<◌, ◌≤◌, ◌^◌, IfOk, Some, None, IsSome, option_map, [], reverse, false, map, ◌⊎◌, length, ◌∷◌, All};
-ghost use Rattle.std.specs.List.Sorted.{IsPermutation};
-ghost use Rattle.slab.specs.Slab.{get, slab_len, Updates, ContainsKey};
-ghost use Rattle.tree_nodes.specs.Exchange.{SameLeaves, KeepsHeight, ToExchange, ToTighten};
-ghost use Rattle.tree_nodes.specs.Insertion.{ToInsert, Inserted};
-ghost use Rattle.tree_nodes.specs.Moved.{moved, leaf_moved, refitted};
-ghost use Rattle.tree_nodes.specs.Path.{ToRemove, Removed, Leads, ToSearch, PathFound, ToMove};
-ghost use Rattle.tree_nodes.specs.Rotation.{ToAdjust, Children, RotationParts, ToRebalance, rotated, lower, higher, rotated_up, rebalanced};
-ghost use Rattle.tree_nodes.specs.Stored.{Holds, Sound, SoundIn, tree_of, StandsAt};
-ghost use Rattle.tree_nodes.specs.Tree.{Tree, top, height_in, view_in, count_of, height, one, leaves, leaves_in, Leaf as LeafOf, IsLeafOf, view_at};
-ghost use Rattle.fixed_box.specs.Bounds.{Bounds};
-ghost use Rattle.tree_nodes.specs.declared.node_view.NodeView.TheVariants.{Leaf as LeafNode};
+ghost use Rattle.std.specs.Prelude.{true, ◌≡◌, ◌+◌, ◌<◌, false};
+ghost use Rattle.tree_nodes.specs.Exchange.{SameLeaves};
+ghost use Rattle.tree_nodes.specs.Moved.{refitted};
+ghost use Rattle.tree_nodes.specs.Rotation.{ToAdjust, ToRebalance, rebalanced};
+ghost use Rattle.tree_nodes.specs.Stored.{Holds, StandsAt, Apart, KeepsKeys};
+ghost use Rattle.tree_nodes.specs.Tree.{Tree, top, count_of};
 
 use crate::NodeView;
 use crate::node_slab::height_at;
@@ -28,10 +22,8 @@ pub(crate) fn adjust(
 ) -> usize
     requires { (l r : Tree) × ToAdjust slab.old at left right l r }
     ensures there { (l r : Tree) → ToAdjust slab.old at left right l r → (u : Tree) × SameLeaves slab.new result (rebalanced at l r) u }
-    ensures kept { (l r v : Tree) → ToAdjust slab.old at left right l r → ((k : ℕ) → count_of (refitted at l r) k + count_of v k ≤ 1) → Holds slab.old v → Holds slab.new v }
-    ensures here { (k : ℕ) → IsSome (get slab.old k) → IsSome (get slab.new k) }
-    ensures len { slab_len slab.new ≡ slab_len slab.old }
-    ensures capacity { slab.new.capacity ≡ slab.old.capacity }
+    ensures kept { (l r v : Tree) → ToAdjust slab.old at left right l r → Apart (refitted at l r) v → Holds slab.old v → Holds slab.new v }
+    ensures keys { KeepsKeys slab.old slab.new }
 {
     let top = rebalance(slab, parents, at, left, right);
     tighten(slab, parents, top, false);
@@ -50,9 +42,7 @@ fn rebalance(
     requires { (l r : Tree) × ToRebalance slab.old at left right l r }
     ensures there { (l r : Tree) → ToRebalance slab.old at left right l r → StandsAt slab.new result (rebalanced at l r) }
     ensures kept { (t : Tree) → count_of t at ≡ 0 → count_of t left ≡ 0 → count_of t right ≡ 0 → Holds slab.old t → Holds slab.new t }
-    ensures here { (k : ℕ) → IsSome (get slab.old k) → IsSome (get slab.new k) }
-    ensures len { slab_len slab.new ≡ slab_len slab.old }
-    ensures capacity { slab.new.capacity ≡ slab.old.capacity }
+    ensures keys { KeepsKeys slab.old slab.new }
 {
     let l = height_at(slab, left);
     let r = height_at(slab, right);

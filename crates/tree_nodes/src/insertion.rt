@@ -1,15 +1,9 @@
-ghost use Rattle.std.specs.Prelude.{true, ◌≡◌, ◌≢◌, ℕ, ◌+◌, ◌<◌, ◌≤◌, ◌^◌, IfOk, Some, None, IsSome, option_map, [], reverse, false, map, ◌⊎◌, length, ◌∷◌, All};
+ghost use Rattle.std.specs.Prelude.{◌≡◌, ◌≢◌, ℕ, ◌+◌, ◌<◌, ◌≤◌, Some, None, length, ◌∷◌, All};
 ghost use Rattle.std.specs.List.Sorted.{IsPermutation};
-ghost use Rattle.slab.specs.Slab.{get, slab_len, Updates, ContainsKey};
-ghost use Rattle.tree_nodes.specs.Exchange.{SameLeaves, KeepsHeight, ToExchange, ToTighten};
 ghost use Rattle.tree_nodes.specs.Insertion.{ToInsert, Inserted};
-ghost use Rattle.tree_nodes.specs.Moved.{moved, leaf_moved, refitted};
-ghost use Rattle.tree_nodes.specs.Path.{ToRemove, Removed, Leads, ToSearch, PathFound, ToMove};
-ghost use Rattle.tree_nodes.specs.Rotation.{ToAdjust, Children, RotationParts, ToRebalance, rotated, lower, higher, rotated_up, rebalanced};
-ghost use Rattle.tree_nodes.specs.Stored.{Holds, Sound, SoundIn, tree_of, StandsAt};
-ghost use Rattle.tree_nodes.specs.Tree.{Tree, top, height_in, view_in, count_of, height, one, leaves, leaves_in, Leaf as LeafOf, IsLeafOf, view_at};
+ghost use Rattle.tree_nodes.specs.Stored.{Holds, SoundIn, tree_of, KeepsKeys};
+ghost use Rattle.tree_nodes.specs.Tree.{Tree, height, count_of, one, leaves, leaves_in};
 ghost use Rattle.fixed_box.specs.Bounds.{Bounds};
-ghost use Rattle.tree_nodes.specs.declared.node_view.NodeView.TheVariants.{Leaf as LeafNode};
 
 use crate::adjusting::adjust;
 use crate::growth::by_growth;
@@ -59,9 +53,7 @@ fn insert_below(
     requires { (s : ℕ) × (b : Bounds) × (t : Tree) × ToInsert slab.old at leaf new_parent s b t }
     ensures there { (s : ℕ) (b : Bounds) (t : Tree) → ToInsert slab.old at leaf new_parent s b t → (u : Tree) × Inserted slab.new result leaf new_parent s b t u }
     ensures kept { (s : ℕ) (b : Bounds) (t u : Tree) → ToInsert slab.old at leaf new_parent s b t → ((k : ℕ) → (count_of t k + (one leaf k + one new_parent k)) + count_of u k ≤ 1) → Holds slab.old u → Holds slab.new u }
-    ensures here { (k : ℕ) → IsSome (get slab.old k) → IsSome (get slab.new k) }
-    ensures len { slab_len slab.new ≡ slab_len slab.old }
-    ensures capacity { slab.new.capacity ≡ slab.old.capacity }
+    ensures keys { KeepsKeys slab.old slab.new }
 {
     match slab[at] {
         NodeView::Leaf { slot: _, fat: _ } => {

@@ -1,4 +1,4 @@
-ghost use Rattle.std.specs.Prelude.{◌≡◌, ℕ, ◌≤◌, length, Some, true, false, IsTrue};
+ghost use Rattle.std.specs.Prelude.{◌≡◌, ℕ, ◌≤◌, length, Some, false, IsTrue};
 ghost use Rattle.std.specs.List.{All, Contains};
 ghost use Rattle.fixed_box.specs.Bounds.{Bounds, encloses, meets};
 ghost use Rattle.tree_nodes.specs.Tree.{Tree, Leaf, top, bounds, height, leaves, count_of, fewest, view_of, view_at, Balanced, Within};

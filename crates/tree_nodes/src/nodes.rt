@@ -1,8 +1,8 @@
-ghost use Rattle.std.specs.Prelude.{◌≡◌, ◌≢◌, ◌↔◌, ℕ, ◌<◌, ◌≤◌, IfOk, Some, None, IsSome, option_map, map, length, [], ◌∷◌};
+ghost use Rattle.std.specs.Prelude.{◌≡◌, ◌≢◌, ◌↔◌, ℕ, ◌<◌, ◌≤◌, IfOk, IfSome, Some, None, IsSome, option_map, map, length, [], ◌∷◌};
 ghost use Rattle.std.specs.List.{All};
 ghost use Rattle.std.specs.List.Sorted.{IsPermutation};
 ghost use Rattle.fixed_box.specs.Bounds.{Bounds};
-ghost use Rattle.tree_nodes.specs.Tree.{top, height_in, view_in, leaves_in, IsTreeIn, IsLeafOf};
+ghost use Rattle.tree_nodes.specs.Tree.{top, height_in, view_in, leaves_in, IsTreeIn, IsLeafOf, ChildrenShown};
 ghost use Rattle.tree_nodes.specs.Moved.{moved, leaf_moved};
 ghost use Rattle.tree_nodes.specs.declared.node_view.NodeView.TheVariants.{Leaf as LeafNode};
 
@@ -71,6 +71,9 @@ impl Nodes {
         requires absent { All (λ x. x.slot ≢ slot) (leaves_in self.old) }
         ensures leaves { IsPermutation
             (record { node = result; slot = slot; fat = fat } ∷ leaves_in self.old) (leaves_in self.new) }
+        ensures leaf { view_in self.new result ≡ Some (LeafNode slot fat) }
+        ensures others { (other s : ℕ) (b : Bounds) → view_in self.old other ≡ Some (LeafNode s b) →
+            view_in self.new other ≡ Some (LeafNode s b) }
         ensures tree { IsTreeIn self.new }
     {
         let (leaf, root) = insert_leaf(&mut self.slab, &mut self.parents, self.root, slot, fat);
@@ -83,6 +86,8 @@ impl Nodes {
         requires { IsLeafOf self.old node }
         ensures leaves { (slot : ℕ) (fat : Bounds) → view_in self.old node ≡ Some (LeafNode slot fat) →
             IsPermutation (record { node = node; slot = slot; fat = fat } ∷ leaves_in self.new) (leaves_in self.old) }
+        ensures others { (other s : ℕ) (b : Bounds) → view_in self.old other ≡ Some (LeafNode s b) → other ≢ node →
+            view_in self.new other ≡ Some (LeafNode s b) }
         ensures tree { IsTreeIn self.new }
     {
         self.root = remove_leaf(
@@ -101,6 +106,10 @@ impl Nodes {
         ensures moved { self.new ≡ option_map (moved node fat) self.old }
         ensures leaves { leaves_in self.new ≡ map (leaf_moved node fat) (leaves_in self.old) }
         ensures height { height_in self.new ≡ height_in self.old }
+        ensures leaf { (slot : ℕ) (old : Bounds) → view_in self.old node ≡ Some (LeafNode slot old) →
+            view_in self.new node ≡ Some (LeafNode slot fat) }
+        ensures others { (other s : ℕ) (b : Bounds) → view_in self.old other ≡ Some (LeafNode s b) → other ≢ node →
+            view_in self.new other ≡ Some (LeafNode s b) }
         ensures tree { IsTreeIn self.new }
     {
         move_in_place(
@@ -117,6 +126,7 @@ impl Nodes {
     pub fn root(&self) -> Option<usize>
         ensures value { result ≡ option_map top self.now }
         ensures none { (result ≡ None) ↔ (leaves_in self.now ≡ []) }
+        ensures shown { IfSome result (λ node. IsSome (view_in self.now node)) }
         ensures tree { IsTreeIn self.now }
     {
         self.root
@@ -138,6 +148,7 @@ impl Nodes {
     pub fn view(&self, node: usize) -> NodeView
         requires { IsSome (view_in self.now node) }
         ensures value { view_in self.now node ≡ Some result }
+        ensures children { ChildrenShown self.now result }
         ensures tree { IsTreeIn self.now }
     {
         self.slab[node]

@@ -1,13 +1,6 @@
-ghost use Rattle.std.specs.Prelude.{true, ◌≡◌, ◌≢◌, ℕ, ◌+◌, ◌<◌, ◌≤◌, ◌^◌, IfOk, Some, None, IsSome, option_map, [], reverse, false, map, ◌⊎◌, length, ◌∷◌, All};
-ghost use Rattle.std.specs.List.Sorted.{IsPermutation};
-ghost use Rattle.slab.specs.Slab.{get, slab_len, Updates, ContainsKey};
-ghost use Rattle.tree_nodes.specs.Exchange.{SameLeaves, KeepsHeight, ToExchange, ToTighten};
-ghost use Rattle.tree_nodes.specs.Insertion.{ToInsert, Inserted};
-ghost use Rattle.tree_nodes.specs.Moved.{moved, leaf_moved, refitted};
-ghost use Rattle.tree_nodes.specs.Path.{ToRemove, Removed, Leads, ToSearch, PathFound, ToMove};
-ghost use Rattle.tree_nodes.specs.Rotation.{ToAdjust, Children, RotationParts, ToRebalance, rotated, lower, higher, rotated_up, rebalanced};
-ghost use Rattle.tree_nodes.specs.Stored.{Holds, Sound, SoundIn, tree_of, StandsAt};
-ghost use Rattle.tree_nodes.specs.Tree.{Tree, top, height_in, view_in, count_of, height, one, leaves, leaves_in, Leaf as LeafOf, IsLeafOf, view_at};
+ghost use Rattle.std.specs.Prelude.{true, ◌≡◌, ℕ, ◌<◌, Some, None, [], false};
+ghost use Rattle.tree_nodes.specs.Path.{Leads, ToSearch, PathFound};
+ghost use Rattle.tree_nodes.specs.Tree.{Tree, height, one, leaves, view_at};
 ghost use Rattle.fixed_box.specs.Bounds.{Bounds};
 ghost use Rattle.tree_nodes.specs.declared.node_view.NodeView.TheVariants.{Leaf as LeafNode};
 

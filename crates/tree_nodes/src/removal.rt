@@ -1,13 +1,8 @@
-ghost use Rattle.std.specs.Prelude.{true, ◌≡◌, ◌≢◌, ℕ, ◌+◌, ◌<◌, ◌≤◌, ◌^◌, IfOk, Some, None, IsSome, option_map, [], reverse, false, map, ◌⊎◌, length, ◌∷◌, All};
+ghost use Rattle.std.specs.Prelude.{◌≡◌, ℕ, ◌<◌, Some, None, ◌⊎◌, ◌∷◌};
 ghost use Rattle.std.specs.List.Sorted.{IsPermutation};
-ghost use Rattle.slab.specs.Slab.{get, slab_len, Updates, ContainsKey};
-ghost use Rattle.tree_nodes.specs.Exchange.{SameLeaves, KeepsHeight, ToExchange, ToTighten};
-ghost use Rattle.tree_nodes.specs.Insertion.{ToInsert, Inserted};
-ghost use Rattle.tree_nodes.specs.Moved.{moved, leaf_moved, refitted};
-ghost use Rattle.tree_nodes.specs.Path.{ToRemove, Removed, Leads, ToSearch, PathFound, ToMove};
-ghost use Rattle.tree_nodes.specs.Rotation.{ToAdjust, Children, RotationParts, ToRebalance, rotated, lower, higher, rotated_up, rebalanced};
-ghost use Rattle.tree_nodes.specs.Stored.{Holds, Sound, SoundIn, tree_of, StandsAt};
-ghost use Rattle.tree_nodes.specs.Tree.{Tree, top, height_in, view_in, count_of, height, one, leaves, leaves_in, Leaf as LeafOf, IsLeafOf, view_at};
+ghost use Rattle.tree_nodes.specs.Path.{ToRemove, Removed, Leads};
+ghost use Rattle.tree_nodes.specs.Stored.{Holds, Sound, SoundIn, tree_of, Apart, KeepsKeys};
+ghost use Rattle.tree_nodes.specs.Tree.{Tree, top, height, view_in, one, leaves, leaves_in, Leaf as LeafOf, IsLeafOf};
 ghost use Rattle.fixed_box.specs.Bounds.{Bounds};
 ghost use Rattle.tree_nodes.specs.declared.node_view.NodeView.TheVariants.{Leaf as LeafNode};
 
@@ -74,10 +69,8 @@ fn remove_below(
 ) -> (usize, usize)
     requires { (node : ℕ) × (t : Tree) × ToRemove slab.old at node next path.now t }
     ensures there { (node : ℕ) (t : Tree) → ToRemove slab.old at node next path.now t → (u : Tree) × Removed slab.new result.0 node result.1 t u }
-    ensures kept { (node : ℕ) (t v : Tree) → ToRemove slab.old at node next path.now t → ((k : ℕ) → count_of t k + count_of v k ≤ 1) → Holds slab.old v → Holds slab.new v }
-    ensures here { (k : ℕ) → IsSome (get slab.old k) → IsSome (get slab.new k) }
-    ensures len { slab_len slab.new ≡ slab_len slab.old }
-    ensures capacity { slab.new.capacity ≡ slab.old.capacity }
+    ensures kept { (node : ℕ) (t v : Tree) → ToRemove slab.old at node next path.now t → Apart t v → Holds slab.old v → Holds slab.new v }
+    ensures keys { KeepsKeys slab.old slab.new }
 {
     match slab[at] {
         NodeView::Leaf { slot: _, fat: _ } => (at, at),

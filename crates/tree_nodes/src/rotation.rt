@@ -1,15 +1,8 @@
-ghost use Rattle.std.specs.Prelude.{true, ◌≡◌, ◌≢◌, ℕ, ◌+◌, ◌<◌, ◌≤◌, ◌^◌, IfOk, Some, None, IsSome, option_map, [], reverse, false, map, ◌⊎◌, length, ◌∷◌, All};
-ghost use Rattle.std.specs.List.Sorted.{IsPermutation};
-ghost use Rattle.slab.specs.Slab.{get, slab_len, Updates, ContainsKey};
-ghost use Rattle.tree_nodes.specs.Exchange.{SameLeaves, KeepsHeight, ToExchange, ToTighten};
-ghost use Rattle.tree_nodes.specs.Insertion.{ToInsert, Inserted};
-ghost use Rattle.tree_nodes.specs.Moved.{moved, leaf_moved, refitted};
-ghost use Rattle.tree_nodes.specs.Path.{ToRemove, Removed, Leads, ToSearch, PathFound, ToMove};
-ghost use Rattle.tree_nodes.specs.Rotation.{ToAdjust, Children, RotationParts, ToRebalance, rotated, lower, higher, rotated_up, rebalanced};
-ghost use Rattle.tree_nodes.specs.Stored.{Holds, Sound, SoundIn, tree_of, StandsAt};
-ghost use Rattle.tree_nodes.specs.Tree.{Tree, top, height_in, view_in, count_of, height, one, leaves, leaves_in, Leaf as LeafOf, IsLeafOf, view_at};
-ghost use Rattle.fixed_box.specs.Bounds.{Bounds};
-ghost use Rattle.tree_nodes.specs.declared.node_view.NodeView.TheVariants.{Leaf as LeafNode};
+ghost use Rattle.std.specs.Prelude.{◌≡◌, ◌<◌, ◌≤◌};
+ghost use Rattle.tree_nodes.specs.Moved.{refitted};
+ghost use Rattle.tree_nodes.specs.Rotation.{Children, RotationParts, rotated, lower, higher, rotated_up};
+ghost use Rattle.tree_nodes.specs.Stored.{Holds, StandsAt, KeepsKeys};
+ghost use Rattle.tree_nodes.specs.Tree.{Tree, Balanced, top, height, count_of, one};
 
 use crate::NodeView;
 use crate::node_slab::height_at;
@@ -25,12 +18,10 @@ pub(crate) fn rotate_up(
     low: usize,
     high: usize,
 ) -> usize
-    requires { (l h : Tree) × Children slab.old at low high l h × (height l ≤ 100) × (height h ≤ 100) × (Rattle.tree_nodes.specs.Tree.Balanced h) }
-    ensures there { (l h : Tree) → Children slab.old at low high l h → height l ≤ 100 → height h ≤ 100 → Rattle.tree_nodes.specs.Tree.Balanced h → StandsAt slab.new result (rotated_up at l h) }
+    requires { (l h : Tree) × Children slab.old at low high l h × (height l ≤ 100) × (height h ≤ 100) × (Balanced h) }
+    ensures there { (l h : Tree) → Children slab.old at low high l h → height l ≤ 100 → height h ≤ 100 → Balanced h → StandsAt slab.new result (rotated_up at l h) }
     ensures kept { (t : Tree) → count_of t at ≡ 0 → count_of t high ≡ 0 → Holds slab.old t → Holds slab.new t }
-    ensures here { (k : ℕ) → IsSome (get slab.old k) → IsSome (get slab.new k) }
-    ensures len { slab_len slab.new ≡ slab_len slab.old }
-    ensures capacity { slab.new.capacity ≡ slab.old.capacity }
+    ensures keys { KeepsKeys slab.old slab.new }
 {
     match slab[high] {
         NodeView::Leaf { slot: _, fat: _ } => {
@@ -77,9 +68,7 @@ pub(crate) fn rotate(
     requires { (l f g : Tree) × RotationParts slab.old high at low left right l f g }
     ensures there { (l f g : Tree) → RotationParts slab.old high at low left right l f g → Holds slab.new (rotated high at l f g) }
     ensures kept { (t : Tree) → count_of t at ≡ 0 → count_of t high ≡ 0 → Holds slab.old t → Holds slab.new t }
-    ensures here { (k : ℕ) → IsSome (get slab.old k) → IsSome (get slab.new k) }
-    ensures len { slab_len slab.new ≡ slab_len slab.old }
-    ensures capacity { slab.new.capacity ≡ slab.old.capacity }
+    ensures keys { KeepsKeys slab.old slab.new }
 {
     refit(slab, parents, at, low, left);
     refit(slab, parents, high, at, right);

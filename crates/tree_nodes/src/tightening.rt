@@ -1,15 +1,7 @@
-ghost use Rattle.std.specs.Prelude.{true, ◌≡◌, ◌≢◌, ℕ, ◌+◌, ◌<◌, ◌≤◌, ◌^◌, IfOk, Some, None, IsSome, option_map, [], reverse, false, map, ◌⊎◌, length, ◌∷◌, All};
-ghost use Rattle.std.specs.List.Sorted.{IsPermutation};
-ghost use Rattle.slab.specs.Slab.{get, slab_len, Updates, ContainsKey};
+ghost use Rattle.std.specs.Prelude.{true, ◌≡◌, ◌+◌, ◌<◌, ◌≤◌, ◌⊎◌};
 ghost use Rattle.tree_nodes.specs.Exchange.{SameLeaves, KeepsHeight, ToExchange, ToTighten};
-ghost use Rattle.tree_nodes.specs.Insertion.{ToInsert, Inserted};
-ghost use Rattle.tree_nodes.specs.Moved.{moved, leaf_moved, refitted};
-ghost use Rattle.tree_nodes.specs.Path.{ToRemove, Removed, Leads, ToSearch, PathFound, ToMove};
-ghost use Rattle.tree_nodes.specs.Rotation.{ToAdjust, Children, RotationParts, ToRebalance, rotated, lower, higher, rotated_up, rebalanced};
-ghost use Rattle.tree_nodes.specs.Stored.{Holds, Sound, SoundIn, tree_of, StandsAt};
-ghost use Rattle.tree_nodes.specs.Tree.{Tree, top, height_in, view_in, count_of, height, one, leaves, leaves_in, Leaf as LeafOf, IsLeafOf, view_at};
-ghost use Rattle.fixed_box.specs.Bounds.{Bounds};
-ghost use Rattle.tree_nodes.specs.declared.node_view.NodeView.TheVariants.{Leaf as LeafNode};
+ghost use Rattle.tree_nodes.specs.Stored.{Holds, Apart, KeepsKeys};
+ghost use Rattle.tree_nodes.specs.Tree.{Tree, height, count_of, one};
 
 use crate::NodeView;
 use crate::growth::{by_growth, perimeter};
@@ -21,10 +13,8 @@ use slab::Slab;
 pub(crate) fn tighten(slab: &mut Slab<NodeView>, parents: &mut [usize], at: usize, reversed: bool)
     requires { (t : Tree) × ToTighten slab.old at t }
     ensures there { (t : Tree) → ToTighten slab.old at t → (u : Tree) × SameLeaves slab.new at t u }
-    ensures kept { (t v : Tree) → ToTighten slab.old at t → ((k : ℕ) → count_of t k + count_of v k ≤ 1) → Holds slab.old v → Holds slab.new v }
-    ensures here { (k : ℕ) → IsSome (get slab.old k) → IsSome (get slab.new k) }
-    ensures len { slab_len slab.new ≡ slab_len slab.old }
-    ensures capacity { slab.new.capacity ≡ slab.old.capacity }
+    ensures kept { (t v : Tree) → ToTighten slab.old at t → Apart t v → Holds slab.old v → Holds slab.new v }
+    ensures keys { KeepsKeys slab.old slab.new }
 {
     if let NodeView::Inner {
         left,
@@ -60,9 +50,7 @@ fn exchange(
     requires { (t : Tree) × (d : Tree) × (s : Tree) × ToExchange slab.old at child sibling t d s }
     ensures there { (t d s : Tree) → ToExchange slab.old at child sibling t d s → (u : Tree) × SameLeaves slab.new at t u }
     ensures kept { (t : Tree) → count_of t at ≡ 0 → count_of t sibling ≡ 0 → Holds slab.old t → Holds slab.new t }
-    ensures here { (k : ℕ) → IsSome (get slab.old k) → IsSome (get slab.new k) }
-    ensures len { slab_len slab.new ≡ slab_len slab.old }
-    ensures capacity { slab.new.capacity ≡ slab.old.capacity }
+    ensures keys { KeepsKeys slab.old slab.new }
 {
     if let NodeView::Inner {
         left,

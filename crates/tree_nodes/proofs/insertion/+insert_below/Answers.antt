@@ -34,7 +34,7 @@ adjust-requires t c =
       g.0,
       o.1,
       step_adjust c.insert_below-below.new.slab c.args.slab.now c.args.at c.by_growth-down.result.0 c.by_growth-down.result.1 c.insert_below-below.result c.args.leaf c.args.new_parent p.0 p.1 p.2 o.0 o.1 g.0 o.2 g.1 (step_rebalance c.args.slab.now c.insert_below-below.new.slab c.args.at c.by_growth-down.result.0 c.by_growth-down.result.1 c.insert_below-below.result c.args.leaf c.args.new_parent p.0 p.1 p.2 o.0 o.1 g.0 p.3 o.2 g.1
-          (c.insert_below-below.ensures.here c.args.at (subst IsSome (sym c.index.ensures) refl))
+          (c.insert_below-below.ensures.keys.here c.args.at (subst IsSome (sym c.index.ensures) refl))
           (c.insert_below-below.ensures.kept p.0 p.1 o.0 o.1 r (stay_free c.args.slab.now c.args.at c.by_growth-down.result.0 c.by_growth-down.result.1 c.args.leaf c.args.new_parent p.0 p.1 p.2 o.0 o.1 p.3 o.2) o.2.stay_kept.holds)),
     )
 
@@ -51,7 +51,7 @@ returns-in-Inner-clause-there t c s b x p =
     let r = step_down c.args.slab.now c.args.at c.by_growth-down.result.0 c.by_growth-down.result.1 c.args.leaf c.args.new_parent s b x o.0 o.1 p o.2 in
     let g = c.insert_below-below.ensures.there s b o.0 r in
     let n = step_rebalance c.args.slab.now c.insert_below-below.new.slab c.args.at c.by_growth-down.result.0 c.by_growth-down.result.1 c.insert_below-below.result c.args.leaf c.args.new_parent s b x o.0 o.1 g.0 p o.2 g.1
-    (c.insert_below-below.ensures.here c.args.at (subst IsSome (sym c.index.ensures) refl))
+    (c.insert_below-below.ensures.keys.here c.args.at (subst IsSome (sym c.index.ensures) refl))
     (c.insert_below-below.ensures.kept s b o.0 o.1 r (stay_free c.args.slab.now c.args.at c.by_growth-down.result.0 c.by_growth-down.result.1 c.args.leaf c.args.new_parent s b x o.0 o.1 p o.2) o.2.stay_kept.holds) in
     let w = c.adjust.ensures.there g.0 o.1 (step_adjust c.insert_below-below.new.slab c.args.slab.now c.args.at c.by_growth-down.result.0 c.by_growth-down.result.1 c.insert_below-below.result c.args.leaf c.args.new_parent s b x o.0 o.1 g.0 o.2 g.1 n) in
     (w.0, step_inserted c.args.slab.now c.insert_below-below.new.slab c.adjust.new.slab c.args.at c.by_growth-down.result.0 c.by_growth-down.result.1 c.insert_below-below.result c.adjust.result c.args.leaf c.args.new_parent s b x o.0 o.1 g.0 w.0 o.2 g.1 w.1)
@@ -62,7 +62,7 @@ returns-in-Inner-clause-kept t c s b x u p free held =
     let r = step_down c.args.slab.now c.args.at c.by_growth-down.result.0 c.by_growth-down.result.1 c.args.leaf c.args.new_parent s b x o.0 o.1 p o.2 in
     let g = c.insert_below-below.ensures.there s b o.0 r in
     let n = step_rebalance c.args.slab.now c.insert_below-below.new.slab c.args.at c.by_growth-down.result.0 c.by_growth-down.result.1 c.insert_below-below.result c.args.leaf c.args.new_parent s b x o.0 o.1 g.0 p o.2 g.1
-    (c.insert_below-below.ensures.here c.args.at (subst IsSome (sym c.index.ensures) refl))
+    (c.insert_below-below.ensures.keys.here c.args.at (subst IsSome (sym c.index.ensures) refl))
     (c.insert_below-below.ensures.kept s b o.0 o.1 r (stay_free c.args.slab.now c.args.at c.by_growth-down.result.0 c.by_growth-down.result.1 c.args.leaf c.args.new_parent s b x o.0 o.1 p o.2) o.2.stay_kept.holds) in
     let f = elsewhere c.args.slab.now c.insert_below-below.new.slab c.args.at c.by_growth-down.result.0 c.by_growth-down.result.1 c.insert_below-below.result c.args.leaf c.args.new_parent s b x o.0 o.1 g.0 u o.2 g.1 free in
     c.adjust.ensures.kept g.0 o.1 u (step_adjust c.insert_below-below.new.slab c.args.slab.now c.args.at c.by_growth-down.result.0 c.by_growth-down.result.1 c.insert_below-below.result c.args.leaf c.args.new_parent s b x o.0 o.1 g.0 o.2 g.1 n)

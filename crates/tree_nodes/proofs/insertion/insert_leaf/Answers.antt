@@ -33,7 +33,7 @@ returns-in-Some-clause-sound c =
     let g = c.insert_below.ensures.there c.args.slot c.args.fat w.0 r in
     let s = inserted_sound c.args.slab.now c.insert_reserved-new_parent.new.self c.insert_below.new.slab c.in-Some.at c.insert_reserved-leaf.result c.insert_reserved-new_parent.result c.insert_below.result c.args.slot c.args.fat w.0 g.0 w.3
     (subst (λ t. length (leaves_in t) < 8192) is c.requires.few) (subst (λ t. All (λ x. x.slot ≢ c.args.slot) (leaves_in t)) is c.requires.absent) r g.1
-    (let a = c.insert_below.ensures.len in let b = c.insert_reserved-leaf.ensures.len in let d = c.insert_reserved-new_parent.ensures.len in omega arith) in
+    (let a = c.insert_below.ensures.keys.len in let b = c.insert_reserved-leaf.ensures.len in let d = c.insert_reserved-new_parent.ensures.len in omega arith) in
     kept_sound c.insert_below.new.slab c.insert_below.result g.0 (sym g.1.kept.is_at) s
 
 pub returns-in-Some-clause-leaves : goal.returns-in-Some-clause-leaves
@@ -45,7 +45,7 @@ returns-in-Some-clause-leaves c =
     let g = c.insert_below.ensures.there c.args.slot c.args.fat w.0 r in
     let s = inserted_sound c.args.slab.now c.insert_reserved-new_parent.new.self c.insert_below.new.slab c.in-Some.at c.insert_reserved-leaf.result c.insert_reserved-new_parent.result c.insert_below.result c.args.slot c.args.fat w.0 g.0 w.3
     (subst (λ t. length (leaves_in t) < 8192) is c.requires.few) (subst (λ t. All (λ x. x.slot ≢ c.args.slot) (leaves_in t)) is c.requires.absent) r g.1
-    (let a = c.insert_below.ensures.len in let b = c.insert_reserved-leaf.ensures.len in let d = c.insert_reserved-new_parent.ensures.len in omega arith) in
+    (let a = c.insert_below.ensures.keys.len in let b = c.insert_reserved-leaf.ensures.len in let d = c.insert_reserved-new_parent.ensures.len in omega arith) in
     let x : LeafOf = record { node = c.insert_reserved-leaf.result; slot = c.args.slot; fat = c.args.fat } in
     subst (λ t. IsPermutation (x ∷ leaves_in t) (leaves_in (tree_of c.insert_below.new.slab (Some c.insert_below.result)))) (sym is)
     (subst (λ u. IsPermutation (x ∷ leaves w.0) (leaves_in u)) (sym (kept_tree c.insert_below.new.slab c.insert_below.result g.0 (sym g.1.kept.is_at) s)) g.1.leaves_are)

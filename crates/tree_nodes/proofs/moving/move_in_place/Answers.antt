@@ -30,7 +30,7 @@ done c =
     let s = shows _ u.0 c.args.node is c.requires.leaf in
     let led = ready_to_move c.args.slab.now c.in-Some.at c.args.node c.as_slice.result.now u.0 u.2 u.3 u.4 (rw c.as_slice.ensures (c.path_to.ensures u.0 s.0 s.1 (ready_to_search c.args.slab.now c.in-Some.at u.0 u.2 u.3 u.4) s.2)) in
     let k = c.move_below.ensures.there c.args.node u.0 led in
-    (u.0, is, sym k.is_at, sound_moved c.args.slab.now c.move_below.new.slab c.args.node c.args.fat.now u.0 u.3 k.holds c.move_below.ensures.len)
+    (u.0, is, sym k.is_at, sound_moved c.args.slab.now c.move_below.new.slab c.args.node c.args.fat.now u.0 u.3 k.holds c.move_below.ensures.keys.len)
 
 pub returns-clause-sound : goal.returns-clause-sound
 returns-clause-sound c =

@@ -31,7 +31,7 @@ adjust-requires t c =
       g.0,
       o.1,
       removed_adjust c.remove_below-below.new.slab c.args.slab.now c.args.at c.toward-down.result.0 c.toward-down.result.1 c.remove_below-below.result.0 c.remove_below-below.result.1 q.0 q.1 o.0 o.1 g.0 o.2 g.1 (removed_rebalance c.args.slab.now c.remove_below-below.new.slab c.args.at c.toward-down.result.0 c.toward-down.result.1 c.remove_below-below.result.0 c.remove_below-below.result.1 q.0 c.args.next c.args.path.now q.1 o.0 o.1 g.0 q.2 o.2 g.1
-          (c.remove_below-below.ensures.here c.args.at (subst IsSome (sym c.index.ensures) refl))
+          (c.remove_below-below.ensures.keys.here c.args.at (subst IsSome (sym c.index.ensures) refl))
           (c.remove_below-below.ensures.kept q.0 o.0 o.1 k (stay_apart c.args.slab.now c.args.at c.toward-down.result.0 c.toward-down.result.1 q.0 c.args.next c.args.path.now q.1 o.0 o.1 q.2 o.2) o.2.stay_kept.holds)),
     )
 
@@ -42,7 +42,7 @@ returns-in-len1-up-clause-there t c node x p =
     let k = step_toward c.args.slab.now c.args.at c.toward-down.result.0 c.toward-down.result.1 node c.args.next (get_or c.args.path.now 0 0) c.args.path.now (take (length c.args.path.now - 1) (drop 1 c.args.path.now)) x o.0 o.1 p o.2 o.3 e in
     let g = c.remove_below-below.ensures.there node o.0 k in
     let n = removed_rebalance c.args.slab.now c.remove_below-below.new.slab c.args.at c.toward-down.result.0 c.toward-down.result.1 c.remove_below-below.result.0 c.remove_below-below.result.1 node c.args.next c.args.path.now x o.0 o.1 g.0 p o.2 g.1
-    (c.remove_below-below.ensures.here c.args.at (subst IsSome (sym c.index.ensures) refl))
+    (c.remove_below-below.ensures.keys.here c.args.at (subst IsSome (sym c.index.ensures) refl))
     (c.remove_below-below.ensures.kept node o.0 o.1 k (stay_apart c.args.slab.now c.args.at c.toward-down.result.0 c.toward-down.result.1 node c.args.next c.args.path.now x o.0 o.1 p o.2) o.2.stay_kept.holds) in
     let w = c.adjust.ensures.there g.0 o.1 (removed_adjust c.remove_below-below.new.slab c.args.slab.now c.args.at c.toward-down.result.0 c.toward-down.result.1 c.remove_below-below.result.0 c.remove_below-below.result.1 node x o.0 o.1 g.0 o.2 g.1 n) in
     (w.0, step_removed c.args.slab.now c.remove_below-below.new.slab c.adjust.new.slab c.args.at c.toward-down.result.0 c.toward-down.result.1 c.remove_below-below.result.0 c.remove_below-below.result.1 c.adjust.result node x o.0 o.1 g.0 w.0 o.2 g.1 w.1)
@@ -54,7 +54,7 @@ returns-in-len1-up-clause-kept t c node x v p free held =
     let k = step_toward c.args.slab.now c.args.at c.toward-down.result.0 c.toward-down.result.1 node c.args.next (get_or c.args.path.now 0 0) c.args.path.now (take (length c.args.path.now - 1) (drop 1 c.args.path.now)) x o.0 o.1 p o.2 o.3 e in
     let g = c.remove_below-below.ensures.there node o.0 k in
     let n = removed_rebalance c.args.slab.now c.remove_below-below.new.slab c.args.at c.toward-down.result.0 c.toward-down.result.1 c.remove_below-below.result.0 c.remove_below-below.result.1 node c.args.next c.args.path.now x o.0 o.1 g.0 p o.2 g.1
-    (c.remove_below-below.ensures.here c.args.at (subst IsSome (sym c.index.ensures) refl))
+    (c.remove_below-below.ensures.keys.here c.args.at (subst IsSome (sym c.index.ensures) refl))
     (c.remove_below-below.ensures.kept node o.0 o.1 k (stay_apart c.args.slab.now c.args.at c.toward-down.result.0 c.toward-down.result.1 node c.args.next c.args.path.now x o.0 o.1 p o.2) o.2.stay_kept.holds) in
     let f = removed_elsewhere c.args.slab.now c.remove_below-below.new.slab c.args.at c.toward-down.result.0 c.toward-down.result.1 c.remove_below-below.result.0 c.remove_below-below.result.1 node x o.0 o.1 g.0 v o.2 g.1 free in
     c.adjust.ensures.kept g.0 o.1 v (removed_adjust c.remove_below-below.new.slab c.args.slab.now c.args.at c.toward-down.result.0 c.toward-down.result.1 c.remove_below-below.result.0 c.remove_below-below.result.1 node x o.0 o.1 g.0 o.2 g.1 n)

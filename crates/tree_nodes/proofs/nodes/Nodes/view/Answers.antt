@@ -6,6 +6,7 @@ use Rattle.tree_nodes.specs.Stored.{SoundIn}
 use Rattle.tree_nodes.specs.Tree.{Tree, view_in}
 use Rattle.tree_nodes.proofs.Heights.{seen_tree}
 use Rattle.tree_nodes.proofs.Views.{some_is, sound_viewed}
+use Rattle.tree_nodes.proofs.NodesViews.{children_shown}
 use Rattle.tree_nodes.proofs.nodes.Nodes.view.Goals as goal
 
 found : (slab : Slab NodeView) (root : Option ℕ) (t u : Option Tree) (k : ℕ) → SoundIn slab root t → t ≡ u → IsSome (view_in u k) → (v : NodeView) × (get slab k ≡ Some v) × (view_in u k ≡ Some v)
@@ -23,3 +24,6 @@ returns-clause-value c =
 
 pub returns-clause-tree : goal.returns-clause-tree
 returns-clause-tree c = seen_tree c.self.inside.slab c.self.inside.root _ _ c.self.invariant.1 c.self.view_is
+
+pub returns-clause-children : goal.returns-clause-children
+returns-clause-children c = children_shown c.args.self.now c.args.node c.index.result.now (returns-clause-value c)
