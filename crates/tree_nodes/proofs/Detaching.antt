@@ -1,4 +1,4 @@
--- A leaf goes from a slab and its tree.
+-- A leaf and its parent go from a slab and its tree.
 use Rattle.std.proofs.Common.{◌≡◌, ◌≢◌, ℕ, suc, ◌+◌, ◌≤◌, Option, None, Some, IsSome, List, [], ◌∷◌, length, refl, sym, subst, arith, ⊎_elim}
 use Rattle.std.specs.List.{sum_by}
 use Rattle.std.specs.List.Sorted.{IsPermutation}
@@ -28,14 +28,18 @@ pub end_counted : (t : Tree) (ps : List ℕ) (node : ℕ) → Leads t ps node �
 end_counted (tip n s b) [] node w = let e : one n node ≡ 1 = subst (λ k. one n k ≡ 1) w (one_same n) in omega arith
 end_counted (tip n s b) (p ∷ ps) node w = absurd w
 end_counted (fork n h k l r) [] node w = absurd w
-end_counted (fork n h k l r) (p ∷ ps) node w = ⊎_elim (λ x. let a = end_counted l ps node x.1 in omega arith) (λ x. let a = end_counted r ps node x.1 in omega arith) w
+end_counted (fork n h k l r) (p ∷ ps) node w =
+    ⊎_elim (λ x. let a = end_counted l ps node x.1 in omega arith) (λ x. let a = end_counted r ps node x.1 in omega arith) w
 
 -- a way of no step
-pub only : (slab : Slab NodeView) (t : Tree) (node : ℕ) (ps : List ℕ) → ps ≡ [] → Leads t ps node → Sound slab t → (x : LeafOf) × (x.node ≡ node) × IsPermutation (x ∷ []) (leaves t) × (slab_len slab ≡ 1)
-only slab (tip n s b) node ps e w sound = (record { node = n; slot = s; fat = b }, subst (λ q. Leads (tip n s b) q node) e w, IsPermutation-refl _, sound.counted)
+pub only : (slab : Slab NodeView) (t : Tree) (node : ℕ) (ps : List ℕ) → ps ≡ [] → Leads t ps node → Sound slab t
+    → (x : LeafOf) × (x.node ≡ node) × IsPermutation (x ∷ []) (leaves t) × (slab_len slab ≡ 1)
+only slab (tip n s b) node ps e w sound =
+    (record { node = n; slot = s; fat = b }, subst (λ q. Leads (tip n s b) q node) e w, IsPermutation-refl _, sound.counted)
 only slab (fork n h k l r) node ps e w sound = absurd (subst (λ q. Leads (fork n h k l r) q node) e w)
 
-pub ready_to_remove : (slab : Slab NodeView) (root node next : ℕ) (rest path : List ℕ) (t : Tree) → root ≡ top t → Sound slab t → Leads t path node → path ≡ next ∷ rest → ToRemove slab root node next rest t
+pub ready_to_remove : (slab : Slab NodeView) (root node next : ℕ) (rest path : List ℕ) (t : Tree) → root ≡ top t → Sound slab t → Leads t path node
+    → path ≡ next ∷ rest → ToRemove slab root node next rest t
 ready_to_remove slab root node next rest path t is s leads e = record {
   kept = record { holds = s.holds; is_at = sym is };
   balanced = s.balanced;
@@ -45,7 +49,8 @@ ready_to_remove slab root node next rest path t is s leads e = record {
 }
 
 -- what is left is sound
-pub rest_sound : (old cut mid new : Slab NodeView) (root node freed : ℕ) (t u : Tree) → Sound old t → Removed cut root node freed t u → slab_len cut ≡ slab_len old → Updates cut mid node None → slab_len mid + 1 ≡ slab_len cut → Updates mid new freed None → slab_len new + 1 ≡ slab_len mid
+pub rest_sound : (old cut mid new : Slab NodeView) (root node freed : ℕ) (t u : Tree) → Sound old t → Removed cut root node freed t u
+    → slab_len cut ≡ slab_len old → Updates cut mid node None → slab_len mid + 1 ≡ slab_len cut → Updates mid new freed None → slab_len new + 1 ≡ slab_len mid
     → Sound new u
 rest_sound old cut mid new root node freed t u s p same a la b lb =
     let e1 : one node node ≡ 1 = one_same node in
@@ -63,11 +68,13 @@ rest_sound old cut mid new root node freed t u s p same a la b lb =
       balanced = p.balanced;
       few = omega arith;
       counted = omega arith;
-      slots = λ k. let w : sum_by (λ x. one x.slot k) (leaves t) ≡ one p.leaf.slot k + sum_by (λ x. one x.slot k) (leaves u) = sum_by_pushed (λ (x : LeafOf). one x.slot k) p.leaf (leaves u) (leaves t) p.leaves_are in let q = s.slots k in omega arith;
+      slots = λ k. let w : sum_by (λ x. one x.slot k) (leaves t) ≡ one p.leaf.slot k + sum_by (λ x. one x.slot k) (leaves u) =
+          sum_by_pushed (λ (x : LeafOf). one x.slot k) p.leaf (leaves u) (leaves t) p.leaves_are in let q = s.slots k in omega arith;
     }
 
 -- both nodes that go are held
-pub both_held : (old cut : Slab NodeView) (root node freed : ℕ) (t u : Tree) → Sound old t → Removed cut root node freed t u → IsSome (get old node) × IsSome (get old freed) × (freed ≢ node)
+pub both_held : (old cut : Slab NodeView) (root node freed : ℕ) (t u : Tree) → Sound old t → Removed cut root node freed t u
+    → IsSome (get old node) × IsSome (get old freed) × (freed ≢ node)
 both_held old cut root node freed t u s p =
     let e1 : one node node ≡ 1 = one_same node in
     let e2 : one freed freed ≡ 1 = one_same freed in (

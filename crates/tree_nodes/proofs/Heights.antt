@@ -1,5 +1,6 @@
--- How high a balanced tree gets.
-use Rattle.std.proofs.Common.{◌≡◌, ℕ, zero, suc, ◌+◌, ◌≤◌, ◌-◌, max, length, length-append, refl, sym, subst, arith, ⊎_elim, ◌⊎◌, ◌↔◌, [], ap, Option, None, Some}
+-- How high a balanced tree gets, and what a slab keeps under a root.
+use Rattle.std.proofs.Common.{◌≡◌, ℕ, zero, suc, ◌+◌, ◌≤◌, ◌-◌, max, length, length-append, refl, sym, subst, arith, ⊎_elim, ◌⊎◌, ◌↔◌, [], ap, Option}
+use Rattle.std.proofs.Common.{None, Some}
 use Rattle.std.proofs.lemmas.Bool.{cases_lt}
 use Rattle.slab.specs.Slab.{Slab}
 use Rattle.tree_nodes.specs.declared.node_view.NodeView.{NodeView}
@@ -28,10 +29,13 @@ max_cases a b p q = grind (arith)
 -- of inner_of children
 of_two : (k a b : ℕ) → k ≡ 1 + max a b → a ≤ b + 1 → b ≤ a + 1 → fewest k ≤ fewest a + fewest b
 of_two k a b e p q = ⊎_elim
-    (λ c. let at : k ≡ suc a = omega arith in subst (λ x. fewest x ≤ fewest a + fewest b) (sym at) (subst (λ x. fewest (suc a) ≤ fewest a + fewest x) (sym c.1) (doubled a)))
+    (λ c. let at : k ≡ suc a = omega arith in subst (λ x. fewest x ≤ fewest a + fewest b) (sym at)
+    (subst (λ x. fewest (suc a) ≤ fewest a + fewest x) (sym c.1) (doubled a)))
     (λ d. ⊎_elim
-    (λ c. let at : k ≡ suc (suc b) = omega arith in subst (λ x. fewest x ≤ fewest a + fewest b) (sym at) (subst (λ x. fewest (suc (suc b)) ≤ fewest x + fewest b) (sym c.1) (omega arith)))
-    (λ c. let at : k ≡ suc (suc a) = omega arith in subst (λ x. fewest x ≤ fewest a + fewest b) (sym at) (subst (λ x. fewest (suc (suc a)) ≤ fewest a + fewest x) (sym c.1) (omega arith))) d)
+    (λ c. let at : k ≡ suc (suc b) = omega arith in subst (λ x. fewest x ≤ fewest a + fewest b) (sym at)
+    (subst (λ x. fewest (suc (suc b)) ≤ fewest x + fewest b) (sym c.1) (omega arith)))
+    (λ c. let at : k ≡ suc (suc a) = omega arith in subst (λ x. fewest x ≤ fewest a + fewest b) (sym at)
+    (subst (λ x. fewest (suc (suc a)) ≤ fewest a + fewest x) (sym c.1) (omega arith))) d)
     (max_cases a b p q)
 
 pub enough : (t : Tree) → Balanced t → fewest (height t) ≤ length (leaves t)
@@ -53,7 +57,8 @@ low t h few = ⊎_elim
     (cases_lt (height t) 19)
 
 -- the tree under_root a root
-pub under_root : (slab : Slab NodeView) (n : ℕ) (t : Option Tree) → SoundIn slab (Some n) t → (u : Tree) × (t ≡ Some u) × (n ≡ top u) × Sound slab u × (height u ≤ 18)
+pub under_root : (slab : Slab NodeView) (n : ℕ) (t : Option Tree) → SoundIn slab (Some n) t → (u : Tree) × (t ≡ Some u) × (n ≡ top u) × Sound slab u ×
+    (height u ≤ 18)
 under_root slab n None h = absurd h
 under_root slab n (Some t) h = (t, refl, h.0, h.1, low t h.1.balanced h.1.few)
 

@@ -1,5 +1,6 @@
 -- A leaf goes into a slab and its tree.
-use Rattle.std.proofs.Common.{◌≡◌, ◌≢◌, ℕ, zero, suc, ◌+◌, ◌<◌, ◌≤◌, max, true, false, cond, eqb, Option, None, Some, IsSome, List, [], ◌∷◌, length, length-append, refl, sym, ap, ◌∙◌, subst, arith, inl, inr, ⊎_elim, ◌⊎◌, All}
+use Rattle.std.proofs.Common.{◌≡◌, ◌≢◌, ℕ, zero, suc, ◌+◌, ◌<◌, ◌≤◌, max, true, false, cond, eqb, Option, None, Some, IsSome, List, [], ◌∷◌, length}
+use Rattle.std.proofs.Common.{length-append, refl, sym, ap, ◌∙◌, subst, arith, inl, inr, ⊎_elim, ◌⊎◌, All}
 use Rattle.std.specs.List.{sum_by}
 use Rattle.std.proofs.lemmas.Bool.Decides.{nat_tests}
 use Rattle.std.proofs.lemmas.List.Sorted.{length_permutation, sum_by_pushed}
@@ -15,7 +16,9 @@ use Rattle.tree_nodes.proofs.Frames.{one_same, frame}
 use Rattle.tree_nodes.proofs.Heights.{low}
 
 pub one_cases : (n k : ℕ) → (n ≡ k) ⊎ (one n k ≡ 0)
-one_cases n k = elim (eqb n k) as (λ b. eqb n k ≡ b → (n ≡ k) ⊎ (◌≡◌ {A = ℕ} (cond b 1 0) 0)) [ true ↦ λ e. inl (let s : n ≡ k = grind (arith, nat_tests) in s) | false ↦ λ e. inr refl ] refl
+one_cases n k =
+    elim (eqb n k) as (λ b. eqb n k ≡ b → (n ≡ k) ⊎ (◌≡◌ {A = ℕ} (cond b 1 0) 0))
+    [ true ↦ λ e. inl (let s : n ≡ k = grind (arith, nat_tests) in s) | false ↦ λ e. inr refl ] refl
 
 pub one_other : (n k : ℕ) → n ≢ k → one n k ≡ 0
 one_other n k ne = ⊎_elim (λ e. absurd (ne e)) (λ e. e) (one_cases n k)
@@ -59,7 +62,8 @@ none_of (x ∷ xs) slot h =
     rw sum_by-cons (omega arith)
 
 -- the first leaf
-pub first_sound : (old new : Slab NodeView) (leaf slot : ℕ) (fat : Bounds) → slab_len old ≡ 0 → Updates old new leaf (Some (Leaf slot fat)) → slab_len new ≡ slab_len old + 1 → Sound new (tip leaf slot fat)
+pub first_sound : (old new : Slab NodeView) (leaf slot : ℕ) (fat : Bounds) → slab_len old ≡ 0 → Updates old new leaf (Some (Leaf slot fat))
+    → slab_len new ≡ slab_len old + 1 → Sound new (tip leaf slot fat)
 first_sound old new leaf slot fat none u len = record {
   holds = u.changed;
   apart = λ k. ⊎_elim (λ e. let o : one leaf k ≡ 1 = subst (λ x. one leaf x ≡ 1) e (one_same leaf) in omega arith) (λ e. omega arith) (one_cases leaf k);
@@ -69,7 +73,8 @@ first_sound old new leaf slot fat none u len = record {
   slots = λ k. ⊎_elim (λ e. let o : one slot k ≡ 1 = subst (λ x. one slot x ≡ 1) e (one_same slot) in omega arith) (λ e. omega arith) (one_cases slot k);
 }
 
-pub ready_to_insert : (old mid new : Slab NodeView) (at leaf new_parent slot : ℕ) (fat : Bounds) (v : NodeView) (t : Tree) → Sound old t → top t ≡ at → get old leaf ≡ None → Updates old mid leaf (Some (Leaf slot fat)) → get mid new_parent ≡ None → Updates mid new new_parent (Some v)
+pub ready_to_insert : (old mid new : Slab NodeView) (at leaf new_parent slot : ℕ) (fat : Bounds) (v : NodeView) (t : Tree) → Sound old t → top t ≡ at
+    → get old leaf ≡ None → Updates old mid leaf (Some (Leaf slot fat)) → get mid new_parent ≡ None → Updates mid new new_parent (Some v)
     → ToInsert new at leaf new_parent slot fat t
 ready_to_insert old mid new at leaf new_parent slot fat v t s is none u gone w =
     let f1 : count_of t leaf ≡ 0 = fresh old t leaf s.holds none in
@@ -85,16 +90,21 @@ ready_to_insert old mid new at leaf new_parent slot fat v t s is none u gone w =
       leaf_there = w.others leaf ne ∙ u.changed;
       room = subst IsSome (sym w.changed) refl;
       apart = λ k. ⊎_elim
-          (λ e. let a : count_of t k ≡ 0 = subst (λ x. count_of t x ≡ 0) e f1 in let b : one new_parent k ≡ 0 = subst (λ x. one new_parent x ≡ 0) e (one_other new_parent leaf (λ q. ne (sym q))) in
+          (λ e. let a : count_of t k ≡ 0 = subst (λ x. count_of t x ≡ 0) e f1 in let b : one new_parent k ≡ 0 =
+          subst (λ x. one new_parent x ≡ 0) e (one_other new_parent leaf (λ q. ne (sym q))) in
           let o : one leaf k ≡ 1 = subst (λ x. one leaf x ≡ 1) e (one_same leaf) in omega arith)
-          (λ z. ⊎_elim (λ e. let a : count_of t k ≡ 0 = subst (λ x. count_of t x ≡ 0) e f2 in let o : one new_parent k ≡ 1 = subst (λ x. one new_parent x ≡ 1) e (one_same new_parent) in omega arith)
+          (λ z. ⊎_elim (λ e. let a : count_of t k ≡ 0 = subst (λ x. count_of t x ≡ 0) e f2 in let o : one new_parent k ≡ 1 =
+          subst (λ x. one new_parent x ≡ 1) e (one_same new_parent) in omega arith)
           (λ y. let a = s.apart k in omega arith) (one_cases new_parent k)) (one_cases leaf k);
     }
 
-pub inserted_sound : (old ready new : Slab NodeView) (at leaf new_parent result slot : ℕ) (fat : Bounds) (t u : Tree) → Sound old t → length (leaves t) < 8192 → All (λ x. x.slot ≢ slot) (leaves t) → ToInsert ready at leaf new_parent slot fat t → Inserted new result leaf new_parent slot fat t u
+pub inserted_sound : (old ready new : Slab NodeView) (at leaf new_parent result slot : ℕ) (fat : Bounds) (t u : Tree) → Sound old t
+    → length (leaves t) < 8192 → All (λ x. x.slot ≢ slot) (leaves t) → ToInsert ready at leaf new_parent slot fat t
+    → Inserted new result leaf new_parent slot fat t u
     → slab_len new ≡ slab_len old + 2 → Sound new u
 inserted_sound old ready new at leaf new_parent result slot fat t u s few absent r g len =
-    let many : length (leaves u) ≡ suc (length (leaves t)) = length_permutation (record { node = leaf; slot = slot; fat = fat } ∷ leaves t) (leaves u) g.leaves_are in
+    let many : length (leaves u) ≡ suc (length (leaves t)) = length_permutation (record { node = leaf; slot = slot; fat = fat } ∷ leaves t)
+    (leaves u) g.leaves_are in
     let c = s.counted in
     let a = size_leaves t in
     let b = size_leaves u in
@@ -105,9 +115,12 @@ inserted_sound old ready new at leaf new_parent result slot fat t u s few absent
       few = omega arith;
       counted = omega arith;
       slots = λ k.
-          let sums : sum_by (λ x. one x.slot k) (leaves u) ≡ one slot k + sum_by (λ x. one x.slot k) (leaves t) = sum_by_pushed (λ (x : LeafOf). one x.slot k) (record { node = leaf; slot = slot; fat = fat }) (leaves t) (leaves u) g.leaves_are in
+          let sums : sum_by (λ x. one x.slot k) (leaves u) ≡ one slot k + sum_by (λ x. one x.slot k) (leaves t) =
+          sum_by_pushed (λ (x : LeafOf). one x.slot k) (record { node = leaf; slot = slot; fat = fat }) (leaves t) (leaves u) g.leaves_are in
           let before = s.slots k in
-          ⊎_elim (λ e. let z : sum_by (λ x. one x.slot k) (leaves t) ≡ 0 = subst (λ y. sum_by (λ x. one x.slot y) (leaves t) ≡ 0) e (none_of (leaves t) slot absent) in let o : one slot k ≡ 1 = subst (λ x. one slot x ≡ 1) e (one_same slot) in omega arith)
+          ⊎_elim (λ e. let z : sum_by (λ x. one x.slot k) (leaves t) ≡ 0 =
+          subst (λ y. sum_by (λ x. one x.slot y) (leaves t) ≡ 0) e (none_of (leaves t) slot absent) in let o : one slot k ≡ 1 =
+          subst (λ x. one slot x ≡ 1) e (one_same slot) in omega arith)
           (λ z. omega arith) (one_cases slot k);
     }
 

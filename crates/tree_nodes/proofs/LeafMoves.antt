@@ -1,68 +1,22 @@
--- A leaf gets another box in its place.
-use Rattle.std.proofs.Common.{◌≡◌, ◌≢◌, ℕ, ◌+◌, ◌≤◌, max, cond, Option, None, Some, IsSome, List, ◌∷◌, ◌++◌, map, option_map, refl, sym, ap, ◌∙◌, subst, arith, inl, inr, ⊎_elim, ◌⊎◌}
+-- Steps of a move down a tree and up again.
+use Rattle.std.proofs.Common.{◌≡◌, ◌≢◌, ℕ, ◌+◌, ◌≤◌, max, Option, None, Some, IsSome, List, ◌∷◌, map, option_map, refl, sym, ◌∙◌}
+use Rattle.std.proofs.Common.{subst, arith, inl, inr, ⊎_elim, ◌⊎◌}
 use Rattle.std.specs.List.{sum_by}
-use Rattle.std.proofs.lemmas.List.Sums.{sum_by-append}
-use Rattle.std.proofs.lemmas.List.{map-append}
 use Rattle.slab.specs.Slab.{Slab, get, slab_len}
 use Rattle.fixed_box.specs.Bounds.{Bounds}
 use Rattle.tree_nodes.specs.declared.node_view.NodeView.{NodeView}
 use Rattle.tree_nodes.specs.declared.node_view.NodeView.TheVariants.{Inner}
-use Rattle.tree_nodes.specs.Moved.{refitted, moved, leaf_moved}
+use Rattle.tree_nodes.specs.Moved.{moved, leaf_moved}
 use Rattle.tree_nodes.specs.Path.{Leads, ToMove}
 use Rattle.tree_nodes.specs.Rotation.{Children}
-use Rattle.tree_nodes.specs.Stored.{size, Holds, Sound, SoundIn, StandsAt}
-use Rattle.tree_nodes.specs.Tree.{Tree, tip, fork, top, height, count_of, one, Balanced, leaves, leaves_in, height_in, Leaf as LeafOf}
-use Rattle.tree_nodes.proofs.Balance.{refitted_balanced}
+use Rattle.tree_nodes.specs.Stored.{Holds, Sound, SoundIn, StandsAt}
+use Rattle.tree_nodes.specs.Tree.{Tree, fork, top, height, count_of, one, Balanced, leaves, leaves_in, height_in}
 use Rattle.tree_nodes.proofs.Detaching.{end_counted}
 use Rattle.tree_nodes.proofs.Frames.{one_same, frame}
 use Rattle.tree_nodes.proofs.Inserting.{size_leaves}
-use Rattle.tree_nodes.proofs.InsertingBelow.{top_counted}
-use Rattle.tree_nodes.proofs.LeafViews.{other_one}
+use Rattle.tree_nodes.proofs.MovedTrees.{moved_top, moved_counts, moved_size, moved_height, moved_balanced, moved_slots, unmoved, moved_leaves}
+use Rattle.tree_nodes.proofs.Opened.{top_counted}
 use Rattle.tree_nodes.proofs.Rotations.{children}
-
-pub moved_top : (node : ℕ) (fat : Bounds) (t : Tree) → top (moved node fat t) ≡ top t
-moved_top node fat (tip n s b) = refl
-moved_top node fat (fork n h k l r) = refl
-
-pub moved_counts : (node : ℕ) (fat : Bounds) (t : Tree) (k : ℕ) → count_of (moved node fat t) k ≡ count_of t k
-moved_counts node fat (tip n s b) k = refl
-moved_counts node fat (fork n h j l r) k = let a = moved_counts node fat l k in let b = moved_counts node fat r k in omega arith
-
-pub moved_size : (node : ℕ) (fat : Bounds) (t : Tree) → size (moved node fat t) ≡ size t
-moved_size node fat (tip n s b) = refl
-moved_size node fat (fork n h j l r) = let a = moved_size node fat l in let b = moved_size node fat r in omega arith
-
-pub moved_height : (node : ℕ) (fat : Bounds) (t : Tree) → Balanced t → height (moved node fat t) ≡ height t
-moved_height node fat (tip n s b) h = refl
-moved_height node fat (fork n hu k l r) h =
-    let a : height (moved node fat l) ≡ height l = moved_height node fat l h.1 in
-    let b : height (moved node fat r) ≡ height r = moved_height node fat r h.2 in
-    ap (λ x. 1 + max x (height (moved node fat r))) a ∙ ap (λ x. 1 + max (height l) x) b ∙ sym h.0.height_is
-
-pub moved_balanced : (node : ℕ) (fat : Bounds) (t : Tree) → Balanced t → Balanced (moved node fat t)
-moved_balanced node fat (tip n s b) h = tt
-moved_balanced node fat (fork n hu k l r) h =
-    let a : height (moved node fat l) ≡ height l = moved_height node fat l h.1 in
-    let b : height (moved node fat r) ≡ height r = moved_height node fat r h.2 in
-    let lo = h.0.left_low in
-    let ro = h.0.right_low in
-    refitted_balanced n (moved node fat l) (moved node fat r) (moved_balanced node fat l h.1) (moved_balanced node fat r h.2) (omega arith) (omega arith)
-
-pub moved_slots : (node : ℕ) (fat : Bounds) (t : Tree) (k : ℕ) → sum_by (λ x. one x.slot k) (leaves (moved node fat t)) ≡ sum_by (λ x. one x.slot k) (leaves t)
-moved_slots node fat (tip n s b) k = refl
-moved_slots node fat (fork n h j l r) k =
-    let f : LeafOf → ℕ = λ x. one x.slot k in
-    let a : sum_by f (leaves (moved node fat l)) ≡ sum_by f (leaves l) = moved_slots node fat l k in
-    let b : sum_by f (leaves (moved node fat r)) ≡ sum_by f (leaves r) = moved_slots node fat r k in
-    sum_by-append f (leaves (moved node fat l)) (leaves (moved node fat r)) ∙ ap (λ x. x + sum_by f (leaves (moved node fat r))) a ∙ ap (λ x. sum_by f (leaves l) + x) b ∙ sym (sum_by-append f (leaves l) (leaves r))
-
--- where the leaf isn't, nothing changes
-pub unmoved : (node : ℕ) (fat : Bounds) (t : Tree) → Balanced t → count_of t node ≡ 0 → moved node fat t ≡ t
-unmoved node fat (tip n s b) h z = let e = other_one n node z in ap (λ c. tip n s (cond c fat b)) e
-unmoved node fat (fork n hu k l r) h z =
-    let a = unmoved node fat l h.1 (omega arith) in
-    let b = unmoved node fat r h.2 (omega arith) in
-    ap (λ x. refitted n x (moved node fat r)) a ∙ ap (λ x. refitted n l x) b ∙ ap (λ x. fork n x (1 + max (height l) (height r)) l r) (sym h.0.hull_is) ∙ ap (λ x. fork n hu x l r) (sym h.0.height_is)
 
 -- one step of the way
 pub record OneStep (slab : Slab NodeView) (at left right next k : ℕ) (hu : Bounds) (node : ℕ) (rest : List ℕ) (t : Tree) : Type 0 where
@@ -78,7 +32,8 @@ pub record OneStep (slab : Slab NodeView) (at left right next k : ℕ) (hu : Bou
   pub apart : (x : ℕ) → one at x + (count_of f x + count_of g x) ≤ 1
   pub on : ToMove slab next node rest f ⊎ ToMove slab next node rest g
 
-pub down : (slab : Slab NodeView) (at left right next k : ℕ) (hu : Bounds) (node : ℕ) (path rest : List ℕ) (t : Tree) → ToMove slab at node path t → get slab at ≡ Some (Inner left right hu k) → path ≡ next ∷ rest → OneStep slab at left right next k hu node rest t
+pub down : (slab : Slab NodeView) (at left right next k : ℕ) (hu : Bounds) (node : ℕ) (path rest : List ℕ) (t : Tree) → ToMove slab at node path t
+    → get slab at ≡ Some (Inner left right hu k) → path ≡ next ∷ rest → OneStep slab at left right next k hu node rest t
 down slab at left right next k hu node path rest t w e p =
     let c = children slab at left right k hu t w.kept e in
     let f = c.0 in
@@ -89,7 +44,8 @@ down slab at left right next k hu node path rest t w e p =
     let fl : height f ≤ 60 = grind (arith) in
     let gl : height g ≤ 60 = grind (arith) in
     let apart : (x : ℕ) → one at x + (count_of f x + count_of g x) ≤ 1 = subst (λ t. (x : ℕ) → count_of t x ≤ 1) c.2 w.apart in
-    let leads : ((top f ≡ next) × Leads f rest node) ⊎ ((top g ≡ next) × Leads g rest node) = subst (λ q. Leads (fork at hu k f g) q node) p (subst (λ t. Leads t path node) c.2 w.leads) in
+    let leads : ((top f ≡ next) × Leads f rest node) ⊎ ((top g ≡ next) × Leads g rest node) =
+    subst (λ q. Leads (fork at hu k f g) q node) p (subst (λ t. Leads t path node) c.2 w.leads) in
     record {
       f = f;
       g = g;
@@ -102,8 +58,20 @@ down slab at left right next k hu node path rest t w e p =
       right_low = gl;
       apart = apart;
       on = ⊎_elim
-          (λ x. inl (record { kept = record { holds = c.3.holds; is_at = x.0 }; balanced = b.1; low = fl; apart = λ y. let a = apart y in omega arith; leads = x.1 }))
-          (λ x. inr (record { kept = record { holds = c.4.holds; is_at = x.0 }; balanced = b.2; low = gl; apart = λ y. let a = apart y in omega arith; leads = x.1 })) leads;
+          (λ x. inl (record {
+            kept = record { holds = c.3.holds; is_at = x.0 };
+            balanced = b.1;
+            low = fl;
+            apart = λ y. let a = apart y in omega arith;
+            leads = x.1;
+          }))
+          (λ x. inr (record {
+            kept = record { holds = c.4.holds; is_at = x.0 };
+            balanced = b.2;
+            low = gl;
+            apart = λ y. let a = apart y in omega arith;
+            leads = x.1;
+          })) leads;
     }
 
 pub children_moved : (old new : Slab NodeView) (at left right next k : ℕ) (hu : Bounds) (node : ℕ) (rest : List ℕ) (t : Tree) (fat : Bounds)
@@ -111,7 +79,8 @@ pub children_moved : (old new : Slab NodeView) (at left right next k : ℕ) (hu 
     → ((m : ℕ) (u v : Tree) → ToMove old next m rest u → ((x : ℕ) → count_of u x + count_of v x ≤ 1) → Holds old v → Holds new v)
     → IsSome (get new at) → (d : OneStep old at left right next k hu node rest t) → Children new at left right (moved node fat d.f) (moved node fat d.g)
 children_moved old new at left right next k hu node rest t fat there kept some d =
-    let apart : (x : ℕ) → one at x + (count_of (moved node fat d.f) x + count_of (moved node fat d.g) x) ≤ 1 = λ x. let a = d.apart x in let p = moved_counts node fat d.f x in let q = moved_counts node fat d.g x in omega arith in
+    let apart : (x : ℕ) → one at x + (count_of (moved node fat d.f) x + count_of (moved node fat d.g) x) ≤ 1 = λ x. let a = d.apart x in let p =
+    moved_counts node fat d.f x in let q = moved_counts node fat d.g x in omega arith in
     let hf = moved_height node fat d.f d.left_balanced in
     let hg = moved_height node fat d.g d.right_balanced in
     let fl = d.left_low in
@@ -123,7 +92,8 @@ children_moved old new at left right next k hu node rest t fat there kept some d
     record {
       room = some;
       left_kept = record { holds = (there node d.f on).holds; is_at = moved_top node fat d.f ∙ d.left_kept.is_at };
-      right_kept = subst (StandsAt new right) (sym (unmoved node fat d.g d.right_balanced z)) (record { holds = kept node d.f d.g on (λ x. let a = d.apart x in omega arith) d.right_kept.holds; is_at = d.right_kept.is_at });
+      right_kept = subst (StandsAt new right) (sym (unmoved node fat d.g d.right_balanced z))
+          (record { holds = kept node d.f d.g on (λ x. let a = d.apart x in omega arith) d.right_kept.holds; is_at = d.right_kept.is_at });
       apart = apart;
       left_small = omega arith;
       right_small = omega arith;
@@ -133,7 +103,8 @@ children_moved old new at left right next k hu node rest t fat there kept some d
     let z : count_of d.f node ≡ 0 = let a = d.apart node in omega arith in
     record {
       room = some;
-      left_kept = subst (StandsAt new left) (sym (unmoved node fat d.f d.left_balanced z)) (record { holds = kept node d.g d.f on (λ x. let a = d.apart x in omega arith) d.left_kept.holds; is_at = d.left_kept.is_at });
+      left_kept = subst (StandsAt new left) (sym (unmoved node fat d.f d.left_balanced z))
+          (record { holds = kept node d.g d.f on (λ x. let a = d.apart x in omega arith) d.left_kept.holds; is_at = d.left_kept.is_at });
       right_kept = record { holds = (there node d.g on).holds; is_at = moved_top node fat d.g ∙ d.right_kept.is_at };
       apart = apart;
       left_small = omega arith;
@@ -142,24 +113,28 @@ children_moved old new at left right next k hu node rest t fat there kept some d
     d.on
 
 -- a tree that shares no number with this one
-pub moved_elsewhere : (old new : Slab NodeView) (at left right next k : ℕ) (hu : Bounds) (node : ℕ) (rest : List ℕ) (t v : Tree) → (d : OneStep old at left right next k hu node rest t)
+pub moved_elsewhere : (old new : Slab NodeView) (at left right next k : ℕ) (hu : Bounds) (node : ℕ) (rest : List ℕ) (t v : Tree)
+    → (d : OneStep old at left right next k hu node rest t)
     → ((m : ℕ) (u v : Tree) → ToMove old next m rest u → ((x : ℕ) → count_of u x + count_of v x ≤ 1) → Holds old v → Holds new v)
     → ((x : ℕ) → count_of t x + count_of v x ≤ 1) → Holds old v → (count_of v at ≡ 0) × Holds new v
 moved_elsewhere old new at left right next k hu node rest t v d kept free held =
-    let free2 : (x : ℕ) → (one at x + (count_of d.f x + count_of d.g x)) + count_of v x ≤ 1 = subst (λ t. (x : ℕ) → count_of t x + count_of v x ≤ 1) d.is free in
+    let free2 : (x : ℕ) → (one at x + (count_of d.f x + count_of d.g x)) + count_of v x ≤ 1 =
+    subst (λ t. (x : ℕ) → count_of t x + count_of v x ≤ 1) d.is free in
     let o : one at at ≡ 1 = one_same at in
     let a = free2 at in (
       omega arith,
       ⊎_elim (λ on. kept node d.f v on (λ x. let a = free2 x in omega arith) held) (λ on. kept node d.g v on (λ x. let a = free2 x in omega arith) held) d.on,
     )
 
-pub leaf_elsewhere : (old new : Slab NodeView) (at node : ℕ) (path : List ℕ) (t v : Tree) → ToMove old at node path t → ((x : ℕ) → count_of t x + count_of v x ≤ 1) → ((k : ℕ) → k ≢ at → get new k ≡ get old k) → Holds old v → Holds new v
+pub leaf_elsewhere : (old new : Slab NodeView) (at node : ℕ) (path : List ℕ) (t v : Tree) → ToMove old at node path t
+    → ((x : ℕ) → count_of t x + count_of v x ≤ 1) → ((k : ℕ) → k ≢ at → get new k ≡ get old k) → Holds old v → Holds new v
 leaf_elsewhere old new at node path t v w free kept held =
     let u : 1 ≤ count_of t at = subst (λ k. 1 ≤ count_of t k) w.kept.is_at (top_counted t) in
     let a = free at in
     frame old new at kept v (omega arith) held
 
-pub sound_moved : (old new : Slab NodeView) (node : ℕ) (fat : Bounds) (t : Tree) → Sound old t → Holds new (moved node fat t) → slab_len new ≡ slab_len old → Sound new (moved node fat t)
+pub sound_moved : (old new : Slab NodeView) (node : ℕ) (fat : Bounds) (t : Tree) → Sound old t → Holds new (moved node fat t) → slab_len new ≡ slab_len old
+    → Sound new (moved node fat t)
 sound_moved old new node fat t s h len =
     let sz = moved_size node fat t in
     let a = size_leaves t in
@@ -172,16 +147,12 @@ sound_moved old new node fat t s h len =
       balanced = moved_balanced node fat t s.balanced;
       few = omega arith;
       counted = omega arith;
-      slots = λ k. let x = s.slots k in let y : sum_by (λ x. one x.slot k) (leaves (moved node fat t)) ≡ sum_by (λ x. one x.slot k) (leaves t) = moved_slots node fat t k in omega arith;
+      slots = λ k. let x = s.slots k in let y : sum_by (λ x. one x.slot k) (leaves (moved node fat t)) ≡ sum_by (λ x. one x.slot k) (leaves t) =
+          moved_slots node fat t k in omega arith;
     }
 
--- the leaves stay but for the box
-pub moved_leaves : (node : ℕ) (fat : Bounds) (t : Tree) → leaves (moved node fat t) ≡ map (leaf_moved node fat) (leaves t)
-moved_leaves node fat (tip n s b) = refl
-moved_leaves node fat (fork n h k l r) =
-    ap (λ x. x ++ leaves (moved node fat r)) (moved_leaves node fat l) ∙ ap (λ x. map (leaf_moved node fat) (leaves l) ++ x) (moved_leaves node fat r) ∙ sym (map-append (leaf_moved node fat) (leaves l) (leaves r))
-
-pub moved_in : (slab : Slab NodeView) (root : Option ℕ) (o p q : Option Tree) (node : ℕ) (fat : Bounds) → SoundIn slab root o → o ≡ p → q ≡ option_map (moved node fat) p → (leaves_in q ≡ map (leaf_moved node fat) (leaves_in p)) × (height_in q ≡ height_in p)
+pub moved_in : (slab : Slab NodeView) (root : Option ℕ) (o p q : Option Tree) (node : ℕ) (fat : Bounds) → SoundIn slab root o → o ≡ p
+    → q ≡ option_map (moved node fat) p → (leaves_in q ≡ map (leaf_moved node fat) (leaves_in p)) × (height_in q ≡ height_in p)
 moved_in slab root o None q node fat s e is = rw is (refl, refl)
 moved_in slab None None (Some t) q node fat s e is = cc
 moved_in slab None (Some u) (Some t) q node fat s e is = absurd s.0

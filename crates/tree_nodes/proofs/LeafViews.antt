@@ -1,5 +1,6 @@
--- The leaf that a number shows.
-use Rattle.std.proofs.Common.{◌≡◌, ℕ, zero, suc, ◌+◌, ◌<◌, ◌≤◌, true, false, cond, eqb, Option, None, Some, List, [], ◌∷◌, refl, sym, ap, slice_index_or, subst, arith, ⊎_elim}
+-- A leaf is what its number shows.
+use Rattle.std.proofs.Common.{◌≡◌, ℕ, zero, suc, ◌+◌, ◌<◌, ◌≤◌, true, false, cond, eqb, Option, None, Some, List, [], ◌∷◌, refl, sym, ap}
+use Rattle.std.proofs.Common.{slice_index_or, subst, arith, ⊎_elim}
 use Rattle.std.specs.List.{Contains}
 use Rattle.std.specs.List.Sorted.{IsPermutation}
 use Rattle.std.proofs.lemmas.List.Sorted.{Contains-permutation}
@@ -34,7 +35,8 @@ leaf_counted (tip n s b) x h =
     let m : n ≡ x.node = ap (λ (l : LeafOf). l.node) e in
     let o : one n n ≡ 1 = one_same n in
     subst (λ k. 1 ≤ one n k) m (omega arith)
-leaf_counted (fork n h k l r) x c = ⊎_elim (λ a. let u = leaf_counted l x a in omega arith) (λ a. let u = leaf_counted r x a in omega arith) (Contains-append_cases (leaves l) (leaves r) x c)
+leaf_counted (fork n h k l r) x c =
+    ⊎_elim (λ a. let u = leaf_counted l x a in omega arith) (λ a. let u = leaf_counted r x a in omega arith) (Contains-append_cases (leaves l) (leaves r) x c)
 
 -- a number that is not used shows nothing
 pub not_viewed : (t : Tree) (k : ℕ) → count_of t k ≡ 0 → view_at t k ≡ None
@@ -68,7 +70,8 @@ leaf_viewed (fork n hu k l r) x apart h = ⊎_elim
     (Contains-append_cases (leaves l) (leaves r) x h)
 
 -- the leaf that goes is the one that its number shows
-pub same_leaf : (t : Tree) (x : LeafOf) (us : List LeafOf) (node s : ℕ) (b : Bounds) → ((k : ℕ) → count_of t k ≤ 1) → x.node ≡ node → IsPermutation (x ∷ us) (leaves t) → view_at t node ≡ Some (Leaf s b) → IsPermutation (record { node = node; slot = s; fat = b } ∷ us) (leaves t)
+pub same_leaf : (t : Tree) (x : LeafOf) (us : List LeafOf) (node s : ℕ) (b : Bounds) → ((k : ℕ) → count_of t k ≤ 1) → x.node ≡ node
+    → IsPermutation (x ∷ us) (leaves t) → view_at t node ≡ Some (Leaf s b) → IsPermutation (record { node = node; slot = s; fat = b } ∷ us) (leaves t)
 same_leaf t x us node s b apart is p e =
     let i = leaf_viewed t x apart (Contains-permutation (x ∷ us) (leaves t) x p (0, omega arith, refl)) in
     let j : view_at t node ≡ Some (Leaf x.slot x.fat) = subst (λ k. view_at t k ≡ Some (Leaf x.slot x.fat)) is i in
@@ -84,5 +87,7 @@ ready_to_search slab at t e s l = record { kept = record { holds = s.holds; is_a
 pub shows : (o : Option Tree) (t : Tree) (node : ℕ) → o ≡ Some t → IsLeafOf o node → (s : ℕ) × (b : Bounds) × (view_at t node ≡ Some (Leaf s b))
 shows o t node e h = (h.0, h.1, subst (λ x. view_in x node ≡ Some (Leaf h.0 h.1)) e h.2)
 
-pub ready_to_move : (slab : Slab NodeView) (at node : ℕ) (path : List ℕ) (t : Tree) → at ≡ top t → Sound slab t → height t ≤ 18 → Leads t path node → ToMove slab at node path t
-ready_to_move slab at node path t e s l w = record { kept = record { holds = s.holds; is_at = sym e }; balanced = s.balanced; low = omega arith; apart = s.apart; leads = w }
+pub ready_to_move : (slab : Slab NodeView) (at node : ℕ) (path : List ℕ) (t : Tree) → at ≡ top t → Sound slab t → height t ≤ 18 → Leads t path node
+    → ToMove slab at node path t
+ready_to_move slab at node path t e s l w =
+    record { kept = record { holds = s.holds; is_at = sym e }; balanced = s.balanced; low = omega arith; apart = s.apart; leads = w }

@@ -1,16 +1,19 @@
-pub mod Views
-pub mod Heights
-pub mod Frames
-pub mod Rotations
-pub mod Balance
-pub mod InsertingBelow
-pub mod Inserting
-pub mod Detaching
-pub mod Removing
-pub mod Exchanges
-mod Paths
-mod LeafViews
-mod LeafMoves
 mod Adjusted
-pub mod TreeLaws
-pub mod NodesViews
+mod Balance
+mod Detaching
+mod Exchanges
+mod Frames
+mod Heights
+mod Inserting
+mod InsertingBelow
+mod LeafMoves
+mod LeafViews
+mod MovedTrees
+mod NodesViews
+mod Opened
+mod Paths
+mod Rebalanced
+mod Removing
+mod Rotations
+mod TreeLaws
+mod Views

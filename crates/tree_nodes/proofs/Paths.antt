@@ -1,5 +1,6 @@
 -- A leaf is found by its box.
-use Rattle.std.proofs.Common.{◌≡◌, ℕ, suc, ◌+◌, ◌<◌, ◌≤◌, max, Bool, true, false, cond, eqb, None, Some, List, [], ◌∷◌, ◌++◌, reverse, length, take, drop, refl, sym, ap, ◌∙◌, subst, arith, inl, inr}
+use Rattle.std.proofs.Common.{◌≡◌, ℕ, suc, ◌+◌, ◌<◌, ◌≤◌, max, Bool, true, false, cond, eqb, None, Some, List, [], ◌∷◌, ◌++◌, reverse, length, take}
+use Rattle.std.proofs.Common.{drop, refl, sym, ap, ◌∙◌, subst, arith, inl, inr}
 use Rattle.std.specs.List.{refill}
 use Rattle.std.proofs.lemmas.Bool.Decides.{nat_tests}
 use Rattle.std.proofs.lemmas.List.{reverse-append, length_push, length-reverse}
@@ -11,25 +12,28 @@ use Rattle.tree_nodes.specs.declared.node_view.NodeView.TheVariants.{Leaf, Inner
 use Rattle.tree_nodes.specs.Exchange.{height_shown}
 use Rattle.tree_nodes.specs.Path.{Leads, ToSearch, PathFound}
 use Rattle.tree_nodes.specs.Tree.{Tree, tip, fork, top, bounds, height, Balanced, view_at, or_else, view_of}
-use Rattle.tree_nodes.proofs.InsertingBelow.{height_in_slab}
+use Rattle.tree_nodes.proofs.Opened.{height_in_slab}
 use Rattle.tree_nodes.proofs.Rotations.{children}
 use Rattle.tree_nodes.proofs.Views.{or_cases}
 
 -- what a search at a leaf tells
-pub at_leaf : (slab : Slab NodeView) (at node sl : ℕ) (fa fat : Bounds) (t : Tree) → ToSearch slab at t → get slab at ≡ Some (Leaf sl fa) → PathFound node fat t (eqb at node) []
+pub at_leaf : (slab : Slab NodeView) (at node sl : ℕ) (fa fat : Bounds) (t : Tree) → ToSearch slab at t → get slab at ≡ Some (Leaf sl fa)
+    → PathFound node fat t (eqb at node) []
 at_leaf slab at node sl fa fat (tip n s b) w e =
     let m : n ≡ at = w.kept.is_at in
     subst (λ a. PathFound node fat (tip n s b) (eqb a node) []) m (record {
       leads = λ q. let o : n ≡ node = grind (arith, nat_tests) in o;
       missed = λ q. refl;
-      none = λ x q g. let z : cond (eqb n node) (Some (Leaf s b)) None ≡ Some (Leaf x fat) = g in let y : cond false (Some (Leaf s b)) None ≡ Some (Leaf x fat) = subst (λ v. cond v (Some (Leaf s b)) None ≡ Some (Leaf x fat)) q z in cc;
+      none = λ x q g. let z : cond (eqb n node) (Some (Leaf s b)) None ≡ Some (Leaf x fat) = g in
+          let y : cond false (Some (Leaf s b)) None ≡ Some (Leaf x fat) = subst (λ v. cond v (Some (Leaf s b)) None ≡ Some (Leaf x fat)) q z in cc;
       short = omega arith;
     })
 at_leaf slab at node sl fa fat (fork n h k l r) w e = let g = w.kept.holds.0 in let m : n ≡ at = w.kept.is_at in cc
 
 -- what a search outside a hull tells
 pub outside : (slab : Slab NodeView) (at left right k node : ℕ) (hu fat : Bounds) (t : Tree)
-    → ((t : Tree) (node s : ℕ) (b : Bounds) → Balanced t → view_at t node ≡ Some (Leaf s b) → encloses (bounds t) b ≡ true) → ToSearch slab at t → get slab at ≡ Some (Inner left right hu k) → encloses hu fat ≡ false → PathFound node fat t false []
+    → ((t : Tree) (node s : ℕ) (b : Bounds) → Balanced t → view_at t node ≡ Some (Leaf s b) → encloses (bounds t) b ≡ true) → ToSearch slab at t
+    → get slab at ≡ Some (Inner left right hu k) → encloses hu fat ≡ false → PathFound node fat t false []
 outside slab at left right k node hu fat t inside w e out =
     let c = children slab at left right k hu t w.kept e in
     let b : bounds t ≡ hu = ap bounds c.2 in
@@ -41,7 +45,8 @@ outside slab at left right k node hu fat t inside w e out =
     }
 
 -- the inner_of trees below
-pub both_below : (slab : Slab NodeView) (at left right k : ℕ) (hu : Bounds) (t : Tree) → ToSearch slab at t → get slab at ≡ Some (Inner left right hu k) → (f : Tree) × (g : Tree) × (t ≡ fork at hu k f g) × ToSearch slab left f × ToSearch slab right g × (suc (height f) ≤ k) × (suc (height g) ≤ k) × (k ≤ 18)
+pub both_below : (slab : Slab NodeView) (at left right k : ℕ) (hu : Bounds) (t : Tree) → ToSearch slab at t → get slab at ≡ Some (Inner left right hu k)
+    → (f : Tree) × (g : Tree) × (t ≡ fork at hu k f g) × ToSearch slab left f × ToSearch slab right g × (suc (height f) ≤ k) × (suc (height g) ≤ k) × (k ≤ 18)
 both_below slab at left right k hu t w e =
     let c = children slab at left right k hu t w.kept e in
     let b : Balanced (fork at hu k c.0 c.1) = subst Balanced c.2 w.balanced in
@@ -51,7 +56,8 @@ both_below slab at left right k hu t w e =
     let gl : suc (height c.1) ≤ k = grind (arith) in
     (c.0, c.1, c.2, record { kept = c.3; balanced = b.1; low = omega arith }, record { kept = c.4; balanced = b.2; low = omega arith }, fl, gl, low)
 
-pub from_left : (at left k node : ℕ) (hu fat : Bounds) (f g : Tree) (found : Bool) (path : List ℕ) → top f ≡ left → suc (height f) ≤ k → PathFound node fat f found path → found ≡ true → PathFound node fat (fork at hu k f g) true (path ++ left ∷ [])
+pub from_left : (at left k node : ℕ) (hu fat : Bounds) (f g : Tree) (found : Bool) (path : List ℕ) → top f ≡ left → suc (height f) ≤ k
+    → PathFound node fat f found path → found ≡ true → PathFound node fat (fork at hu k f g) true (path ++ left ∷ [])
 from_left at left k node hu fat f g found path is hi s got =
     let e : reverse (path ++ left ∷ []) ≡ left ∷ reverse path = reverse-append path (left ∷ []) in
     let n = length_push path left in
@@ -63,7 +69,8 @@ from_left at left k node hu fat f g found path is hi s got =
       short = omega arith;
     }
 
-pub from_right : (at right k node : ℕ) (hu fat : Bounds) (f g : Tree) (found : Bool) (path : List ℕ) → top g ≡ right → suc (height g) ≤ k → PathFound node fat g found path → found ≡ true → PathFound node fat (fork at hu k f g) true (path ++ right ∷ [])
+pub from_right : (at right k node : ℕ) (hu fat : Bounds) (f g : Tree) (found : Bool) (path : List ℕ) → top g ≡ right → suc (height g) ≤ k
+    → PathFound node fat g found path → found ≡ true → PathFound node fat (fork at hu k f g) true (path ++ right ∷ [])
 from_right at right k node hu fat f g found path is hi s got =
     let e : reverse (path ++ right ∷ []) ≡ right ∷ reverse path = reverse-append path (right ∷ []) in
     let n = length_push path right in
@@ -75,21 +82,25 @@ from_right at right k node hu fat f g found path is hi s got =
       short = omega arith;
     }
 
-pub neither : (at k node : ℕ) (hu fat : Bounds) (f g : Tree) (a b : Bool) (p q : List ℕ) → PathFound node fat f a p → a ≡ false → PathFound node fat g b q → b ≡ false → PathFound node fat (fork at hu k f g) false q
+pub neither : (at k node : ℕ) (hu fat : Bounds) (f g : Tree) (a b : Bool) (p q : List ℕ) → PathFound node fat f a p → a ≡ false → PathFound node fat g b q
+    → b ≡ false → PathFound node fat (fork at hu k f g) false q
 neither at k node hu fat f g a b p q s un s2 un2 =
     let z : q ≡ [] = s2.missed un2 in
     let len : length q ≡ 0 = ap length z in
     record {
       leads = λ q. cc;
       missed = λ _. z;
-      none = λ x _ h. elim (eqb at node) as (λ y. cond y (Some (view_of (fork at hu k f g))) (or_else (view_at f node) (view_at g node)) ≡ Some (Leaf x fat) → ⊥) [
-        | true ↦ λ h. cc
-        | false ↦ λ h. or_cases (λ v. v ≡ Leaf x fat → ⊥) (view_at f node) (view_at g node) (Leaf x fat) (λ u o same. s.none x un (o ∙ ap Some same)) (λ u o same. s2.none x un2 (o ∙ ap Some same)) h refl
-      ] h;
+      none = λ x _ h. elim (eqb at node) as (λ y. cond y (Some (view_of (fork at hu k f g))) (or_else (view_at f node) (view_at g node)) ≡ Some (Leaf x fat)
+          → ⊥) [
+            | true ↦ λ h. cc
+            | false ↦ λ h. or_cases (λ v. v ≡ Leaf x fat → ⊥) (view_at f node) (view_at g node) (Leaf x fat) (λ u o same. s.none x un (o ∙ ap Some same))
+                (λ u o same. s2.none x un2 (o ∙ ap Some same)) h refl
+          ] h;
       short = omega arith;
     }
 
-pub falls : (slab : Slab NodeView) (at b k : ℕ) (t f : Tree) → ToSearch slab at t → ToSearch slab b f → height t ≡ k → suc (height f) ≤ k → height_shown (get slab b) < height_shown (get slab at)
+pub falls : (slab : Slab NodeView) (at b k : ℕ) (t f : Tree) → ToSearch slab at t → ToSearch slab b f → height t ≡ k → suc (height f) ≤ k
+    → height_shown (get slab b) < height_shown (get slab at)
 falls slab at b k t f w v e hi =
     let x = height_in_slab slab at t w.kept in
     let y = height_in_slab slab b f v.kept in
@@ -100,7 +111,8 @@ whole path reversed e =
     ap (λ n. take n (reversed ++ drop (length reversed) path)) (sym e) ∙ take-append_seam reversed (drop (length reversed) path)
 
 -- the way from the top
-pub way : (slab : Slab NodeView) (node s sl : ℕ) (b fat : Bounds) (t : Tree) (found : Bool) (path reversed : List ℕ) → get slab node ≡ Some (Leaf s b) → get slab node ≡ Some (Leaf sl fat) → view_at t node ≡ Some (Leaf s b) → PathFound node fat t found path → reversed ≡ reverse path
+pub way : (slab : Slab NodeView) (node s sl : ℕ) (b fat : Bounds) (t : Tree) (found : Bool) (path reversed : List ℕ) → get slab node ≡ Some (Leaf s b)
+    → get slab node ≡ Some (Leaf sl fat) → view_at t node ≡ Some (Leaf s b) → PathFound node fat t found path → reversed ≡ reverse path
     → Leads t (refill (length path) path reversed) node
 way slab node s sl b fat t found path reversed g h e w is =
     let same : b ≡ fat = cc in

@@ -1,8 +1,10 @@
--- A leaf goes from a tree.
-use Rattle.std.proofs.Common.{◌≡◌, ◌≢◌, ℕ, ◌+◌, ◌<◌, ◌≤◌, ◌-◌, max, Some, IsSome, List, [], ◌∷◌, ◌++◌, get_or, take, drop, length, refl, sym, ap, ◌∙◌, subst, arith, ⊎_elim, ◌⊎◌}
+-- Steps of a removal down a tree and up again.
+use Rattle.std.proofs.Common.{◌≡◌, ◌≢◌, ℕ, ◌+◌, ◌<◌, ◌≤◌, ◌-◌, max, Some, IsSome, List, [], ◌∷◌, ◌++◌, get_or, take, drop, length, refl, sym, ap, ◌∙◌}
+use Rattle.std.proofs.Common.{subst, arith, ⊎_elim, ◌⊎◌}
 use Rattle.std.proofs.lemmas.Bool.{cases_lt}
 use Rattle.std.proofs.Math.Seq.{take-length}
-use Rattle.std.proofs.lemmas.List.Sorted.{IsPermutation-refl, IsPermutation-sym, IsPermutation-trans, IsPermutation-append_left, IsPermutation-append_comm, IsPermutation-cons}
+use Rattle.std.proofs.lemmas.List.Sorted.{IsPermutation-refl, IsPermutation-sym, IsPermutation-trans, IsPermutation-append_left}
+use Rattle.std.proofs.lemmas.List.Sorted.{IsPermutation-append_comm, IsPermutation-cons}
 use Rattle.slab.specs.Slab.{Slab, get}
 use Rattle.fixed_box.specs.Bounds.{Bounds}
 use Rattle.tree_nodes.specs.declared.node_view.NodeView.{NodeView}
@@ -14,11 +16,13 @@ use Rattle.tree_nodes.specs.Stored.{Holds, StandsAt}
 use Rattle.tree_nodes.specs.Tree.{Tree, tip, fork, top, count_of, one, height, Balanced, leaves}
 use Rattle.tree_nodes.proofs.Balance.{refitted_balanced, rebalanced_balanced}
 use Rattle.tree_nodes.proofs.Frames.{one_same}
-use Rattle.tree_nodes.proofs.InsertingBelow.{top_counted, rebalanced_counts, rebalanced_leaves, rebalanced_unrotated}
+use Rattle.tree_nodes.proofs.Opened.{top_counted}
+use Rattle.tree_nodes.proofs.Rebalanced.{rebalanced_counts, rebalanced_leaves, rebalanced_unrotated}
 use Rattle.tree_nodes.proofs.Rotations.{children}
 
 -- a leaf has no way on
-pub no_way : (slab : Slab NodeView) (at node next sl : ℕ) (fa : Bounds) (rest : List ℕ) (t : Tree) → ToRemove slab at node next rest t → get slab at ≡ Some (Leaf sl fa) → ⊥
+pub no_way : (slab : Slab NodeView) (at node next sl : ℕ) (fa : Bounds) (rest : List ℕ) (t : Tree) → ToRemove slab at node next rest t
+    → get slab at ≡ Some (Leaf sl fa) → ⊥
 no_way slab at node next sl fa rest (tip n s b) c e = c.leads
 no_way slab at node next sl fa rest (fork n h k l r) c e = let g = c.kept.holds.0 in let m : n ≡ at = c.kept.is_at in cc
 
@@ -35,7 +39,8 @@ opened_reversed slab at down stay t d s o = record {
   stay_low = o.down_low;
 }
 
-as_it_is : (slab : Slab NodeView) (at left right k : ℕ) (hu : Bounds) (t f g : Tree) → t ≡ fork at hu k f g → StandsAt slab left f → StandsAt slab right g → Balanced t → Opened slab at left right t f g
+as_it_is : (slab : Slab NodeView) (at left right k : ℕ) (hu : Bounds) (t f g : Tree) → t ≡ fork at hu k f g → StandsAt slab left f → StandsAt slab right g
+    → Balanced t → Opened slab at left right t f g
 as_it_is slab at left right k hu t f g e p q bal =
     let b : Balanced (fork at hu k f g) = subst Balanced e bal in
     subst (λ t. Opened slab at left right t f g) (sym e) (record {
@@ -60,8 +65,10 @@ tops_differ at t d s apart are same =
     absurd (omega arith)
 
 -- the tree that is next, whichever way round
-pub onward : (slab : Slab NodeView) (at left right k : ℕ) (hu : Bounds) (node next : ℕ) (rest : List ℕ) (t : Tree) (r : ℕ × ℕ) → ToRemove slab at node next rest t → get slab at ≡ Some (Inner left right hu k)
-    → (r ≡ (left, right)) ⊎ (r ≡ (right, left)) → (next ≡ left → r.0 ≡ next) → (next ≡ right → r.0 ≡ next) → (d : Tree) × (s : Tree) × Opened slab at r.0 r.1 t d s × Leads d rest node
+pub onward : (slab : Slab NodeView) (at left right k : ℕ) (hu : Bounds) (node next : ℕ) (rest : List ℕ) (t : Tree) (r : ℕ × ℕ)
+    → ToRemove slab at node next rest t → get slab at ≡ Some (Inner left right hu k)
+    → (r ≡ (left, right)) ⊎ (r ≡ (right, left)) → (next ≡ left → r.0 ≡ next) → (next ≡ right → r.0 ≡ next)
+    → (d : Tree) × (s : Tree) × Opened slab at r.0 r.1 t d s × Leads d rest node
 onward slab at left right k hu node next rest t r c e pick on_left on_right =
     let ch = children slab at left right k hu t c.kept e in
     let f = ch.0 in
@@ -85,7 +92,8 @@ pub parted : (xs : List ℕ) → 1 ≤ length xs → xs ≡ get_or xs 0 0 ∷ ta
 parted [] l = absurd (omega arith)
 parted (x ∷ xs) l = let n : length (x ∷ xs) - 1 ≡ length xs = omega arith in ap (λ ys. x ∷ ys) (sym (ap (λ k. take k xs) n ∙ take-length xs))
 
-pub step_toward : (slab : Slab NodeView) (at down stay node next after : ℕ) (path rest : List ℕ) (t d s : Tree) → ToRemove slab at node next path t → Opened slab at down stay t d s → Leads d path node → path ≡ after ∷ rest → ToRemove slab down node after rest d
+pub step_toward : (slab : Slab NodeView) (at down stay node next after : ℕ) (path rest : List ℕ) (t d s : Tree) → ToRemove slab at node next path t
+    → Opened slab at down stay t d s → Leads d path node → path ≡ after ∷ rest → ToRemove slab down node after rest d
 step_toward slab at down stay node next after path rest t d s c o leads e = record {
   kept = o.down_kept;
   balanced = o.down_balanced;
@@ -94,11 +102,13 @@ step_toward slab at down stay node next after path rest t d s c o leads e = reco
   leads = subst (λ p. Leads d p node) e leads;
 }
 
-pub stay_apart : (slab : Slab NodeView) (at down stay node next : ℕ) (path : List ℕ) (t d s : Tree) → ToRemove slab at node next path t → Opened slab at down stay t d s → (k : ℕ) → count_of d k + count_of s k ≤ 1
+pub stay_apart : (slab : Slab NodeView) (at down stay node next : ℕ) (path : List ℕ) (t d s : Tree) → ToRemove slab at node next path t
+    → Opened slab at down stay t d s → (k : ℕ) → count_of d k + count_of s k ≤ 1
 stay_apart slab at down stay node next path t d s c o k = let a = c.apart k in let u = o.counts_are k in omega arith
 
 -- one child shrank by at most one
-pub shrunk : (n h : ℕ) (d u s : Tree) → Balanced u → Balanced s → height u ≤ height d → height d ≤ height u + 1 → h ≡ 1 + max (height d) (height s) → height d ≤ height s + 1 → height s ≤ height d + 1
+pub shrunk : (n h : ℕ) (d u s : Tree) → Balanced u → Balanced s → height u ≤ height d → height d ≤ height u + 1 → h ≡ 1 + max (height d) (height s)
+    → height d ≤ height s + 1 → height s ≤ height d + 1
     → Balanced (rebalanced n u s) × (height (rebalanced n u s) ≤ h) × (h ≤ height (rebalanced n u s) + 1)
 shrunk n h d u s bu bs a b e dl sl =
     let whole : BalancedNear (rebalanced n u s) (max (height u) (height s)) = rebalanced_balanced n u s bu bs (omega arith) (omega arith) in
@@ -106,7 +116,8 @@ shrunk n h d u s bu bs a b e dl sl =
     (λ (lt : height s < height u + 2).
     let lo : height u ≤ height s + 1 = omega arith in
     let ro : height s ≤ height u + 1 = omega arith in
-    subst (λ t. Balanced t × (height t ≤ h) × (h ≤ height t + 1)) (sym (rebalanced_unrotated n u s lo ro)) (refitted_balanced n u s bu bs lo ro, grind (arith), grind (arith)))
+    subst (λ t. Balanced t × (height t ≤ h) × (h ≤ height t + 1)) (sym (rebalanced_unrotated n u s lo ro))
+    (refitted_balanced n u s bu bs lo ro, grind (arith), grind (arith)))
     (λ (ge : height u + 2 ≤ height s).
     let m : max (height u) (height s) ≡ height s = grind (arith) in
     let hh : h ≡ 1 + height s = grind (arith) in
@@ -130,7 +141,9 @@ leaf_cut slab at down stay node t (tip n sl b) s o leads =
       most = let a = o.stay_low in let b = o.down_low in grind (arith);
     }
 
-pub removed_rebalance : (old new : Slab NodeView) (at down stay below freed node next : ℕ) (rest : List ℕ) (t d s u : Tree) → ToRemove old at node next rest t → Opened old at down stay t d s → Removed new below node freed d u → IsSome (get new at) → Holds new s → ToRebalance new at below stay u s
+pub removed_rebalance : (old new : Slab NodeView) (at down stay below freed node next : ℕ) (rest : List ℕ) (t d s u : Tree)
+    → ToRemove old at node next rest t → Opened old at down stay t d s → Removed new below node freed d u → IsSome (get new at) → Holds new s
+    → ToRebalance new at below stay u s
 removed_rebalance old new at down stay below freed node next rest t d s u c o p here held =
     let low = c.low in
     let e = o.height_is in
@@ -152,7 +165,8 @@ removed_rebalance old new at down stay below freed node next rest t d s u c o p 
       right_low = omega arith;
     }
 
-pub removed_adjust : (new old : Slab NodeView) (at down stay below freed node : ℕ) (t d s u : Tree) → Opened old at down stay t d s → Removed new below node freed d u → ToRebalance new at below stay u s → ToAdjust new at below stay u s
+pub removed_adjust : (new old : Slab NodeView) (at down stay below freed node : ℕ) (t d s u : Tree) → Opened old at down stay t d s
+    → Removed new below node freed d u → ToRebalance new at below stay u s → ToAdjust new at below stay u s
 removed_adjust new old at down stay below freed node t d s u o p n =
     let a = p.most in
     let b = p.least in
@@ -160,7 +174,8 @@ removed_adjust new old at down stay below freed node t d s u o p n =
     let f = o.stay_low in
     record { near = n; left_low = omega arith; right_low = omega arith }
 
-pub step_removed : (old mid new : Slab NodeView) (at down stay below freed result node : ℕ) (t d s u w : Tree) → Opened old at down stay t d s → Removed mid below node freed d u → SameLeaves new result (rebalanced at u s) w → Removed new result node freed t w
+pub step_removed : (old mid new : Slab NodeView) (at down stay below freed result node : ℕ) (t d s u w : Tree) → Opened old at down stay t d s
+    → Removed mid below node freed d u → SameLeaves new result (rebalanced at u s) w → Removed new result node freed t w
 step_removed old mid new at down stay below freed result node t d s u w o p z =
     let g = shrunk at (height t) d u s p.balanced o.stay_balanced p.least p.most o.height_is o.down_low o.stay_low in
     let g1 = g.1 in
@@ -171,8 +186,10 @@ step_removed old mid new at down stay below freed result node t d s u w o p z =
       kept = z.kept;
       leaves_are =
           IsPermutation-trans (p.leaf ∷ leaves w) (p.leaf ∷ (leaves u ++ leaves s)) (leaves t)
-          (IsPermutation-cons p.leaf (leaves w) (leaves u ++ leaves s) (IsPermutation-sym (leaves u ++ leaves s) (leaves w) (IsPermutation-trans (leaves u ++ leaves s) (leaves (rebalanced at u s)) (leaves w) (rebalanced_leaves at u s) z.leaves_are)))
-          (IsPermutation-trans ((p.leaf ∷ leaves u) ++ leaves s) (leaves d ++ leaves s) (leaves t) (IsPermutation-append_left (leaves s) (p.leaf ∷ leaves u) (leaves d) p.leaves_are) o.leaves_are);
+          (IsPermutation-cons p.leaf (leaves w) (leaves u ++ leaves s) (IsPermutation-sym (leaves u ++ leaves s) (leaves w)
+          (IsPermutation-trans (leaves u ++ leaves s) (leaves (rebalanced at u s)) (leaves w) (rebalanced_leaves at u s) z.leaves_are)))
+          (IsPermutation-trans ((p.leaf ∷ leaves u) ++ leaves s) (leaves d ++ leaves s) (leaves t)
+          (IsPermutation-append_left (leaves s) (p.leaf ∷ leaves u) (leaves d) p.leaves_are) o.leaves_are);
       counts_are = λ k. let f = rebalanced_counts at u s k in let a = o.counts_are k in let b = p.counts_are k in let e = z.counts_are k in omega arith;
       balanced = z.balanced;
       least = let e = z.height_is in omega arith;
@@ -180,11 +197,14 @@ step_removed old mid new at down stay below freed result node t d s u w o p z =
     }
 
 -- a tree that shares no number with this one
-pub removed_elsewhere : (old new : Slab NodeView) (at down stay below freed node : ℕ) (t d s u v : Tree) → Opened old at down stay t d s → Removed new below node freed d u → ((k : ℕ) → count_of t k + count_of v k ≤ 1)
+pub removed_elsewhere : (old new : Slab NodeView) (at down stay below freed node : ℕ) (t d s u v : Tree) → Opened old at down stay t d s
+    → Removed new below node freed d u → ((k : ℕ) → count_of t k + count_of v k ≤ 1)
     → ((k : ℕ) → count_of d k + count_of v k ≤ 1) × (count_of v at ≡ 0) × (count_of v below ≡ 0) × (count_of v stay ≡ 0)
 removed_elsewhere old new at down stay below freed node t d s u v o p free = (
   λ k. let f = free k in let e = o.counts_are k in omega arith,
   (let f = free at in let e = o.counts_are at in let one : one at at ≡ 1 = one_same at in omega arith),
-  (let f = free below in let e = o.counts_are below in let w = p.counts_are below in let t : 1 ≤ count_of u below = subst (λ k. 1 ≤ count_of u k) p.kept.is_at (top_counted u) in omega arith),
-  (let f = free stay in let e = o.counts_are stay in let t : 1 ≤ count_of s stay = subst (λ k. 1 ≤ count_of s k) o.stay_kept.is_at (top_counted s) in omega arith),
+  (let f = free below in let e = o.counts_are below in let w = p.counts_are below in let t : 1 ≤ count_of u below =
+      subst (λ k. 1 ≤ count_of u k) p.kept.is_at (top_counted u) in omega arith),
+  (let f = free stay in let e = o.counts_are stay in let t : 1 ≤ count_of s stay = subst (λ k. 1 ≤ count_of s k) o.stay_kept.is_at (top_counted s) in
+      omega arith),
 )

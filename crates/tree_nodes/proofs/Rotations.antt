@@ -1,4 +1,4 @@
--- A rotate of inner_of nodes.
+-- Three trees come below two nodes.
 use Rattle.std.proofs.Common.{◌≡◌, ℕ, ◌+◌, ◌≤◌, max, nat_lt, true, false, cond, Some, IsSome, refl, sym, subst, arith}
 use Rattle.slab.specs.Slab.{Slab, get}
 use Rattle.fixed_box.specs.Bounds.{Bounds}
@@ -18,7 +18,8 @@ mid_free high at l f g apart =
     omega arith
 
 -- what an inner node shows
-pub split : (slab : Slab NodeView) (at left right k : ℕ) (hu : Bounds) (h : Tree) → StandsAt slab at h → get slab at ≡ Some (Inner left right hu k) → (f : Tree) × (g : Tree) × (h ≡ fork at hu k f g) × (top f ≡ left) × (top g ≡ right)
+pub split : (slab : Slab NodeView) (at left right k : ℕ) (hu : Bounds) (h : Tree) → StandsAt slab at h → get slab at ≡ Some (Inner left right hu k)
+    → (f : Tree) × (g : Tree) × (h ≡ fork at hu k f g) × (top f ≡ left) × (top g ≡ right)
 split slab at left right k hu (tip n s b) p e = let q = p.holds in let m : n ≡ at = p.is_at in cc
 split slab at left right k hu (fork n hv j f g) p e =
     let q = p.holds.0 in
@@ -26,7 +27,8 @@ split slab at left right k hu (fork n hv j f g) p e =
     let same : Inner (top f) (top g) hv j ≡ Inner left right hu k = cc in
     (f, g, cc, cc, cc)
 
-pub three : (slab : Slab NodeView) (at low high left right k : ℕ) (hu : Bounds) (l f g : Tree) → Children slab at low high l (fork high hu k f g) → height l ≤ 100 → height (fork high hu k f g) ≤ 100 → Balanced (fork high hu k f g)
+pub three : (slab : Slab NodeView) (at low high left right k : ℕ) (hu : Bounds) (l f g : Tree) → Children slab at low high l (fork high hu k f g)
+    → height l ≤ 100 → height (fork high hu k f g) ≤ 100 → Balanced (fork high hu k f g)
     → RotationParts slab high at low (top (lower f g)) (top (higher f g)) l (lower f g) (higher f g)
 three slab at low high left right k hu l f g p ls hs bal =
     let e : k ≡ 1 + max (height f) (height g) = bal.0.height_is in
@@ -36,7 +38,15 @@ three slab at low high left right k hu l f g p ls hs bal =
     elim (nat_lt (height f) (height g)) as (λ b. RotationParts slab high at low (top (cond b f g)) (top (cond b g f)) l (cond b f g) (cond b g f)) [
       | true ↦ record {
         room = subst IsSome (sym p.right_kept.holds.0) refl;
-        below = record { room = p.room; left_kept = p.left_kept; right_kept = record { holds = p.right_kept.holds.1; is_at = refl }; apart = λ x. let w = whole x in omega arith; left_small = omega arith; right_small = omega arith };
+        below = record {
+          room = p.room;
+          left_kept = p.left_kept;
+          right_kept = record { holds = p.right_kept.holds.1; is_at = refl };
+          apart = λ x. let w =
+              whole x in omega arith;
+          left_small = omega arith;
+          right_small = omega arith;
+        };
         right_kept = record { holds = p.right_kept.holds.2; is_at = refl };
         apart = λ x. let w = whole x in omega arith;
         left_small = ls;
@@ -45,7 +55,15 @@ three slab at low high left right k hu l f g p ls hs bal =
       }
       | false ↦ record {
         room = subst IsSome (sym p.right_kept.holds.0) refl;
-        below = record { room = p.room; left_kept = p.left_kept; right_kept = record { holds = p.right_kept.holds.2; is_at = refl }; apart = λ x. let w = whole x in omega arith; left_small = omega arith; right_small = omega arith };
+        below = record {
+          room = p.room;
+          left_kept = p.left_kept;
+          right_kept = record { holds = p.right_kept.holds.2; is_at = refl };
+          apart = λ x. let w =
+              whole x in omega arith;
+          left_small = omega arith;
+          right_small = omega arith;
+        };
         right_kept = record { holds = p.right_kept.holds.1; is_at = refl };
         apart = λ x. let w = whole x in omega arith;
         left_small = ls;
@@ -54,7 +72,8 @@ three slab at low high left right k hu l f g p ls hs bal =
       }
     ]
 
-pub second : (old new : Slab NodeView) (high at low left right : ℕ) (l f g : Tree) → ((k : ℕ) → IsSome (get old k) → IsSome (get new k)) → Holds new (refitted at l f) → ((t : Tree) → count_of t at ≡ 0 → Holds old t → Holds new t)
+pub second : (old new : Slab NodeView) (high at low left right : ℕ) (l f g : Tree) → ((k : ℕ) → IsSome (get old k) → IsSome (get new k))
+    → Holds new (refitted at l f) → ((t : Tree) → count_of t at ≡ 0 → Holds old t → Holds new t)
     → RotationParts old high at low left right l f g → Children new high at right (refitted at l f) g
 second old new high at low left right l f g here there kept p = record {
   room = here high p.room;
@@ -66,18 +85,21 @@ second old new high at low left right l f g here there kept p = record {
 }
 
 -- the children of an inner node
-pub children : (slab : Slab NodeView) (at left right k : ℕ) (hu : Bounds) (h : Tree) → StandsAt slab at h → get slab at ≡ Some (Inner left right hu k) → (f : Tree) × (g : Tree) × (h ≡ fork at hu k f g) × StandsAt slab left f × StandsAt slab right g
+pub children : (slab : Slab NodeView) (at left right k : ℕ) (hu : Bounds) (h : Tree) → StandsAt slab at h → get slab at ≡ Some (Inner left right hu k)
+    → (f : Tree) × (g : Tree) × (h ≡ fork at hu k f g) × StandsAt slab left f × StandsAt slab right g
 children slab at left right k hu h p e =
     let s = split slab at left right k hu h p e in
     let q : Holds slab (fork at hu k s.0 s.1) = subst (Holds slab) s.2 p.holds in
     (s.0, s.1, s.2, record { holds = q.1; is_at = s.3 }, record { holds = q.2; is_at = s.4 })
 
 -- what is rotated
-pub rotation_up : (slab : Slab NodeView) (at low high left right k : ℕ) (hu : Bounds) (l h : Tree) (r : ℕ × ℕ) → Children slab at low high l h → height l ≤ 100 → height h ≤ 100 → Balanced h → get slab high ≡ Some (Inner left right hu k)
+pub rotation_up : (slab : Slab NodeView) (at low high left right k : ℕ) (hu : Bounds) (l h : Tree) (r : ℕ × ℕ) → Children slab at low high l h
+    → height l ≤ 100 → height h ≤ 100 → Balanced h → get slab high ≡ Some (Inner left right hu k)
     → ((f g : Tree) → StandsAt slab left f → StandsAt slab right g → r ≡ (top (lower f g), top (higher f g)))
     → (f : Tree) × (g : Tree) × (h ≡ fork high hu k f g) × RotationParts slab high at low r.0 r.1 l (lower f g) (higher f g)
 rotation_up slab at low high left right k hu l h r p ls hs bal e picks =
     let s = children slab high left right k hu h p.right_kept e in
     let picked = picks s.0 s.1 s.3 s.4 in
-    let t = three slab at low high left right k hu l s.0 s.1 (subst (λ h. Children slab at low high l h) s.2 p) ls (subst (λ h. height h ≤ 100) s.2 hs) (subst Balanced s.2 bal) in
+    let t = three slab at low high left right k hu l s.0 s.1 (subst (λ h. Children slab at low high l h) s.2 p) ls (subst (λ h. height h ≤ 100) s.2 hs)
+    (subst Balanced s.2 bal) in
     (s.0, s.1, s.2, subst (λ (q : ℕ × ℕ). RotationParts slab high at low q.0 q.1 l (lower s.0 s.1) (higher s.0 s.1)) (sym picked) t)

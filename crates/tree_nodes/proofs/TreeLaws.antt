@@ -5,8 +5,8 @@ use Rattle.std.proofs.lemmas.List.Elements.{All-cons, All-append}
 use Rattle.fixed_box.specs.Bounds.{Bounds, encloses, meets, hull}
 use Rattle.tree_nodes.specs.declared.node_view.NodeView.TheVariants.{Leaf}
 use Rattle.tree_nodes.specs.Tree.{Tree, Leaf as LeafOf, tip, fork, top, bounds, leaves, one, count_of, view_of, view_at, or_else, Balanced, Within}
-use Rattle.tree_nodes.proofs.InsertingBelow.{top_counted}
 use Rattle.tree_nodes.proofs.LeafViews.{other_one, not_viewed}
+use Rattle.tree_nodes.proofs.Opened.{top_counted}
 use Rattle.tree_nodes.proofs.Views.{or_cases}
 
 -- the laws of boxes

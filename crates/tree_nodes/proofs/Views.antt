@@ -1,4 +1,4 @@
--- What a slab holds of a tree.
+-- The slab holds what a node of its tree shows.
 use Rattle.std.proofs.Common.{◌≡◌, ℕ, true, false, cond, eqb, IsSome, Option, None, Some, refl, ◌∙◌, subst, arith}
 use Rattle.std.proofs.lemmas.Bool.Decides.{nat_tests}
 use Rattle.slab.specs.Slab.{Slab, get}
@@ -19,7 +19,8 @@ viewed_in_slab slab (tip n s b) k v h e =
 viewed_in_slab slab (fork n hu j l r) k v h e =
     elim (eqb n k) as (λ x. eqb n k ≡ x → cond x (Some (view_of (fork n hu j l r))) (or_else (view_at l k) (view_at r k)) ≡ Some v → get slab k ≡ Some v) [
       | true ↦ λ same e. let at : n ≡ k = grind (arith, nat_tests) in subst (λ m. get slab m ≡ Some v) at (h.0 ∙ e)
-      | false ↦ λ _ e. or_cases (λ u. get slab k ≡ Some u) (view_at l k) (view_at r k) v (λ u e. viewed_in_slab slab l k u h.1 e) (λ u e. viewed_in_slab slab r k u h.2 e) e
+      | false ↦ λ _ e. or_cases (λ u. get slab k ≡ Some u) (view_at l k) (view_at r k) v (λ u e. viewed_in_slab slab l k u h.1 e)
+          (λ u e. viewed_in_slab slab r k u h.2 e) e
     ] refl e
 
 pub some_is : {A : Type 0} (x : Option A) → IsSome x → (v : A) × (x ≡ Some v)
@@ -27,7 +28,8 @@ some_is None h = cc
 some_is (Some v) h = (v, refl)
 
 -- a kept tree under_root its root
-pub sound_viewed : (slab : Slab NodeView) (root : Option ℕ) (t : Option Tree) (k : ℕ) (v : NodeView) → SoundIn slab root t → view_in t k ≡ Some v → get slab k ≡ Some v
+pub sound_viewed : (slab : Slab NodeView) (root : Option ℕ) (t : Option Tree) (k : ℕ) (v : NodeView) → SoundIn slab root t → view_in t k ≡ Some v
+    → get slab k ≡ Some v
 sound_viewed slab None None k v h e = cc
 sound_viewed slab None (Some t) k v h e = absurd h.0
 sound_viewed slab (Some n) None k v h e = absurd h

@@ -21,8 +21,10 @@ pub(crate) fn adjust(
     right: usize,
 ) -> usize
     requires { (l r : Tree) × ToAdjust slab.old at left right l r }
-    ensures there { (l r : Tree) → ToAdjust slab.old at left right l r → (u : Tree) × SameLeaves slab.new result (rebalanced at l r) u }
-    ensures kept { (l r v : Tree) → ToAdjust slab.old at left right l r → Apart (refitted at l r) v → Holds slab.old v → Holds slab.new v }
+    ensures there { (l r : Tree) → ToAdjust slab.old at left right l r →
+        (u : Tree) × SameLeaves slab.new result (rebalanced at l r) u }
+    ensures kept { (l r v : Tree) → ToAdjust slab.old at left right l r → Apart (refitted at l r) v →
+        Holds slab.old v → Holds slab.new v }
     ensures keys { KeepsKeys slab.old slab.new }
 {
     let top = rebalance(slab, parents, at, left, right);
@@ -40,8 +42,10 @@ fn rebalance(
     right: usize,
 ) -> usize
     requires { (l r : Tree) × ToRebalance slab.old at left right l r }
-    ensures there { (l r : Tree) → ToRebalance slab.old at left right l r → StandsAt slab.new result (rebalanced at l r) }
-    ensures kept { (t : Tree) → count_of t at ≡ 0 → count_of t left ≡ 0 → count_of t right ≡ 0 → Holds slab.old t → Holds slab.new t }
+    ensures there { (l r : Tree) → ToRebalance slab.old at left right l r →
+        StandsAt slab.new result (rebalanced at l r) }
+    ensures kept { (t : Tree) → count_of t at ≡ 0 → count_of t left ≡ 0 → count_of t right ≡ 0 →
+        Holds slab.old t → Holds slab.new t }
     ensures keys { KeepsKeys slab.old slab.new }
 {
     let l = height_at(slab, left);

@@ -25,7 +25,9 @@ pub(crate) fn insert_leaf(
     requires few { length (leaves_in (tree_of slab.old root)) < SLOTS }
     requires absent { All (λ x. x.slot ≢ slot) (leaves_in (tree_of slab.old root)) }
     ensures sound { SoundIn slab.new (Some result.1) (tree_of slab.new (Some result.1)) }
-    ensures leaves { IsPermutation (record { node = result.0; slot = slot; fat = fat } ∷ leaves_in (tree_of slab.old root)) (leaves_in (tree_of slab.new (Some result.1))) }
+    ensures leaves { IsPermutation
+        (record { node = result.0; slot = slot; fat = fat } ∷ leaves_in (tree_of slab.old root))
+        (leaves_in (tree_of slab.new (Some result.1))) }
     ensures capacity { slab.new.capacity ≡ slab.old.capacity }
 {
     let leaf = slab.insert_reserved(NodeView::Leaf { slot, fat });
@@ -51,8 +53,11 @@ fn insert_below(
     fat: &FBox,
 ) -> usize
     requires { (s : ℕ) × (b : Bounds) × (t : Tree) × ToInsert slab.old at leaf new_parent s b t }
-    ensures there { (s : ℕ) (b : Bounds) (t : Tree) → ToInsert slab.old at leaf new_parent s b t → (u : Tree) × Inserted slab.new result leaf new_parent s b t u }
-    ensures kept { (s : ℕ) (b : Bounds) (t u : Tree) → ToInsert slab.old at leaf new_parent s b t → ((k : ℕ) → (count_of t k + (one leaf k + one new_parent k)) + count_of u k ≤ 1) → Holds slab.old u → Holds slab.new u }
+    ensures there { (s : ℕ) (b : Bounds) (t : Tree) → ToInsert slab.old at leaf new_parent s b t →
+        (u : Tree) × Inserted slab.new result leaf new_parent s b t u }
+    ensures kept { (s : ℕ) (b : Bounds) (t u : Tree) → ToInsert slab.old at leaf new_parent s b t →
+        ((k : ℕ) → (count_of t k + (one leaf k + one new_parent k)) + count_of u k ≤ 1) →
+        Holds slab.old u → Holds slab.new u }
     ensures keys { KeepsKeys slab.old slab.new }
 {
     match slab[at] {

@@ -9,9 +9,9 @@ use fixed_box::{SLOTS, box_laws};
 
 /// Laws of trees for proofs, with nothing to run. They hold at each node, since what stands in a balanced tree is one.
 ///
-/// A hull encloses the box of each leaf below it. So what meets a leaf's box meets each hull above it, and below a hull that
-/// a box misses no leaf meets that box. A tree of height h has at least `fewest h` leaves, and so 8,192 leaves give a
-/// height of at most 18.
+/// A hull encloses the box of each leaf below it. So what meets a leaf's box meets each hull above it, and below a hull
+/// that a box misses no leaf meets that box. A tree of height h has at least `fewest h` leaves, and so 8,192 leaves give
+/// a height of at most 18.
 pub fn tree_laws()
     ensures enclosed { (t : Tree) → Balanced t → All (λ x. IsTrue (encloses (bounds t) x.fat)) (leaves t) }
     ensures met { (t : Tree) (q : Bounds) → Balanced t →
@@ -26,8 +26,8 @@ pub fn tree_laws()
     ensures shown { (t u : Tree) → Within t u → ((k : ℕ) → count_of t k ≤ 1) → view_at t (top u) ≡ Some (view_of u) }
     ensures leaf { (t : Tree) (x : Leaf) → Contains (leaves t) x → ((k : ℕ) → count_of t k ≤ 1) →
         view_at t x.node ≡ Some (LeafNode x.slot x.fat) }
-    ensures viewed { (t : Tree) (node slot : ℕ) (fat : Bounds) → Balanced t → view_at t node ≡ Some (LeafNode slot fat) →
-        IsTrue (encloses (bounds t) fat) }
+    ensures viewed { (t : Tree) (node slot : ℕ) (fat : Bounds) → Balanced t →
+        view_at t node ≡ Some (LeafNode slot fat) → IsTrue (encloses (bounds t) fat) }
 {
     box_laws();
 }

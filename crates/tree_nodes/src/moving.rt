@@ -45,8 +45,10 @@ fn move_below(
     fat: &FBox,
 )
     requires { (node : ℕ) × (t : Tree) × ToMove slab.old at node path.now t }
-    ensures there { (node : ℕ) (t : Tree) → ToMove slab.old at node path.now t → StandsAt slab.new at (moved node fat.now t) }
-    ensures kept { (node : ℕ) (t v : Tree) → ToMove slab.old at node path.now t → Apart t v → Holds slab.old v → Holds slab.new v }
+    ensures there { (node : ℕ) (t : Tree) → ToMove slab.old at node path.now t →
+        StandsAt slab.new at (moved node fat.now t) }
+    ensures kept { (node : ℕ) (t v : Tree) → ToMove slab.old at node path.now t → Apart t v →
+        Holds slab.old v → Holds slab.new v }
     ensures keys { KeepsKeys slab.old slab.new }
 {
     match slab[at] {

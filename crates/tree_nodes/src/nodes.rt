@@ -18,21 +18,22 @@ use std::marker::Model;
 
 /// A balanced binary tree of boxes, each under a slot, at most 8,192.
 ///
-/// Clauses see the tree itself, or `None` where there is no leaf. Each node has a number. A leaf keeps its number until it
-/// goes, while an inner node may come and go, and stand elsewhere, with each call that changes the leaves. Only `new` takes
-/// memory.
+/// Clauses see the tree itself, or `None` where there is no leaf. Each node has a number. A leaf keeps its number until
+/// it goes, while an inner node may come and go, and stand elsewhere, with each call that adds or drops a leaf. Only
+/// `new` takes memory.
 ///
-/// Insertion goes down to the child whose hull grows least by the sum of its sides. On the way up each node is rebalanced by
-/// a rotation where the heights of its children differ by two, and a child is exchanged with a grandchild where that shrinks
-/// a hull. So a call that changes the tree costs time in proportion to its height.
+/// Insertion goes down to the child whose hull grows least by the sum of its sides. On the way up each node is
+/// rebalanced by a rotation where the heights of its children differ by two, and a child changes places with a
+/// grandchild where that shrinks a hull and keeps the height. Removal goes up in the same way. So a call that adds,
+/// drops or moves a leaf writes to a few nodes per level.
 #[derive(Drop)]
 pub struct Nodes {
     // Each node is a key of the slab.
     slab: Slab<NodeView>,
     root: Option<usize>,
     alloc: Global,
-    // Where the parent of a node was noted to stand. A path that follows these is checked, and searched afresh where they
-    // don't lead, so no promise rests on them.
+    // Where the parent of each node stands. A path that follows these is checked as it is walked down, and searched
+    // afresh where they don't lead to the leaf, so no promise rests on them.
     parents: Vec<usize>,
 }
 
@@ -99,8 +100,9 @@ impl Nodes {
         );
     }
 
-    /// Gives a leaf another box in its place: each node keeps its number, its place and its height, and the hulls above the
-    /// leaf are those that its new box makes.
+    /// Gives a leaf another box in its place: each node keeps its number, its place and its height, and the hulls above
+    /// the leaf are those that its new box makes. The tree isn't made tighter, so a leaf that goes far is better dropped
+    /// and added.
     pub fn move_leaf(&mut self, node: usize, fat: FBox)
         requires { IsLeafOf self.old node }
         ensures moved { self.new ≡ option_map (moved node fat) self.old }

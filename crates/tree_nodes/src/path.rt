@@ -21,10 +21,12 @@ pub(crate) fn path_to(
     node: usize,
     path: &mut Path,
 )
-    requires tree { (t : Tree) × ToSearch slab.now root t × (s : ℕ) × (b : Bounds) × (view_at t node ≡ Some (LeafNode s b)) }
+    requires tree { (t : Tree) × ToSearch slab.now root t ×
+        (s : ℕ) × (b : Bounds) × (view_at t node ≡ Some (LeafNode s b)) }
     requires empty { path.old.items ≡ [] }
     requires room { path.old.capacity ≡ 32 }
-    ensures { (t : Tree) (s : ℕ) (b : Bounds) → ToSearch slab.now root t → view_at t node ≡ Some (LeafNode s b) → Leads t path.new.items node }
+    ensures { (t : Tree) (s : ℕ) (b : Bounds) → ToSearch slab.now root t → view_at t node ≡ Some (LeafNode s b) →
+        Leads t path.new.items node }
 {
     follow_parents(parents, root, node, path);
     if leads_to(slab, root, node, path.as_slice()) {

@@ -24,7 +24,9 @@ pub(crate) fn remove_leaf(
     requires sound { SoundIn slab.old root (tree_of slab.old root) }
     requires leaf { IsLeafOf (tree_of slab.old root) node }
     ensures sound { SoundIn slab.new result (tree_of slab.new result) }
-    ensures leaves { (s : ℕ) (b : Bounds) → view_in (tree_of slab.old root) node ≡ Some (LeafNode s b) → IsPermutation (record { node = node; slot = s; fat = b } ∷ leaves_in (tree_of slab.new result)) (leaves_in (tree_of slab.old root)) }
+    ensures leaves { (s : ℕ) (b : Bounds) → view_in (tree_of slab.old root) node ≡ Some (LeafNode s b) →
+        IsPermutation (record { node = node; slot = s; fat = b } ∷ leaves_in (tree_of slab.new result))
+        (leaves_in (tree_of slab.old root)) }
     ensures capacity { slab.new.capacity ≡ slab.old.capacity }
 {
     let Some(at) = root else {
@@ -45,8 +47,8 @@ fn remove_at(
 ) -> Option<usize>
     requires { (t : Tree) × (root ≡ top t) × Sound slab.old t × Leads t path.now node }
     ensures sound { SoundIn slab.new result (tree_of slab.new result) }
-    ensures leaves { (t : Tree) → root ≡ top t → Sound slab.old t → Leads t path.now node
-        → (x : LeafOf) × (x.node ≡ node) × IsPermutation (x ∷ leaves_in (tree_of slab.new result)) (leaves t) }
+    ensures leaves { (t : Tree) → root ≡ top t → Sound slab.old t → Leads t path.now node →
+        (x : LeafOf) × (x.node ≡ node) × IsPermutation (x ∷ leaves_in (tree_of slab.new result)) (leaves t) }
     ensures capacity { slab.new.capacity ≡ slab.old.capacity }
 {
     let [next, rest @ ..] = path else {
@@ -68,8 +70,10 @@ fn remove_below(
     path: &[usize],
 ) -> (usize, usize)
     requires { (node : ℕ) × (t : Tree) × ToRemove slab.old at node next path.now t }
-    ensures there { (node : ℕ) (t : Tree) → ToRemove slab.old at node next path.now t → (u : Tree) × Removed slab.new result.0 node result.1 t u }
-    ensures kept { (node : ℕ) (t v : Tree) → ToRemove slab.old at node next path.now t → Apart t v → Holds slab.old v → Holds slab.new v }
+    ensures there { (node : ℕ) (t : Tree) → ToRemove slab.old at node next path.now t →
+        (u : Tree) × Removed slab.new result.0 node result.1 t u }
+    ensures kept { (node : ℕ) (t v : Tree) → ToRemove slab.old at node next path.now t → Apart t v →
+        Holds slab.old v → Holds slab.new v }
     ensures keys { KeepsKeys slab.old slab.new }
 {
     match slab[at] {

@@ -9,8 +9,8 @@ use crate::node_slab::height_at;
 use crate::refitting::refit;
 use slab::Slab;
 
-// Brings the higher of two trees up over a node. Its higher child stays with it, and the node goes down to the two
-// lower trees.
+// Brings the higher of two trees up over a node, and answers the new top. Its higher child stays with it, and the node
+// goes down to the two lower trees.
 pub(crate) fn rotate_up(
     slab: &mut Slab<NodeView>,
     parents: &mut [usize],
@@ -18,8 +18,10 @@ pub(crate) fn rotate_up(
     low: usize,
     high: usize,
 ) -> usize
-    requires { (l h : Tree) × Children slab.old at low high l h × (height l ≤ 100) × (height h ≤ 100) × (Balanced h) }
-    ensures there { (l h : Tree) → Children slab.old at low high l h → height l ≤ 100 → height h ≤ 100 → Balanced h → StandsAt slab.new result (rotated_up at l h) }
+    requires { (l h : Tree) × Children slab.old at low high l h ×
+        (height l ≤ 100) × (height h ≤ 100) × Balanced h }
+    ensures there { (l h : Tree) → Children slab.old at low high l h → height l ≤ 100 → height h ≤ 100 →
+        Balanced h → StandsAt slab.new result (rotated_up at l h) }
     ensures kept { (t : Tree) → count_of t at ≡ 0 → count_of t high ≡ 0 → Holds slab.old t → Holds slab.new t }
     ensures keys { KeepsKeys slab.old slab.new }
 {
@@ -44,8 +46,8 @@ pub(crate) fn rotate_up(
 // The lower of two trees, and the higher.
 fn by_height(slab: &Slab<NodeView>, left: usize, right: usize) -> (usize, usize)
     requires { (f g : Tree) × StandsAt slab.now left f × StandsAt slab.now right g }
-    ensures { (f g : Tree) → StandsAt slab.now left f → StandsAt slab.now right g
-        → result ≡ (top (lower f g), top (higher f g)) }
+    ensures { (f g : Tree) → StandsAt slab.now left f → StandsAt slab.now right g →
+        result ≡ (top (lower f g), top (higher f g)) }
 {
     if height_at(slab, left) < height_at(slab, right) {
         (left, right)
@@ -54,8 +56,8 @@ fn by_height(slab: &Slab<NodeView>, left: usize, right: usize) -> (usize, usize)
     }
 }
 
-// Puts three trees below two nodes: `low` and `left` below the lower node, this and `right` below the upper one.
-// Both nodes are refitted, the lower one first.
+// Puts three trees below two nodes: `low` and `left` below `at`, and this and `right` below `high`. Both nodes are
+// refitted, the lower one first.
 pub(crate) fn rotate(
     slab: &mut Slab<NodeView>,
     parents: &mut [usize],
@@ -66,7 +68,8 @@ pub(crate) fn rotate(
     right: usize,
 )
     requires { (l f g : Tree) × RotationParts slab.old high at low left right l f g }
-    ensures there { (l f g : Tree) → RotationParts slab.old high at low left right l f g → Holds slab.new (rotated high at l f g) }
+    ensures there { (l f g : Tree) → RotationParts slab.old high at low left right l f g →
+        Holds slab.new (rotated high at l f g) }
     ensures kept { (t : Tree) → count_of t at ≡ 0 → count_of t high ≡ 0 → Holds slab.old t → Holds slab.new t }
     ensures keys { KeepsKeys slab.old slab.new }
 {

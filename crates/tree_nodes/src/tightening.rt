@@ -48,7 +48,8 @@ fn exchange(
     sibling: usize,
 )
     requires { (t : Tree) × (d : Tree) × (s : Tree) × ToExchange slab.old at child sibling t d s }
-    ensures there { (t d s : Tree) → ToExchange slab.old at child sibling t d s → (u : Tree) × SameLeaves slab.new at t u }
+    ensures there { (t d s : Tree) → ToExchange slab.old at child sibling t d s →
+        (u : Tree) × SameLeaves slab.new at t u }
     ensures kept { (t : Tree) → count_of t at ≡ 0 → count_of t sibling ≡ 0 → Holds slab.old t → Holds slab.new t }
     ensures keys { KeepsKeys slab.old slab.new }
 {

@@ -1,22 +1,28 @@
+-- The rebalanced tree, tightened from one side and then from the other, keeps its leaves.
 use Rattle.tree_nodes.specs.Rotation.{rebalanced}
 use Rattle.tree_nodes.proofs.Adjusted.{same_to_tighten, same_on, rebalanced_to_tighten, adjusted_elsewhere, rebalanced_apart, same_apart}
 use Rattle.tree_nodes.proofs.adjusting.adjust.Goals as goal
 
 pub tighten-requires : goal.tighten-requires
 tighten-requires c =
-    let q = c.requires in
-    (rebalanced c.args.at q.0 q.1, rebalanced_to_tighten c.args.slab.now c.rebalance-top.new.slab c.args.at c.args.left c.args.right c.rebalance-top.result q.0 q.1 q.2 (c.rebalance-top.ensures.there q.0 q.1 q.2.near))
+    let q = c.requires in (
+      rebalanced c.args.at q.0 q.1,
+      rebalanced_to_tighten c.args.slab.now c.rebalance-top.new.slab c.args.at c.args.left c.args.right c.rebalance-top.result
+          q.0 q.1 q.2 (c.rebalance-top.ensures.there q.0 q.1 q.2.near),
+    )
 
 pub tighten-requires-2 : goal.tighten-requires-2
 tighten-requires-2 c =
     let q = c.requires in
-    let y = rebalanced_to_tighten c.args.slab.now c.rebalance-top.new.slab c.args.at c.args.left c.args.right c.rebalance-top.result q.0 q.1 q.2 (c.rebalance-top.ensures.there q.0 q.1 q.2.near) in
+    let y = rebalanced_to_tighten c.args.slab.now c.rebalance-top.new.slab c.args.at c.args.left c.args.right c.rebalance-top.result q.0 q.1 q.2
+    (c.rebalance-top.ensures.there q.0 q.1 q.2.near) in
     let s = c.tighten.ensures.there (rebalanced c.args.at q.0 q.1) y in
     (s.0, same_to_tighten c.rebalance-top.new.slab c.tighten.new.slab c.rebalance-top.result (rebalanced c.args.at q.0 q.1) s.0 y s.1)
 
 pub returns-clause-there : goal.returns-clause-there
 returns-clause-there c l r j =
-    let y = rebalanced_to_tighten c.args.slab.now c.rebalance-top.new.slab c.args.at c.args.left c.args.right c.rebalance-top.result l r j (c.rebalance-top.ensures.there l r j.near) in
+    let y = rebalanced_to_tighten c.args.slab.now c.rebalance-top.new.slab c.args.at c.args.left c.args.right c.rebalance-top.result l r j
+    (c.rebalance-top.ensures.there l r j.near) in
     let s = c.tighten.ensures.there (rebalanced c.args.at l r) y in
     let z = same_to_tighten c.rebalance-top.new.slab c.tighten.new.slab c.rebalance-top.result (rebalanced c.args.at l r) s.0 y s.1 in
     let u = c.tighten-2.ensures.there s.0 z in
@@ -24,7 +30,8 @@ returns-clause-there c l r j =
 
 pub returns-clause-kept : goal.returns-clause-kept
 returns-clause-kept c l r v j free held =
-    let y = rebalanced_to_tighten c.args.slab.now c.rebalance-top.new.slab c.args.at c.args.left c.args.right c.rebalance-top.result l r j (c.rebalance-top.ensures.there l r j.near) in
+    let y = rebalanced_to_tighten c.args.slab.now c.rebalance-top.new.slab c.args.at c.args.left c.args.right c.rebalance-top.result l r j
+    (c.rebalance-top.ensures.there l r j.near) in
     let s = c.tighten.ensures.there (rebalanced c.args.at l r) y in
     let z = same_to_tighten c.rebalance-top.new.slab c.tighten.new.slab c.rebalance-top.result (rebalanced c.args.at l r) s.0 y s.1 in
     let e = adjusted_elsewhere c.args.slab.now c.args.at c.args.left c.args.right l r v j free in

@@ -1,3 +1,4 @@
+-- The path to the leaf leads down the tree that the slab keeps.
 use Rattle.std.proofs.Common.{◌≡◌, ◌∷◌, ap, ◌∙◌, sym, subst, Some}
 use Rattle.std.specs.List.Sorted.{IsPermutation}
 use Rattle.tree_nodes.specs.declared.node_view.NodeView.TheVariants.{Leaf as LeafNode}
@@ -28,5 +29,6 @@ returns-clause-leaves c s b e =
     let e2 : view_at u.0 c.args.node ≡ Some (LeafNode s b) = subst (λ x. view_in x c.args.node ≡ Some (LeafNode s b)) is e in
     let way = c.path_to.ensures u.0 s b (ready_to_search c.args.slab.now c.in-Some.at u.0 u.2 u.3 u.4) e2 in
     let p = c.remove_at.ensures.leaves u.0 u.2 u.3 (rw c.as_slice.ensures way) in
-    subst (λ t. IsPermutation (record { node = c.args.node; slot = s; fat = b } ∷ leaves_in (tree_of c.remove_at.new.slab c.remove_at.result)) (leaves_in t)) (sym is)
+    subst (λ t. IsPermutation (record { node = c.args.node; slot = s; fat = b } ∷ leaves_in (tree_of c.remove_at.new.slab c.remove_at.result))
+    (leaves_in t)) (sym is)
     (same_leaf u.0 p.0 (leaves_in (tree_of c.remove_at.new.slab c.remove_at.result)) c.args.node s b u.3.apart p.1 p.2 e2)

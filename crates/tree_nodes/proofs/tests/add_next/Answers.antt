@@ -16,7 +16,8 @@ pub add_leaf-requires-clause-absent : goal.add_leaf-requires-clause-absent
 add_leaf-requires-clause-absent c =
     All-weaker (λ (x : Leaf). x.slot < c.args.slot) (λ x. x.slot ≢ c.args.slot) (below_differs c.args.slot) (leaves_in c.args.nodes.now) c.requires.filled.below
 
-one_more : (xs ys : List Leaf) (x : Leaf) (slot : ℕ) → length xs ≡ slot → All (λ (x : Leaf). x.slot < slot) xs → x.slot ≡ slot → IsPermutation (x ∷ xs) ys → (length ys ≡ slot + 1) × All (λ (x : Leaf). x.slot < slot + 1) ys
+one_more : (xs ys : List Leaf) (x : Leaf) (slot : ℕ) → length xs ≡ slot → All (λ (x : Leaf). x.slot < slot) xs → x.slot ≡ slot → IsPermutation (x ∷ xs) ys
+    → (length ys ≡ slot + 1) × All (λ (x : Leaf). x.slot < slot + 1) ys
 one_more xs ys x slot count below is p =
     let long : length ys ≡ suc (length xs) = length_permutation (x ∷ xs) ys p in
     let here : x.slot < slot + 1 = omega arith in (
@@ -28,5 +29,6 @@ one_more xs ys x slot count below is p =
 pub returns-clause-filled : goal.returns-clause-filled
 returns-clause-filled c =
     let both = one_more (leaves_in c.args.nodes.now) (leaves_in c.add_leaf.new.self)
-    (record { node = c.add_leaf.result; slot = c.args.slot; fat = c.args.fat }) c.args.slot c.requires.filled.count c.requires.filled.below refl c.add_leaf.ensures.leaves in
+    (record { node = c.add_leaf.result; slot = c.args.slot; fat = c.args.fat }) c.args.slot c.requires.filled.count c.requires.filled.below refl
+    c.add_leaf.ensures.leaves in
     record { count = both.0; below = both.1 }

@@ -20,7 +20,8 @@ pub drop_leaf-requires : goal.drop_leaf-requires
 drop_leaf-requires g c =
     let one = c.add_next-first.result in
     let two = c.add_next-second.result in
-    let first = c.add_next-third.ensures.others one 0 c.in_ok-near.near (c.add_next-second.ensures.others one 0 c.in_ok-near.near c.add_next-first.ensures.leaf) in
+    let first = c.add_next-third.ensures.others one 0 c.in_ok-near.near
+    (c.add_next-second.ensures.others one 0 c.in_ok-near.near c.add_next-first.ensures.leaf) in
     let second = c.add_next-third.ensures.others two 1 c.in_ok-mid.mid c.add_next-second.ensures.leaf in
     let differ = other_node c.add_next-third.new.nodes one two 0 1 c.in_ok-near.near c.in_ok-mid.mid first second (omega arith) in
     (0, c.in_ok-near.near, c.move_leaf.ensures.others one 0 c.in_ok-near.near first differ)
@@ -29,7 +30,8 @@ pub leaf_at-requires-2 : goal.leaf_at-requires-2
 leaf_at-requires-2 g c =
     let one = c.add_next-first.result in
     let two = c.add_next-second.result in
-    let first = c.add_next-third.ensures.others one 0 c.in_ok-near.near (c.add_next-second.ensures.others one 0 c.in_ok-near.near c.add_next-first.ensures.leaf) in
+    let first = c.add_next-third.ensures.others one 0 c.in_ok-near.near
+    (c.add_next-second.ensures.others one 0 c.in_ok-near.near c.add_next-first.ensures.leaf) in
     let second = c.add_next-third.ensures.others two 1 c.in_ok-mid.mid c.add_next-second.ensures.leaf in
     let differ = other_node c.add_next-third.new.nodes two one 1 0 c.in_ok-mid.mid c.in_ok-near.near second first (omega arith) in
     shows c.drop_leaf.new.self two 1 c.in_ok-farthest.farthest
@@ -40,7 +42,8 @@ leaf_at-requires-3 g c =
     let one = c.add_next-first.result in
     let two = c.add_next-second.result in
     let three = c.add_next-third.result in
-    let first = c.add_next-third.ensures.others one 0 c.in_ok-near.near (c.add_next-second.ensures.others one 0 c.in_ok-near.near c.add_next-first.ensures.leaf) in
+    let first = c.add_next-third.ensures.others one 0 c.in_ok-near.near
+    (c.add_next-second.ensures.others one 0 c.in_ok-near.near c.add_next-first.ensures.leaf) in
     let second = c.add_next-third.ensures.others two 1 c.in_ok-mid.mid c.add_next-second.ensures.leaf in
     let third = c.add_next-third.ensures.leaf in
     let not_first = other_node c.add_next-third.new.nodes three one 2 0 c.in_ok-far.far c.in_ok-near.near third first (omega arith) in

@@ -17,7 +17,8 @@ pub returns-clause-leaf : goal.returns-clause-leaf
 returns-clause-leaf c =
     let old = tree_of c.self.inside.slab c.self.inside.root in
     let new = tree_of c.insert_leaf-leaf.new.slab (Some c.insert_leaf-leaf.result.1) in
-    added old new (record { node = c.insert_leaf-leaf.result.0; slot = c.args.slot; fat = c.args.fat }) (returns-clause-tree c) c.insert_leaf-leaf.ensures.leaves
+    added old new (record { node = c.insert_leaf-leaf.result.0; slot = c.args.slot; fat = c.args.fat })
+    (returns-clause-tree c) c.insert_leaf-leaf.ensures.leaves
 
 pub returns-clause-others : goal.returns-clause-others
 returns-clause-others c other s b e =

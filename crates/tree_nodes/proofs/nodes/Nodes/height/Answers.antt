@@ -6,7 +6,8 @@ use Rattle.tree_nodes.proofs.nodes.Nodes.height.Goals as goal
 
 pub returns-in-Some-clause-most : goal.returns-in-Some-clause-most
 returns-in-Some-clause-most c =
-    let u = under_root c.self.inside.slab c.in-Some.at _ (subst (λ r. SoundIn c.self.inside.slab r (tree_of c.self.inside.slab r)) c.in-Some.is c.self.invariant.1) in
+    let u = under_root c.self.inside.slab c.in-Some.at _ (subst (λ r. SoundIn c.self.inside.slab r (tree_of c.self.inside.slab r)) c.in-Some.is
+    c.self.invariant.1) in
     let e = c.height_at.ensures u.0 u.3.holds (sym u.2) in
     omega arith
 

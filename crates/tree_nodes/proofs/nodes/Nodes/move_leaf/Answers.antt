@@ -8,10 +8,16 @@ use Rattle.tree_nodes.proofs.NodesViews.{moved_there, unmoved_there}
 use Rattle.tree_nodes.proofs.nodes.Nodes.move_leaf.Goals as goal
 
 pub returns-clause-leaves : goal.returns-clause-leaves
-returns-clause-leaves c = (moved_in c.self.inside.slab c.self.inside.root (tree_of c.self.inside.slab c.self.inside.root) c.args.self.now (tree_of c.move_in_place.new.slab c.self.inside.root) c.args.node c.args.fat c.self.invariant.1 c.self.view_is (c.move_in_place.ensures.moved ∙ ap (option_map (moved c.args.node c.args.fat)) c.self.view_is)).0
+returns-clause-leaves c =
+    (moved_in c.self.inside.slab c.self.inside.root (tree_of c.self.inside.slab c.self.inside.root) c.args.self.now
+    (tree_of c.move_in_place.new.slab c.self.inside.root) c.args.node c.args.fat c.self.invariant.1 c.self.view_is
+    (c.move_in_place.ensures.moved ∙ ap (option_map (moved c.args.node c.args.fat)) c.self.view_is)).0
 
 pub returns-clause-height : goal.returns-clause-height
-returns-clause-height c = (moved_in c.self.inside.slab c.self.inside.root (tree_of c.self.inside.slab c.self.inside.root) c.args.self.now (tree_of c.move_in_place.new.slab c.self.inside.root) c.args.node c.args.fat c.self.invariant.1 c.self.view_is (c.move_in_place.ensures.moved ∙ ap (option_map (moved c.args.node c.args.fat)) c.self.view_is)).1
+returns-clause-height c =
+    (moved_in c.self.inside.slab c.self.inside.root (tree_of c.self.inside.slab c.self.inside.root) c.args.self.now
+    (tree_of c.move_in_place.new.slab c.self.inside.root) c.args.node c.args.fat c.self.invariant.1 c.self.view_is
+    (c.move_in_place.ensures.moved ∙ ap (option_map (moved c.args.node c.args.fat)) c.self.view_is)).1
 
 pub returns-clause-tree : goal.returns-clause-tree
 returns-clause-tree c =
