@@ -1,18 +1,18 @@
 -- Steps of a move down a tree and up again.
-use Rattle.std.proofs.Common.{◌≡◌, ◌≢◌, ℕ, ◌+◌, ◌≤◌, max, Option, None, Some, IsSome, List, ◌∷◌, map, option_map, refl, sym, ◌∙◌}
+use Rattle.std.proofs.Common.{◌≡◌, ◌≢◌, ℕ, ◌+◌, ◌≤◌, max, Option, None, Some, IsSome, List, ◌∷◌, map, option_map, refl, sym, ap, ◌∙◌}
 use Rattle.std.proofs.Common.{subst, arith, inl, inr, ⊎_elim, ◌⊎◌}
 use Rattle.std.specs.List.{sum_by}
 use Rattle.slab.specs.Slab.{Slab, get, slab_len}
-use Rattle.fixed_box.specs.Bounds.{Bounds}
+use Rattle.fixed_box.specs.Bounds.{Bounds, hull as union}
 use Rattle.tree_nodes.specs.declared.node_view.NodeView.{NodeView}
 use Rattle.tree_nodes.specs.declared.node_view.NodeView.TheVariants.{Inner}
-use Rattle.tree_nodes.specs.Moved.{moved, leaf_moved}
+use Rattle.tree_nodes.specs.Moved.{moved, leaf_moved, refitted}
 use Rattle.tree_nodes.specs.Path.{Leads, ToMove}
 use Rattle.tree_nodes.specs.Rotation.{Children}
 use Rattle.tree_nodes.specs.Stored.{Holds, Sound, SoundIn, StandsAt}
-use Rattle.tree_nodes.specs.Tree.{Tree, fork, top, height, count_of, one, Balanced, leaves, leaves_in, height_in}
+use Rattle.tree_nodes.specs.Tree.{Tree, fork, top, bounds, height, count_of, one, Balanced, leaves, leaves_in, height_in}
 use Rattle.tree_nodes.proofs.Detaching.{end_counted}
-use Rattle.tree_nodes.proofs.Frames.{one_same, frame}
+use Rattle.tree_nodes.proofs.Frames.{one_same, one_apart, frame}
 use Rattle.tree_nodes.proofs.Inserting.{size_leaves}
 use Rattle.tree_nodes.proofs.MovedTrees.{moved_top, moved_counts, moved_size, moved_height, moved_balanced, moved_slots, unmoved, moved_leaves}
 use Rattle.tree_nodes.proofs.Opened.{top_counted}
@@ -111,6 +111,74 @@ children_moved old new at left right next k hu node rest t fat there kept some d
       right_small = omega arith;
     })
     d.on
+
+-- where the bounds of the child that is next stay, the node stands as it did
+pub bounds_stay : (old : Slab NodeView) (at left right next k : ℕ) (hu : Bounds) (node : ℕ) (rest : List ℕ) (t : Tree) (fat : Bounds)
+    → ((m : ℕ) (u : Tree) → ToMove old next m rest u → bounds (moved m fat u) ≡ bounds u) → Balanced t
+    → (d : OneStep old at left right next k hu node rest t)
+    → refitted at (moved node fat d.f) (moved node fat d.g) ≡ fork at hu k (moved node fat d.f) (moved node fat d.g)
+bounds_stay old at left right next k hu node rest t fat same bal d =
+    let f = moved node fat d.f in
+    let g = moved node fat d.g in
+    let fits : Balanced (fork at hu k d.f d.g) = subst Balanced d.is bal in
+    let both : (bounds f ≡ bounds d.f) × (bounds g ≡ bounds d.g) = ⊎_elim
+    (λ on.
+    let used = end_counted d.f rest node on.leads in
+    let z : count_of d.g node ≡ 0 = let a = d.apart node in omega arith in
+    (same node d.f on, ap bounds (unmoved node fat d.g d.right_balanced z)))
+    (λ on.
+    let used = end_counted d.g rest node on.leads in
+    let z : count_of d.f node ≡ 0 = let a = d.apart node in omega arith in
+    (ap bounds (unmoved node fat d.f d.left_balanced z), same node d.g on))
+    d.on in
+    let hf = moved_height node fat d.f d.left_balanced in
+    let hg = moved_height node fat d.g d.right_balanced in
+    ap (λ b. fork at (union b (bounds g)) (1 + max (height f) (height g)) f g) both.0
+    ∙ ap (λ b. fork at (union (bounds d.f) b) (1 + max (height f) (height g)) f g) both.1
+    ∙ ap (λ h. fork at h (1 + max (height f) (height g)) f g) (sym fits.0.hull_is)
+    ∙ ap (λ x. fork at hu (1 + max x (height g)) f g) hf
+    ∙ ap (λ x. fork at hu (1 + max (height d.f) x) f g) hg
+    ∙ ap (λ x. fork at hu x f g) (sym fits.0.height_is)
+
+pub node_stays : (old new : Slab NodeView) (at left right next k : ℕ) (hu : Bounds) (node : ℕ) (rest : List ℕ) (t : Tree) (fat : Bounds)
+    → ((m : ℕ) (u : Tree) → ToMove old next m rest u → bounds (moved m fat u) ≡ bounds u)
+    → ((m j : ℕ) (u : Tree) → ToMove old next m rest u → count_of u j ≡ 0 → get new j ≡ get old j) → get old at ≡ Some (Inner left right hu k) → Balanced t
+    → (d : OneStep old at left right next k hu node rest t) → Children new at left right (moved node fat d.f) (moved node fat d.g)
+    → StandsAt new at (moved node fat t)
+node_stays old new at left right next k hu node rest t fat same others e bal d p =
+    let f = moved node fat d.f in
+    let g = moved node fat d.g in
+    let a = d.apart at in
+    let o : one at at ≡ 1 = one_same at in
+    let z : (count_of d.f at ≡ 0) × (count_of d.g at ≡ 0) = (omega arith, omega arith) in
+    let still : get new at ≡ get old at = ⊎_elim (λ on. others node at d.f on z.0) (λ on. others node at d.g on z.1) d.on in
+    let lf : top f ≡ left = p.left_kept.is_at in
+    let rg : top g ≡ right = p.right_kept.is_at in
+    let here : get new at ≡ Some (Inner (top f) (top g) hu k) = cc in
+    let holds : Holds new (fork at hu k f g) = (here, p.left_kept.holds, p.right_kept.holds) in
+    subst (λ x. StandsAt new at (moved node fat x)) (sym d.is)
+    (record { holds = subst (Holds new) (sym (bounds_stay old at left right next k hu node rest t fat same bal d)) holds; is_at = refl })
+
+pub same_bounds : (old : Slab NodeView) (at left right next k : ℕ) (hu : Bounds) (node : ℕ) (rest : List ℕ) (t : Tree) (fat : Bounds)
+    → ((m : ℕ) (u : Tree) → ToMove old next m rest u → bounds (moved m fat u) ≡ bounds u) → Balanced t
+    → (d : OneStep old at left right next k hu node rest t) → bounds (moved node fat t) ≡ bounds t
+same_bounds old at left right next k hu node rest t fat same bal d =
+    subst (λ x. bounds (moved node fat x) ≡ bounds x) (sym d.is) (ap bounds (bounds_stay old at left right next k hu node rest t fat same bal d))
+
+-- what the way doesn't use stays
+pub others_stay : (old new : Slab NodeView) (at left right next k j : ℕ) (hu : Bounds) (node : ℕ) (rest : List ℕ) (t : Tree)
+    → ((m j : ℕ) (u : Tree) → ToMove old next m rest u → count_of u j ≡ 0 → get new j ≡ get old j)
+    → (d : OneStep old at left right next k hu node rest t) → count_of t j ≡ 0 → (get new j ≡ get old j) × (j ≢ at)
+others_stay old new at left right next k j hu node rest t others d free =
+    let none : one at j + (count_of d.f j + count_of d.g j) ≡ 0 = subst (λ x. count_of x j ≡ 0) d.is free in
+    let z : (count_of d.f j ≡ 0) × (count_of d.g j ≡ 0) × (one at j ≡ 0) = (omega arith, omega arith, omega arith) in
+    (⊎_elim (λ on. others node j d.f on z.0) (λ on. others node j d.g on z.1) d.on, λ e. one_apart at j z.2 (sym e))
+
+pub leaf_others : (slab : Slab NodeView) (at node k : ℕ) (path : List ℕ) (t : Tree) → ToMove slab at node path t → count_of t k ≡ 0 → k ≢ at
+leaf_others slab at node k path t w free = λ e.
+    let u : 1 ≤ count_of t at = subst (λ k. 1 ≤ count_of t k) w.kept.is_at (top_counted t) in
+    let z : count_of t at ≡ 0 = subst (λ j. count_of t j ≡ 0) e free in
+    absurd (omega arith)
 
 -- a tree that shares no number with this one
 pub moved_elsewhere : (old new : Slab NodeView) (at left right next k : ℕ) (hu : Bounds) (node : ℕ) (rest : List ℕ) (t v : Tree)

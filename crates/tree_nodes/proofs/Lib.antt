@@ -1,5 +1,6 @@
 mod Adjusted
 mod Balance
+mod BoxEquality
 mod Detaching
 mod Exchanges
 mod Frames

@@ -1,9 +1,9 @@
-ghost use Rattle.std.specs.Prelude.{true, ◌≡◌, ◌+◌, ◌<◌, false};
+ghost use Rattle.std.specs.Prelude.{◌≡◌};
 ghost use Rattle.tree_nodes.specs.Exchange.{SameLeaves};
 ghost use Rattle.tree_nodes.specs.Moved.{refitted};
 ghost use Rattle.tree_nodes.specs.Rotation.{ToAdjust, ToRebalance, rebalanced};
 ghost use Rattle.tree_nodes.specs.Stored.{Holds, StandsAt, Apart, KeepsKeys};
-ghost use Rattle.tree_nodes.specs.Tree.{Tree, top, count_of};
+ghost use Rattle.tree_nodes.specs.Tree.{Tree, count_of};
 
 use crate::NodeView;
 use crate::node_slab::height_at;

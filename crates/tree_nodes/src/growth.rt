@@ -1,6 +1,6 @@
-ghost use Rattle.std.specs.Prelude.{◌≡◌, ◌+◌, ◌<◌, ◌^◌, ◌⊎◌};
+ghost use Rattle.std.specs.Prelude.{◌≡◌, ◌<◌, ◌^◌, ◌⊎◌};
 ghost use Rattle.tree_nodes.specs.Stored.{StandsAt};
-ghost use Rattle.tree_nodes.specs.Tree.{Tree, one};
+ghost use Rattle.tree_nodes.specs.Tree.{Tree};
 
 use crate::NodeView;
 use crate::node_slab::bounds_at;

@@ -1,8 +1,8 @@
-ghost use Rattle.std.specs.Prelude.{◌≡◌, ◌≢◌, ℕ, ◌+◌, ◌<◌, ◌≤◌, Some, None, length, ◌∷◌, All};
+ghost use Rattle.std.specs.Prelude.{◌≡◌, ◌≢◌, ℕ, ◌+◌, ◌<◌, ◌≤◌, length, ◌∷◌, All};
 ghost use Rattle.std.specs.List.Sorted.{IsPermutation};
 ghost use Rattle.tree_nodes.specs.Insertion.{ToInsert, Inserted};
 ghost use Rattle.tree_nodes.specs.Stored.{Holds, SoundIn, tree_of, KeepsKeys};
-ghost use Rattle.tree_nodes.specs.Tree.{Tree, height, count_of, one, leaves, leaves_in};
+ghost use Rattle.tree_nodes.specs.Tree.{Tree, count_of, one, leaves_in};
 ghost use Rattle.fixed_box.specs.Bounds.{Bounds};
 
 use crate::adjusting::adjust;

@@ -1,7 +1,8 @@
-ghost use Rattle.std.specs.Prelude.{◌≡◌, ℕ, ◌≤◌, length, Some, false, IsTrue};
+ghost use Rattle.std.specs.Prelude.{◌≡◌, ℕ, ◌≤◌, length, false, IsTrue};
 ghost use Rattle.std.specs.List.{All, Contains};
 ghost use Rattle.fixed_box.specs.Bounds.{Bounds, encloses, meets};
-ghost use Rattle.tree_nodes.specs.Tree.{Tree, Leaf, top, bounds, height, leaves, count_of, fewest, view_of, view_at, Balanced, Within};
+ghost use Rattle.tree_nodes.specs.Tree.{Tree, Leaf, top, bounds, height, leaves, count_of, fewest};
+ghost use Rattle.tree_nodes.specs.Tree.{view_of, view_at, Balanced, Within};
 ghost use Rattle.tree_nodes.specs.declared.node_view.NodeView.TheVariants.{Leaf as LeafNode};
 
 use crate::MOST_HEIGHT;
@@ -10,8 +11,8 @@ use fixed_box::{SLOTS, box_laws};
 /// Laws of trees for proofs, with nothing to run. They hold at each node, since what stands in a balanced tree is one.
 ///
 /// A hull encloses the box of each leaf below it. So what meets a leaf's box meets each hull above it, and below a hull
-/// that a box misses no leaf meets that box. A tree of height h has at least `fewest h` leaves, and so 8,192 leaves give
-/// a height of at most 18.
+/// that a box misses no leaf meets that box. A tree of height h has at least `fewest h` leaves, so that 8,192 leaves
+/// give a height of at most 18.
 pub fn tree_laws()
     ensures enclosed { (t : Tree) → Balanced t → All (λ x. IsTrue (encloses (bounds t) x.fat)) (leaves t) }
     ensures met { (t : Tree) (q : Bounds) → Balanced t →

@@ -1,7 +1,7 @@
-ghost use Rattle.std.specs.Prelude.{◌≡◌, ◌≢◌, ℕ, ◌<◌, Some};
+ghost use Rattle.std.specs.Prelude.{◌≡◌, ◌≢◌, ℕ};
 ghost use Rattle.slab.specs.Slab.{get, slab_len, ContainsKey};
 ghost use Rattle.tree_nodes.specs.Stored.{Holds};
-ghost use Rattle.tree_nodes.specs.Tree.{Tree, top, bounds, height, one};
+ghost use Rattle.tree_nodes.specs.Tree.{Tree, top, bounds, height};
 
 use crate::NodeView;
 use fixed_box::FBox;

@@ -1,4 +1,4 @@
-ghost use Rattle.std.specs.Prelude.{◌≡◌, ◌≢◌, ◌↔◌, ℕ, ◌<◌, ◌≤◌, IfOk, IfSome, Some, None, IsSome, option_map, map, length, [], ◌∷◌};
+ghost use Rattle.std.specs.Prelude.{◌≡◌, ◌≢◌, ◌↔◌, ℕ, ◌<◌, ◌≤◌, IfOk, IfSome, IsSome, option_map, map, length, [], ◌∷◌};
 ghost use Rattle.std.specs.List.{All};
 ghost use Rattle.std.specs.List.Sorted.{IsPermutation};
 ghost use Rattle.fixed_box.specs.Bounds.{Bounds};
@@ -87,8 +87,8 @@ impl Nodes {
         requires { IsLeafOf self.old node }
         ensures leaves { (slot : ℕ) (fat : Bounds) → view_in self.old node ≡ Some (LeafNode slot fat) →
             IsPermutation (record { node = node; slot = slot; fat = fat } ∷ leaves_in self.new) (leaves_in self.old) }
-        ensures others { (other s : ℕ) (b : Bounds) → view_in self.old other ≡ Some (LeafNode s b) → other ≢ node →
-            view_in self.new other ≡ Some (LeafNode s b) }
+        ensures others { (other s : ℕ) (b : Bounds) → view_in self.old other ≡ Some (LeafNode s b) →
+            other ≢ node → view_in self.new other ≡ Some (LeafNode s b) }
         ensures tree { IsTreeIn self.new }
     {
         self.root = remove_leaf(
@@ -100,8 +100,8 @@ impl Nodes {
         );
     }
 
-    /// Gives a leaf another box in its place: each node keeps its number, its place and its height, and the hulls above
-    /// the leaf are those that its new box makes. The tree isn't made tighter, so a leaf that goes far is better dropped
+    /// Gives a leaf another box in its place: each node keeps its number, its place and its height. The hulls above the
+    /// leaf are refitted, up to one that stays. The tree isn't made tighter, so a leaf that goes far is better dropped
     /// and added.
     pub fn move_leaf(&mut self, node: usize, fat: FBox)
         requires { IsLeafOf self.old node }
@@ -110,8 +110,8 @@ impl Nodes {
         ensures height { height_in self.new ≡ height_in self.old }
         ensures leaf { (slot : ℕ) (old : Bounds) → view_in self.old node ≡ Some (LeafNode slot old) →
             view_in self.new node ≡ Some (LeafNode slot fat) }
-        ensures others { (other s : ℕ) (b : Bounds) → view_in self.old other ≡ Some (LeafNode s b) → other ≢ node →
-            view_in self.new other ≡ Some (LeafNode s b) }
+        ensures others { (other s : ℕ) (b : Bounds) → view_in self.old other ≡ Some (LeafNode s b) →
+            other ≢ node → view_in self.new other ≡ Some (LeafNode s b) }
         ensures tree { IsTreeIn self.new }
     {
         move_in_place(

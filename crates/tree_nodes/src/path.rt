@@ -1,6 +1,6 @@
-ghost use Rattle.std.specs.Prelude.{true, ◌≡◌, ℕ, ◌<◌, Some, None, [], false};
+ghost use Rattle.std.specs.Prelude.{true, ◌≡◌, ℕ, []};
 ghost use Rattle.tree_nodes.specs.Path.{Leads, ToSearch, PathFound};
-ghost use Rattle.tree_nodes.specs.Tree.{Tree, height, one, leaves, view_at};
+ghost use Rattle.tree_nodes.specs.Tree.{Tree, view_at};
 ghost use Rattle.fixed_box.specs.Bounds.{Bounds};
 ghost use Rattle.tree_nodes.specs.declared.node_view.NodeView.TheVariants.{Leaf as LeafNode};
 
@@ -10,7 +10,7 @@ use fixed_box::FBox;
 use slab::Slab;
 use smallvec::SmallVec;
 
-// Node numbers on the way between the root and a leaf, on the stack: no tree is so high.
+// Node numbers on the way between the root and a leaf, kept in place: no tree is so high.
 pub(crate) type Path = SmallVec<usize, 32>;
 
 // The path from the root to a leaf: the noted one where it leads there, else the one that a search finds.
@@ -88,7 +88,7 @@ fn leads_to(slab: &Slab<NodeView>, at: usize, node: usize, path: &[usize]) -> bo
     }
 }
 
-// Searches a leaf by its box, below hulls that hold the box alone. Appends the path, the leaf first.
+// Searches a leaf by its box, only below hulls that hold the box. Pushes the path, the leaf first.
 fn find_path(slab: &Slab<NodeView>, at: usize, node: usize, fat: &FBox, path: &mut Path) -> bool
     requires tree { (t : Tree) × ToSearch slab.now at t }
     requires empty { path.old.items ≡ [] }

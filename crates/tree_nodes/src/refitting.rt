@@ -1,8 +1,9 @@
-ghost use Rattle.std.specs.Prelude.{◌≡◌, ◌+◌, ◌<◌, Some};
+ghost use Rattle.std.specs.Prelude.{◌≡◌, ◌≢◌, ℕ};
+ghost use Rattle.slab.specs.Slab.{get};
 ghost use Rattle.tree_nodes.specs.Moved.{refitted};
 ghost use Rattle.tree_nodes.specs.Rotation.{Children};
 ghost use Rattle.tree_nodes.specs.Stored.{Holds, KeepsKeys};
-ghost use Rattle.tree_nodes.specs.Tree.{Tree, height, count_of};
+ghost use Rattle.tree_nodes.specs.Tree.{Tree, count_of};
 
 use crate::NodeView;
 use crate::node_slab::{bounds_at, height_at, replace};
@@ -19,6 +20,7 @@ pub(crate) fn refit(
     requires { (l r : Tree) × Children slab.old at left right l r }
     ensures there { (l r : Tree) → Children slab.old at left right l r → Holds slab.new (refitted at l r) }
     ensures kept { (t : Tree) → count_of t at ≡ 0 → Holds slab.old t → Holds slab.new t }
+    ensures others { (k : ℕ) → k ≢ at → get slab.new k ≡ get slab.old k }
     ensures keys { KeepsKeys slab.old slab.new }
 {
     let hull = bounds_at(slab, left).union(&bounds_at(slab, right));

@@ -1,8 +1,8 @@
-ghost use Rattle.std.specs.Prelude.{◌≡◌, ℕ, ◌<◌, Some, None, ◌⊎◌, ◌∷◌};
+ghost use Rattle.std.specs.Prelude.{◌≡◌, ℕ, ◌⊎◌, ◌∷◌};
 ghost use Rattle.std.specs.List.Sorted.{IsPermutation};
 ghost use Rattle.tree_nodes.specs.Path.{ToRemove, Removed, Leads};
 ghost use Rattle.tree_nodes.specs.Stored.{Holds, Sound, SoundIn, tree_of, Apart, KeepsKeys};
-ghost use Rattle.tree_nodes.specs.Tree.{Tree, top, height, view_in, one, leaves, leaves_in, Leaf as LeafOf, IsLeafOf};
+ghost use Rattle.tree_nodes.specs.Tree.{Tree, top, view_in, leaves, leaves_in, Leaf as LeafOf, IsLeafOf};
 ghost use Rattle.fixed_box.specs.Bounds.{Bounds};
 ghost use Rattle.tree_nodes.specs.declared.node_view.NodeView.TheVariants.{Leaf as LeafNode};
 

@@ -1,8 +1,7 @@
-ghost use Rattle.std.specs.Prelude.{◌≡◌, ◌<◌, ◌≤◌};
-ghost use Rattle.tree_nodes.specs.Moved.{refitted};
+ghost use Rattle.std.specs.Prelude.{◌≡◌, ◌≤◌};
 ghost use Rattle.tree_nodes.specs.Rotation.{Children, RotationParts, rotated, lower, higher, rotated_up};
 ghost use Rattle.tree_nodes.specs.Stored.{Holds, StandsAt, KeepsKeys};
-ghost use Rattle.tree_nodes.specs.Tree.{Tree, Balanced, top, height, count_of, one};
+ghost use Rattle.tree_nodes.specs.Tree.{Tree, Balanced, top, height, count_of};
 
 use crate::NodeView;
 use crate::node_slab::height_at;

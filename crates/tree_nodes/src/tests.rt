@@ -1,4 +1,4 @@
-ghost use Rattle.std.specs.Prelude.{◌≡◌, ◌+◌, ◌<◌, ℕ, IsSome, Some};
+ghost use Rattle.std.specs.Prelude.{◌≡◌, ◌+◌, ◌<◌, ℕ, IsSome};
 ghost use Rattle.fixed_box.specs.Bounds.{Bounds};
 ghost use Rattle.tree_nodes.specs.Filled.{IsFilled};
 ghost use Rattle.tree_nodes.specs.Tree.{view_in};
@@ -99,11 +99,15 @@ fn looked(nodes: &Nodes, node: usize, region: &FBox, levels: u8) -> u64
     }
 }
 
+// What several workers may read at once.
+fn is_shared<T: Send + Sync>(_: &T) {}
+
 #[test]
 fn a_root_is_where_a_leaf_is(rt: HostRuntime) -> Result<(), Fail> {
     let here = flat(0).ok_or("a flat box")?;
     let there = flat(65_536).ok_or("a flat box")?;
     let mut nodes = Nodes::new(rt.alloc())?;
+    is_shared(&nodes);
     assert_eq!(rt; (nodes.root(), nodes.height()), (None, 0));
     let first = add_next(&mut nodes, 0, here);
     assert_eq!(rt; (nodes.root(), nodes.height()), (Some(first), 0));

@@ -1,7 +1,7 @@
-ghost use Rattle.std.specs.Prelude.{true, ◌≡◌, ◌+◌, ◌<◌, ◌≤◌, ◌⊎◌};
+ghost use Rattle.std.specs.Prelude.{true, ◌≡◌, ◌≤◌, ◌⊎◌};
 ghost use Rattle.tree_nodes.specs.Exchange.{SameLeaves, KeepsHeight, ToExchange, ToTighten};
 ghost use Rattle.tree_nodes.specs.Stored.{Holds, Apart, KeepsKeys};
-ghost use Rattle.tree_nodes.specs.Tree.{Tree, height, count_of, one};
+ghost use Rattle.tree_nodes.specs.Tree.{Tree, count_of};
 
 use crate::NodeView;
 use crate::growth::{by_growth, perimeter};

@@ -4,7 +4,8 @@ use Rattle.slab.specs.Slab.{get}
 use Rattle.tree_nodes.specs.Exchange.{height_shown}
 use Rattle.tree_nodes.specs.Moved.{refitted}
 use Rattle.tree_nodes.specs.Tree.{tip}
-use Rattle.tree_nodes.proofs.InsertingBelow.{leaf_children, leaf_inserted, step_down, step_rebalance, step_inserted, step_adjust, stay_free, elsewhere, below_low}
+use Rattle.tree_nodes.proofs.InsertingBelow.{leaf_children, leaf_inserted, step_down, step_rebalance, step_inserted, step_adjust, stay_free}
+use Rattle.tree_nodes.proofs.InsertingBelow.{elsewhere, below_low}
 use Rattle.tree_nodes.proofs.Opened.{opened}
 use Rattle.tree_nodes.proofs.Rotations.{children}
 use Rattle.tree_nodes.proofs.insertion.+insert_below.Goals as goal
