@@ -1,6 +1,6 @@
 -- A node is rebalanced and then tightened.
-use Rattle.std.proofs.Common.{◌≡◌, ℕ, ◌+◌, ◌≤◌, max, Some, refl, ◌∙◌, subst, arith, ◌⊎◌}
-use Rattle.std.proofs.lemmas.List.Sorted.{IsPermutation-refl, IsPermutation-trans}
+use Rattle.std.proofs.Common.{◌≡◌, ℕ, ◌+◌, ◌≤◌, max, Some, ◌∙◌, subst, arith, ◌⊎◌}
+use Rattle.std.proofs.lemmas.List.Sorted.{IsPermutation-trans}
 use Rattle.slab.specs.Slab.{Slab, get}
 use Rattle.fixed_box.specs.Bounds.{Bounds}
 use Rattle.tree_nodes.specs.declared.node_view.NodeView.{NodeView}
@@ -31,9 +31,6 @@ apart_from slab at b c t d s v w free =
     let f = free at in
     let g = free c in
     (omega arith, omega arith)
-
-pub same_itself : (slab : Slab NodeView) (at : ℕ) (t : Tree) → ToTighten slab at t → SameLeaves slab at t t
-same_itself slab at t w = record { kept = w.kept; balanced = w.balanced; height_is = refl; counts_are = λ k. refl; leaves_are = IsPermutation-refl _ }
 
 pub same_to_tighten : (old new : Slab NodeView) (at : ℕ) (t u : Tree) → ToTighten old at t → SameLeaves new at t u → ToTighten new at u
 same_to_tighten old new at t u w s =

@@ -23,7 +23,7 @@ held slab t k h used = some_or (get slab k) (λ e. let z = fresh_zero t h e in a
     fresh_zero : (t : Tree) → Holds slab t → get slab k ≡ None → count_of t k ≡ 0
     fresh_zero t h e = fresh slab t k h e
 
--- a way's end is a leaf's number
+-- a path ends at a leaf
 pub end_counted : (t : Tree) (ps : List ℕ) (node : ℕ) → Leads t ps node → 1 ≤ count_of t node
 end_counted (tip n s b) [] node w = let e : one n node ≡ 1 = subst (λ k. one n k ≡ 1) w (one_same n) in omega arith
 end_counted (tip n s b) (p ∷ ps) node w = absurd w
@@ -31,7 +31,7 @@ end_counted (fork n h k l r) [] node w = absurd w
 end_counted (fork n h k l r) (p ∷ ps) node w =
     ⊎_elim (λ x. let a = end_counted l ps node x.1 in omega arith) (λ x. let a = end_counted r ps node x.1 in omega arith) w
 
--- a way of no step
+-- a path of no step
 pub only : (slab : Slab NodeView) (t : Tree) (node : ℕ) (ps : List ℕ) → ps ≡ [] → Leads t ps node → Sound slab t
     → (x : LeafOf) × (x.node ≡ node) × IsPermutation (x ∷ []) (leaves t) × (slab_len slab ≡ 1)
 only slab (tip n s b) node ps e w sound =

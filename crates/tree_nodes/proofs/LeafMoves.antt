@@ -18,7 +18,7 @@ use Rattle.tree_nodes.proofs.MovedTrees.{moved_top, moved_counts, moved_size, mo
 use Rattle.tree_nodes.proofs.Opened.{top_counted}
 use Rattle.tree_nodes.proofs.Rotations.{children}
 
--- one step of the way
+-- one step of a path
 pub record OneStep (slab : Slab NodeView) (at left right next k : ℕ) (hu : Bounds) (node : ℕ) (rest : List ℕ) (t : Tree) : Type 0 where
   pub f : Tree
   pub g : Tree
@@ -165,7 +165,7 @@ pub same_bounds : (old : Slab NodeView) (at left right next k : ℕ) (hu : Bound
 same_bounds old at left right next k hu node rest t fat same bal d =
     subst (λ x. bounds (moved node fat x) ≡ bounds x) (sym d.is) (ap bounds (bounds_stay old at left right next k hu node rest t fat same bal d))
 
--- what the way doesn't use stays
+-- what the path does not use stays
 pub others_stay : (old new : Slab NodeView) (at left right next k j : ℕ) (hu : Bounds) (node : ℕ) (rest : List ℕ) (t : Tree)
     → ((m j : ℕ) (u : Tree) → ToMove old next m rest u → count_of u j ≡ 0 → get new j ≡ get old j)
     → (d : OneStep old at left right next k hu node rest t) → count_of t j ≡ 0 → (get new j ≡ get old j) × (j ≢ at)
@@ -173,12 +173,6 @@ others_stay old new at left right next k j hu node rest t others d free =
     let none : one at j + (count_of d.f j + count_of d.g j) ≡ 0 = subst (λ x. count_of x j ≡ 0) d.is free in
     let z : (count_of d.f j ≡ 0) × (count_of d.g j ≡ 0) × (one at j ≡ 0) = (omega arith, omega arith, omega arith) in
     (⊎_elim (λ on. others node j d.f on z.0) (λ on. others node j d.g on z.1) d.on, λ e. one_apart at j z.2 (sym e))
-
-pub leaf_others : (slab : Slab NodeView) (at node k : ℕ) (path : List ℕ) (t : Tree) → ToMove slab at node path t → count_of t k ≡ 0 → k ≢ at
-leaf_others slab at node k path t w free = λ e.
-    let u : 1 ≤ count_of t at = subst (λ k. 1 ≤ count_of t k) w.kept.is_at (top_counted t) in
-    let z : count_of t at ≡ 0 = subst (λ j. count_of t j ≡ 0) e free in
-    absurd (omega arith)
 
 -- a tree that shares no number with this one
 pub moved_elsewhere : (old new : Slab NodeView) (at left right next k : ℕ) (hu : Bounds) (node : ℕ) (rest : List ℕ) (t v : Tree)

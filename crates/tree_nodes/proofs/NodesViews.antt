@@ -92,11 +92,6 @@ unmoved_there o p node k s fat b tree e h other =
     (contains_map (leaf_moved node fat) (leaves_in o) y (listed_in o k s b h)) in
     viewed_in p y tree (subst (λ x. Contains (leaves_in p) x) is there)
 
--- the root is a node of the tree
-pub top_shown : (o : Option Tree) (t : Tree) → o ≡ Some t → IsSome (view_in o (top t))
-top_shown None t e = cc
-top_shown (Some u) t e = let same : u ≡ t = cc in subst (λ v. IsSome (view_at v (top t))) (sym same) (subst IsSome (sym (top_viewed t)) refl)
-
 or_left : {A : Type 0} (x y : Option A) → IsSome x → IsSome (or_else x y)
 or_left None y h = cc
 or_left (Some v) y h = refl

@@ -1,9 +1,8 @@
 -- A leaf is found by its box.
-use Rattle.std.proofs.Common.{◌≡◌, ℕ, suc, ◌+◌, ◌<◌, ◌≤◌, max, Bool, true, false, cond, eqb, None, Some, List, [], ◌∷◌, ◌++◌, reverse, length, take}
-use Rattle.std.proofs.Common.{drop, refl, sym, ap, ◌∙◌, subst, arith, inl, inr}
+use Rattle.std.proofs.Common.{◌≡◌, ℕ, suc, ◌+◌, ◌<◌, ◌≤◌, max, Bool, true, false, cond, eqb, Some, List, [], ◌++◌, reverse, length, take}
+use Rattle.std.proofs.Common.{drop, refl, sym, ap, ◌∙◌, subst, arith}
 use Rattle.std.specs.List.{refill}
-use Rattle.std.proofs.lemmas.Bool.Decides.{nat_tests}
-use Rattle.std.proofs.lemmas.List.{reverse-append, length_push, length-reverse}
+use Rattle.std.proofs.lemmas.List.{length-reverse}
 use Rattle.std.proofs.Math.Seq.{take-append_seam}
 use Rattle.slab.specs.Slab.{Slab, get}
 use Rattle.fixed_box.specs.Bounds.{Bounds, encloses}
@@ -11,24 +10,10 @@ use Rattle.tree_nodes.specs.declared.node_view.NodeView.{NodeView}
 use Rattle.tree_nodes.specs.declared.node_view.NodeView.TheVariants.{Leaf, Inner}
 use Rattle.tree_nodes.specs.Exchange.{height_shown}
 use Rattle.tree_nodes.specs.Path.{Leads, ToSearch, PathFound}
-use Rattle.tree_nodes.specs.Tree.{Tree, tip, fork, top, bounds, height, Balanced, view_at, or_else, view_of}
+use Rattle.tree_nodes.specs.Tree.{Tree, fork, bounds, height, Balanced, view_at, or_else, view_of}
 use Rattle.tree_nodes.proofs.Opened.{height_in_slab}
 use Rattle.tree_nodes.proofs.Rotations.{children}
 use Rattle.tree_nodes.proofs.Views.{or_cases}
-
--- what a search at a leaf tells
-pub at_leaf : (slab : Slab NodeView) (at node sl : ℕ) (fa fat : Bounds) (t : Tree) → ToSearch slab at t → get slab at ≡ Some (Leaf sl fa)
-    → PathFound node fat t (eqb at node) []
-at_leaf slab at node sl fa fat (tip n s b) w e =
-    let m : n ≡ at = w.kept.is_at in
-    subst (λ a. PathFound node fat (tip n s b) (eqb a node) []) m (record {
-      leads = λ q. let o : n ≡ node = grind (arith, nat_tests) in o;
-      missed = λ q. refl;
-      none = λ x q g. let z : cond (eqb n node) (Some (Leaf s b)) None ≡ Some (Leaf x fat) = g in
-          let y : cond false (Some (Leaf s b)) None ≡ Some (Leaf x fat) = subst (λ v. cond v (Some (Leaf s b)) None ≡ Some (Leaf x fat)) q z in cc;
-      short = omega arith;
-    })
-at_leaf slab at node sl fa fat (fork n h k l r) w e = let g = w.kept.holds.0 in let m : n ≡ at = w.kept.is_at in cc
 
 -- what a search outside a hull tells
 pub outside : (slab : Slab NodeView) (at left right k node : ℕ) (hu fat : Bounds) (t : Tree)
@@ -55,32 +40,6 @@ both_below slab at left right k hu t w e =
     let fl : suc (height c.0) ≤ k = grind (arith) in
     let gl : suc (height c.1) ≤ k = grind (arith) in
     (c.0, c.1, c.2, record { kept = c.3; balanced = b.1; low = omega arith }, record { kept = c.4; balanced = b.2; low = omega arith }, fl, gl, low)
-
-pub from_left : (at left k node : ℕ) (hu fat : Bounds) (f g : Tree) (found : Bool) (path : List ℕ) → top f ≡ left → suc (height f) ≤ k
-    → PathFound node fat f found path → found ≡ true → PathFound node fat (fork at hu k f g) true (path ++ left ∷ [])
-from_left at left k node hu fat f g found path is hi s got =
-    let e : reverse (path ++ left ∷ []) ≡ left ∷ reverse path = reverse-append path (left ∷ []) in
-    let n = length_push path left in
-    let sh = s.short in
-    record {
-      leads = λ q. subst (λ p. Leads (fork at hu k f g) p node) (sym e) (inl (is, s.leads got));
-      missed = λ q. cc;
-      none = λ x q h. cc;
-      short = omega arith;
-    }
-
-pub from_right : (at right k node : ℕ) (hu fat : Bounds) (f g : Tree) (found : Bool) (path : List ℕ) → top g ≡ right → suc (height g) ≤ k
-    → PathFound node fat g found path → found ≡ true → PathFound node fat (fork at hu k f g) true (path ++ right ∷ [])
-from_right at right k node hu fat f g found path is hi s got =
-    let e : reverse (path ++ right ∷ []) ≡ right ∷ reverse path = reverse-append path (right ∷ []) in
-    let n = length_push path right in
-    let sh = s.short in
-    record {
-      leads = λ q. subst (λ p. Leads (fork at hu k f g) p node) (sym e) (inr (is, s.leads got));
-      missed = λ q. cc;
-      none = λ x q h. cc;
-      short = omega arith;
-    }
 
 pub neither : (at k node : ℕ) (hu fat : Bounds) (f g : Tree) (a b : Bool) (p q : List ℕ) → PathFound node fat f a p → a ≡ false → PathFound node fat g b q
     → b ≡ false → PathFound node fat (fork at hu k f g) false q
@@ -110,11 +69,11 @@ whole : (path reversed : List ℕ) → length reversed ≡ length path → refil
 whole path reversed e =
     ap (λ n. take n (reversed ++ drop (length reversed) path)) (sym e) ∙ take-append_seam reversed (drop (length reversed) path)
 
--- the way from the top
-pub way : (slab : Slab NodeView) (node s sl : ℕ) (b fat : Bounds) (t : Tree) (found : Bool) (path reversed : List ℕ) → get slab node ≡ Some (Leaf s b)
+-- the path from the root
+pub path_found : (slab : Slab NodeView) (node s sl : ℕ) (b fat : Bounds) (t : Tree) (found : Bool) (path reversed : List ℕ) → get slab node ≡ Some (Leaf s b)
     → get slab node ≡ Some (Leaf sl fat) → view_at t node ≡ Some (Leaf s b) → PathFound node fat t found path → reversed ≡ reverse path
     → Leads t (refill (length path) path reversed) node
-way slab node s sl b fat t found path reversed g h e w is =
+path_found slab node s sl b fat t found path reversed g h e w is =
     let same : b ≡ fat = cc in
     let e2 : view_at t node ≡ Some (Leaf s fat) = subst (λ x. view_at t node ≡ Some (Leaf s x)) same e in
     let hit : found ≡ true = elim found as (λ f. found ≡ f → f ≡ true) [ true ↦ λ _. refl | false ↦ λ q. absurd (w.none s q e2) ] refl in

@@ -8,7 +8,7 @@ use Rattle.std.proofs.lemmas.List.Sorted.{IsPermutation-append_comm, IsPermutati
 use Rattle.slab.specs.Slab.{Slab, get}
 use Rattle.fixed_box.specs.Bounds.{Bounds}
 use Rattle.tree_nodes.specs.declared.node_view.NodeView.{NodeView}
-use Rattle.tree_nodes.specs.declared.node_view.NodeView.TheVariants.{Leaf, Inner}
+use Rattle.tree_nodes.specs.declared.node_view.NodeView.TheVariants.{Inner}
 use Rattle.tree_nodes.specs.Exchange.{Opened, SameLeaves}
 use Rattle.tree_nodes.specs.Path.{ToRemove, Removed, Leads}
 use Rattle.tree_nodes.specs.Rotation.{ToRebalance, rebalanced, BalancedNear, ToAdjust}
@@ -19,12 +19,6 @@ use Rattle.tree_nodes.proofs.Frames.{one_same}
 use Rattle.tree_nodes.proofs.Opened.{top_counted}
 use Rattle.tree_nodes.proofs.Rebalanced.{rebalanced_counts, rebalanced_leaves, rebalanced_unrotated}
 use Rattle.tree_nodes.proofs.Rotations.{children}
-
--- a leaf has no way on
-pub no_way : (slab : Slab NodeView) (at node next sl : ℕ) (fa : Bounds) (rest : List ℕ) (t : Tree) → ToRemove slab at node next rest t
-    → get slab at ≡ Some (Leaf sl fa) → ⊥
-no_way slab at node next sl fa rest (tip n s b) c e = c.leads
-no_way slab at node next sl fa rest (fork n h k l r) c e = let g = c.kept.holds.0 in let m : n ≡ at = c.kept.is_at in cc
 
 opened_reversed : (slab : Slab NodeView) (at down stay : ℕ) (t d s : Tree) → Opened slab at down stay t d s → Opened slab at stay down t s d
 opened_reversed slab at down stay t d s o = record {
@@ -87,7 +81,7 @@ onward slab at left right k hu node next rest t r c e pick on_left on_right =
     (λ l. (g, f, subst (λ (q : ℕ × ℕ). Opened slab at q.0 q.1 t g f) (sym w) (opened_reversed slab at left right t f g o), l.1)) leads)
     pick
 
--- the first of a way, and what follows
+-- the first step of a path, and what follows
 pub parted : (xs : List ℕ) → 1 ≤ length xs → xs ≡ get_or xs 0 0 ∷ take (length xs - 1) (drop 1 xs)
 parted [] l = absurd (omega arith)
 parted (x ∷ xs) l = let n : length (x ∷ xs) - 1 ≡ length xs = omega arith in ap (λ ys. x ∷ ys) (sym (ap (λ k. take k xs) n ∙ take-length xs))

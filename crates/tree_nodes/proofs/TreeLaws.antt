@@ -1,8 +1,9 @@
 -- What every balanced tree is: its hulls enclose what stands below, and its parts are trees of their own.
 use Rattle.std.proofs.Common.{◌≡◌, ℕ, ◌+◌, ◌≤◌, true, false, cond, eqb, None, Some, [], slice_index_or, refl, sym, ap, ◌∙◌, subst, arith, All, ⊎_elim}
+use Rattle.std.proofs.Common.{inl, inr}
 use Rattle.std.proofs.lemmas.Bool.Decides.{nat_tests}
 use Rattle.std.proofs.lemmas.List.Elements.{All-cons, All-append}
-use Rattle.fixed_box.specs.Bounds.{Bounds, encloses, meets, hull}
+use Rattle.fixed_box.specs.Bounds.{Bounds, encloses, meets, hull as union}
 use Rattle.tree_nodes.specs.declared.node_view.NodeView.TheVariants.{Leaf}
 use Rattle.tree_nodes.specs.Tree.{Tree, Leaf as LeafOf, tip, fork, top, bounds, leaves, one, count_of, view_of, view_at, or_else, Balanced, Within}
 use Rattle.tree_nodes.proofs.LeafViews.{other_one, not_viewed}
@@ -13,8 +14,8 @@ use Rattle.tree_nodes.proofs.Views.{or_cases}
 pub record Enclosing : Type 0 where
   pub itself : (a : Bounds) → encloses a a ≡ true
   pub chain : (a b c : Bounds) → encloses a b ≡ true → encloses b c ≡ true → encloses a c ≡ true
-  pub this : (a b : Bounds) → encloses (hull a b) a ≡ true
-  pub that : (a b : Bounds) → encloses (hull a b) b ≡ true
+  pub this : (a b : Bounds) → encloses (union a b) a ≡ true
+  pub that : (a b : Bounds) → encloses (union a b) b ≡ true
   pub met : (outer inner other : Bounds) → encloses outer inner ≡ true → meets inner other ≡ true → meets outer other ≡ true
 
 pub over_left : Enclosing → (n : ℕ) (h : Bounds) (k : ℕ) (l r : Tree) → Balanced (fork n h k l r) → encloses h (bounds l) ≡ true
@@ -57,6 +58,18 @@ viewed_inside w (fork n h k l r) node s f bal e =
           (λ u g same. w.chain h (bounds l) f (over_left w n h k l r bal) (viewed_inside w l node s f bal.1 (g ∙ ap Some same)))
           (λ u g same. w.chain h (bounds r) f (over_right w n h k l r bal) (viewed_inside w r node s f bal.2 (g ∙ ap Some same))) e refl
     ] e
+
+pub within_itself : (t : Tree) → Within t t
+within_itself (tip n s b) = refl
+within_itself (fork n h k l r) = inl refl
+
+pub children_within : (node height : ℕ) (hull : Bounds) (l r : Tree) → Within (fork node hull height l r) l × Within (fork node hull height l r) r
+children_within node height hull l r = (inr (inl (within_itself l)), inr (inr (within_itself r)))
+
+pub deeper : (t u v : Tree) → Within t u → Within u v → Within t v
+deeper (tip n s b) u v w x = subst (λ y. Within y v) w x
+deeper (fork n h k l r) u v w x =
+    ⊎_elim (λ e. subst (λ y. Within y v) e x) (λ o. ⊎_elim (λ a. inr (inl (deeper l u v a x))) (λ a. inr (inr (deeper r u v a x))) o) w
 
 -- what stands in a balanced tree is one
 pub balanced_within : (t u : Tree) → Within t u → Balanced t → Balanced u

@@ -1,7 +1,7 @@
 ghost use Rattle.std.specs.Prelude.{◌≡◌, ℕ, ◌≤◌, length, false, IsTrue};
 ghost use Rattle.std.specs.List.{All, Contains};
 ghost use Rattle.fixed_box.specs.Bounds.{Bounds, encloses, meets};
-ghost use Rattle.tree_nodes.specs.Tree.{Tree, Leaf, top, bounds, height, leaves, count_of, fewest};
+ghost use Rattle.tree_nodes.specs.Tree.{Tree, fork, Leaf, top, bounds, height, leaves, count_of, fewest};
 ghost use Rattle.tree_nodes.specs.Tree.{view_of, view_at, Balanced, Within};
 ghost use Rattle.tree_nodes.specs.declared.node_view.NodeView.TheVariants.{Leaf as LeafNode};
 
@@ -23,6 +23,10 @@ pub fn tree_laws()
     ensures height { (t : Tree) → Balanced t → length (leaves t) ≤ SLOTS → height t ≤ MOST_HEIGHT }
 
     // What stands in a tree is balanced, and shows under its number. A leaf in the list of leaves is such a node.
+    ensures itself { (t : Tree) → Within t t }
+    ensures deeper { (t u v : Tree) → Within t u → Within u v → Within t v }
+    ensures children { (node height : ℕ) (hull : Bounds) (l r : Tree) →
+        Within (fork node hull height l r) l × Within (fork node hull height l r) r }
     ensures within { (t u : Tree) → Within t u → Balanced t → Balanced u }
     ensures shown { (t u : Tree) → Within t u → ((k : ℕ) → count_of t k ≤ 1) → view_at t (top u) ≡ Some (view_of u) }
     ensures leaf { (t : Tree) (x : Leaf) → Contains (leaves t) x → ((k : ℕ) → count_of t k ≤ 1) →

@@ -1,7 +1,7 @@
 -- The laws of boxes, along the tree.
 use Rattle.tree_nodes.proofs.Heights.{enough, low}
 use Rattle.tree_nodes.proofs.LeafViews.{leaf_viewed}
-use Rattle.tree_nodes.proofs.TreeLaws.{Enclosing, enclosed, met, missed, viewed_inside, balanced_within, shown_within}
+use Rattle.tree_nodes.proofs.TreeLaws.{Enclosing, enclosed, met, missed, viewed_inside, within_itself, deeper, children_within, balanced_within, shown_within}
 use Rattle.tree_nodes.proofs.laws.tree_laws.Goals.{After-box_laws}
 use Rattle.tree_nodes.proofs.laws.tree_laws.Goals as goal
 
@@ -36,3 +36,12 @@ returns-clause-shown c = shown_within
 
 pub returns-clause-leaf : goal.returns-clause-leaf
 returns-clause-leaf c t x in_leaves apart = leaf_viewed t x apart in_leaves
+
+pub returns-clause-itself : goal.returns-clause-itself
+returns-clause-itself c = within_itself
+
+pub returns-clause-deeper : goal.returns-clause-deeper
+returns-clause-deeper c = deeper
+
+pub returns-clause-children : goal.returns-clause-children
+returns-clause-children c = children_within
