@@ -28,7 +28,7 @@ rebalanced n l r =
     then rotated_up n r l
     else (if nat_lt (height l + 1) (height r) then rotated_up n l r else refitted n l r)
 
--- two trees that may go below a node
+-- Two trees that may go below a node. Here as below, a bound on a height says that it fits a byte after some steps.
 pub record Children (slab : Slab NodeView) (at left right : ℕ) (l r : Tree) : Type 0 where
   pub room : IsSome (get slab at)
   pub left_kept : StandsAt slab left l
