@@ -1,3 +1,4 @@
+mod BoxLaws
 mod Corners
 mod DigitRuns
 mod Levels

@@ -3,6 +3,7 @@
 
 mod fbox;
 mod fix_fault;
+mod laws;
 mod no_memory;
 mod parsing;
 mod point;
@@ -10,6 +11,7 @@ mod printing;
 
 pub use fbox::FBox;
 pub use fix_fault::FixFault;
+pub use laws::box_laws;
 pub use no_memory::NoMemory;
 pub use parsing::read_fix;
 pub use point::Point;

@@ -1,0 +1,36 @@
+-- Boxes whose six numbers are equal are the same.
+use Rattle.std.proofs.Common.{◌≡◌, Bool, true, false, not, ◌&&◌, ℤ, int_eq, refl, arith}
+use Rattle.std.proofs.lemmas.Bool.{and_parts}
+use Rattle.std.proofs.lemmas.Int.{ints}
+use Rattle.fixed_box.specs.declared.point.Point.{Point}
+use Rattle.fixed_box.specs.Bounds.{Bounds}
+
+equal : (x y : ℤ) → int_eq x y ≡ true → x ≡ y
+equal x y h = grind (arith, ints)
+
+not_false : (b : Bool) → not b ≡ false → b ≡ true
+not_false true h = refl
+not_false false h = cc
+
+same_point : (p q : Point) → (int_eq p.x q.x && (int_eq p.y q.y && int_eq p.z q.z)) ≡ true → p ≡ q
+same_point p q h =
+    let first = and_parts (int_eq p.x q.x) (int_eq p.y q.y && int_eq p.z q.z) h in
+    let rest = and_parts (int_eq p.y q.y) (int_eq p.z q.z) first.1 in
+    let x = equal p.x q.x first.0 in
+    let y = equal p.y q.y rest.0 in
+    let z = equal p.z q.z rest.1 in
+    let all : ◌≡◌ {A = Point} (record { x = p.x; y = p.y; z = p.z }) (record { x = q.x; y = q.y; z = q.z }) = cc in
+    all
+
+pub same_box : (a b : Bounds)
+    → not ((int_eq a.lo.x b.lo.x && (int_eq a.lo.y b.lo.y && int_eq a.lo.z b.lo.z)) &&
+    (int_eq a.hi.x b.hi.x && (int_eq a.hi.y b.hi.y && int_eq a.hi.z b.hi.z))) ≡ false
+    → a ≡ b
+same_box a b h =
+    let lo = int_eq a.lo.x b.lo.x && (int_eq a.lo.y b.lo.y && int_eq a.lo.z b.lo.z) in
+    let hi = int_eq a.hi.x b.hi.x && (int_eq a.hi.y b.hi.y && int_eq a.hi.z b.hi.z) in
+    let parts = and_parts lo hi (not_false (lo && hi) h) in
+    let low = same_point a.lo b.lo parts.0 in
+    let high = same_point a.hi b.hi parts.1 in
+    let all : ◌≡◌ {A = Bounds} (record { lo = a.lo; hi = a.hi }) (record { lo = b.lo; hi = b.hi }) = cc in
+    all

@@ -1,0 +1,152 @@
+-- The child that is next is moved, the other stays, and the node is refitted.
+use Rattle.std.proofs.Common.{◌≡◌, ◌<◌, ◌-◌, take, drop, get_or, length, ap, ◌∙◌, sym, subst, refl, Some, arith, IsSome, ⊎_elim}
+use Rattle.tree_nodes.specs.Moved.{moved, refitted}
+use Rattle.tree_nodes.specs.Stored.{StandsAt}
+use Rattle.tree_nodes.specs.Tree.{bounds}
+use Rattle.tree_nodes.proofs.BoxEquality.{same_box}
+use Rattle.tree_nodes.proofs.LeafMoves.{node_stays, same_bounds, others_stay, down, children_moved, moved_elsewhere, leaf_elsewhere}
+use Rattle.tree_nodes.proofs.Removing.{parted}
+use Rattle.tree_nodes.proofs.moving.+move_below.Goals as goal
+
+pub move_below-requires : goal.move_below-requires
+move_below-requires t c =
+    let q = c.requires in
+    let e = parted c.args.path.now c.in-len1-up.len_at_least in
+    let d = down c.args.slab.now c.args.at c.in-Inner.left c.in-Inner.right
+    (get_or c.args.path.now 0 0) c.in-Inner.height c.in-Inner.hull q.0 c.args.path.now
+    (take (length c.args.path.now - 1) (drop 1 c.args.path.now)) q.1 q.2 (c.index.ensures ∙ ap Some c.in-Inner.is) e in (
+      subst (λ m. length (take (length c.args.path.now - 1) (drop 1 c.args.path.now)) < m) c.decreases (let l = ap length e in omega arith),
+      ⊎_elim (λ on. (q.0, d.f, on)) (λ on. (q.0, d.g, on)) d.on,
+    )
+
+pub refit-requires : goal.refit-requires
+refit-requires t c =
+    let q = c.requires in
+    let e = parted c.args.path.now c.in-len1-up.len_at_least in
+    let d = down c.args.slab.now c.args.at c.in-Inner.left c.in-Inner.right
+    (get_or c.args.path.now 0 0) c.in-Inner.height c.in-Inner.hull q.0 c.args.path.now
+    (take (length c.args.path.now - 1) (drop 1 c.args.path.now)) q.1 q.2 (c.index.ensures ∙ ap Some c.in-Inner.is) e in (
+      moved q.0 c.args.fat.now d.f,
+      moved q.0 c.args.fat.now d.g,
+      children_moved c.args.slab.now c.move_below.new.slab c.args.at c.in-Inner.left c.in-Inner.right
+          (get_or c.args.path.now 0 0) c.in-Inner.height c.in-Inner.hull q.0
+          (take (length c.args.path.now - 1) (drop 1 c.args.path.now)) q.1 c.args.fat.now c.move_below.ensures.there c.move_below.ensures.kept
+          (c.move_below.ensures.keys.here c.args.at (subst IsSome (sym c.index.ensures) refl)) d,
+    )
+
+pub returns-in-Leaf-clause-kept : goal.returns-in-Leaf-clause-kept
+returns-in-Leaf-clause-kept t c node u v w free held =
+    leaf_elsewhere c.args.slab.now c.replace.new.slab c.args.at node c.args.path.now u v w free c.replace.ensures.kept held
+
+pub returns-then-not-move_below-clause-there : goal.returns-then-not-move_below-clause-there
+returns-then-not-move_below-clause-there t c node u w =
+    let e = parted c.args.path.now c.in-len1-up.len_at_least in
+    let d = down c.args.slab.now c.args.at c.in-Inner.left c.in-Inner.right
+    (get_or c.args.path.now 0 0) c.in-Inner.height c.in-Inner.hull node c.args.path.now (take (length c.args.path.now - 1) (drop 1 c.args.path.now))
+    u w (c.index.ensures ∙ ap Some c.in-Inner.is) e in
+    let p = children_moved c.args.slab.now c.move_below.new.slab c.args.at c.in-Inner.left c.in-Inner.right
+    (get_or c.args.path.now 0 0) c.in-Inner.height c.in-Inner.hull node (take (length c.args.path.now - 1) (drop 1 c.args.path.now))
+    u c.args.fat.now c.move_below.ensures.there c.move_below.ensures.kept
+    (c.move_below.ensures.keys.here c.args.at (subst IsSome (sym c.index.ensures) refl)) d in
+    node_stays c.args.slab.now c.move_below.new.slab c.args.at c.in-Inner.left c.in-Inner.right
+    (get_or c.args.path.now 0 0) c.in-Inner.height c.in-Inner.hull node (take (length c.args.path.now - 1) (drop 1 c.args.path.now)) u c.args.fat.now
+    (λ m x y. c.move_below.ensures.bounds m x y c.if-not-move_below.true) c.move_below.ensures.others
+    (c.index.ensures ∙ ap Some c.in-Inner.is) w.balanced d p
+
+pub returns-then-not-move_below-clause-bounds : goal.returns-then-not-move_below-clause-bounds
+returns-then-not-move_below-clause-bounds t c node u w _ =
+    let e = parted c.args.path.now c.in-len1-up.len_at_least in
+    let d = down c.args.slab.now c.args.at c.in-Inner.left c.in-Inner.right
+    (get_or c.args.path.now 0 0) c.in-Inner.height c.in-Inner.hull node c.args.path.now (take (length c.args.path.now - 1) (drop 1 c.args.path.now))
+    u w (c.index.ensures ∙ ap Some c.in-Inner.is) e in
+    same_bounds c.args.slab.now c.args.at c.in-Inner.left c.in-Inner.right
+    (get_or c.args.path.now 0 0) c.in-Inner.height c.in-Inner.hull node (take (length c.args.path.now - 1) (drop 1 c.args.path.now)) u c.args.fat.now
+    (λ m x y. c.move_below.ensures.bounds m x y c.if-not-move_below.true) w.balanced d
+
+pub returns-then-not-move_below-clause-kept : goal.returns-then-not-move_below-clause-kept
+returns-then-not-move_below-clause-kept t c node u v w free held =
+    let e = parted c.args.path.now c.in-len1-up.len_at_least in
+    let d = down c.args.slab.now c.args.at c.in-Inner.left c.in-Inner.right
+    (get_or c.args.path.now 0 0) c.in-Inner.height c.in-Inner.hull node c.args.path.now (take (length c.args.path.now - 1) (drop 1 c.args.path.now))
+    u w (c.index.ensures ∙ ap Some c.in-Inner.is) e in
+    let m = moved_elsewhere c.args.slab.now c.move_below.new.slab c.args.at c.in-Inner.left c.in-Inner.right
+    (get_or c.args.path.now 0 0) c.in-Inner.height c.in-Inner.hull node
+    (take (length c.args.path.now - 1) (drop 1 c.args.path.now)) u v d c.move_below.ensures.kept free held in
+    m.1
+
+pub returns-then-not-move_below-clause-others : goal.returns-then-not-move_below-clause-others
+returns-then-not-move_below-clause-others t c node k u w free =
+    let e = parted c.args.path.now c.in-len1-up.len_at_least in
+    let d = down c.args.slab.now c.args.at c.in-Inner.left c.in-Inner.right
+    (get_or c.args.path.now 0 0) c.in-Inner.height c.in-Inner.hull node c.args.path.now (take (length c.args.path.now - 1) (drop 1 c.args.path.now))
+    u w (c.index.ensures ∙ ap Some c.in-Inner.is) e in
+    let m = others_stay c.args.slab.now c.move_below.new.slab c.args.at c.in-Inner.left c.in-Inner.right
+    (get_or c.args.path.now 0 0) c.in-Inner.height k c.in-Inner.hull node
+    (take (length c.args.path.now - 1) (drop 1 c.args.path.now)) u c.move_below.ensures.others d free in
+    m.0
+
+pub bounds_at-requires : goal.bounds_at-requires
+bounds_at-requires t c =
+    let q = c.requires in
+    let e = parted c.args.path.now c.in-len1-up.len_at_least in
+    let d = down c.args.slab.now c.args.at c.in-Inner.left c.in-Inner.right
+    (get_or c.args.path.now 0 0) c.in-Inner.height c.in-Inner.hull q.0 c.args.path.now (take (length c.args.path.now - 1) (drop 1 c.args.path.now))
+    q.1 q.2 (c.index.ensures ∙ ap Some c.in-Inner.is) e in
+    let p = children_moved c.args.slab.now c.move_below.new.slab c.args.at c.in-Inner.left c.in-Inner.right
+    (get_or c.args.path.now 0 0) c.in-Inner.height c.in-Inner.hull q.0 (take (length c.args.path.now - 1) (drop 1 c.args.path.now))
+    q.1 c.args.fat.now c.move_below.ensures.there c.move_below.ensures.kept
+    (c.move_below.ensures.keys.here c.args.at (subst IsSome (sym c.index.ensures) refl)) d in
+    let f = moved q.0 c.args.fat.now d.f in
+    let g = moved q.0 c.args.fat.now d.g in
+    (refitted c.args.at f g, c.refit.ensures.there f g p, refl)
+
+pub returns-else-not-move_below-clause-there : goal.returns-else-not-move_below-clause-there
+returns-else-not-move_below-clause-there t c node u w =
+    let e = parted c.args.path.now c.in-len1-up.len_at_least in
+    let d = down c.args.slab.now c.args.at c.in-Inner.left c.in-Inner.right
+    (get_or c.args.path.now 0 0) c.in-Inner.height c.in-Inner.hull node c.args.path.now (take (length c.args.path.now - 1) (drop 1 c.args.path.now))
+    u w (c.index.ensures ∙ ap Some c.in-Inner.is) e in
+    let p = children_moved c.args.slab.now c.move_below.new.slab c.args.at c.in-Inner.left c.in-Inner.right
+    (get_or c.args.path.now 0 0) c.in-Inner.height c.in-Inner.hull node (take (length c.args.path.now - 1) (drop 1 c.args.path.now))
+    u c.args.fat.now c.move_below.ensures.there c.move_below.ensures.kept
+    (c.move_below.ensures.keys.here c.args.at (subst IsSome (sym c.index.ensures) refl)) d in
+    subst (λ x. StandsAt c.refit.new.slab c.args.at (moved node c.args.fat.now x)) (sym d.is)
+    (record { holds = c.refit.ensures.there (moved node c.args.fat.now d.f) (moved node c.args.fat.now d.g) p; is_at = refl })
+
+pub returns-else-not-move_below-clause-bounds : goal.returns-else-not-move_below-clause-bounds
+returns-else-not-move_below-clause-bounds t c node u w still =
+    let e = parted c.args.path.now c.in-len1-up.len_at_least in
+    let d = down c.args.slab.now c.args.at c.in-Inner.left c.in-Inner.right
+    (get_or c.args.path.now 0 0) c.in-Inner.height c.in-Inner.hull node c.args.path.now (take (length c.args.path.now - 1) (drop 1 c.args.path.now))
+    u w (c.index.ensures ∙ ap Some c.in-Inner.is) e in
+    let p = children_moved c.args.slab.now c.move_below.new.slab c.args.at c.in-Inner.left c.in-Inner.right
+    (get_or c.args.path.now 0 0) c.in-Inner.height c.in-Inner.hull node (take (length c.args.path.now - 1) (drop 1 c.args.path.now))
+    u c.args.fat.now c.move_below.ensures.there c.move_below.ensures.kept
+    (c.move_below.ensures.keys.here c.args.at (subst IsSome (sym c.index.ensures) refl)) d in
+    let f = moved node c.args.fat.now d.f in
+    let g = moved node c.args.fat.now d.g in
+    let now = c.bounds_at.ensures (refitted c.args.at f g) (c.refit.ensures.there f g p) refl in
+    let same : bounds (refitted c.args.at f g) ≡ c.in-Inner.hull = sym now ∙ same_box c.bounds_at.result c.in-Inner.hull (sym c.ne.ensures ∙ still) in
+    subst (λ x. bounds (moved node c.args.fat.now x) ≡ bounds x) (sym d.is) same
+
+pub returns-else-not-move_below-clause-kept : goal.returns-else-not-move_below-clause-kept
+returns-else-not-move_below-clause-kept t c node u v w free held =
+    let e = parted c.args.path.now c.in-len1-up.len_at_least in
+    let d = down c.args.slab.now c.args.at c.in-Inner.left c.in-Inner.right
+    (get_or c.args.path.now 0 0) c.in-Inner.height c.in-Inner.hull node c.args.path.now (take (length c.args.path.now - 1) (drop 1 c.args.path.now))
+    u w (c.index.ensures ∙ ap Some c.in-Inner.is) e in
+    let m = moved_elsewhere c.args.slab.now c.move_below.new.slab c.args.at c.in-Inner.left c.in-Inner.right
+    (get_or c.args.path.now 0 0) c.in-Inner.height c.in-Inner.hull node
+    (take (length c.args.path.now - 1) (drop 1 c.args.path.now)) u v d c.move_below.ensures.kept free held in
+    c.refit.ensures.kept v m.0 m.1
+
+pub returns-else-not-move_below-clause-others : goal.returns-else-not-move_below-clause-others
+returns-else-not-move_below-clause-others t c node k u w free =
+    let e = parted c.args.path.now c.in-len1-up.len_at_least in
+    let d = down c.args.slab.now c.args.at c.in-Inner.left c.in-Inner.right
+    (get_or c.args.path.now 0 0) c.in-Inner.height c.in-Inner.hull node c.args.path.now (take (length c.args.path.now - 1) (drop 1 c.args.path.now))
+    u w (c.index.ensures ∙ ap Some c.in-Inner.is) e in
+    let m = others_stay c.args.slab.now c.move_below.new.slab c.args.at c.in-Inner.left c.in-Inner.right
+    (get_or c.args.path.now 0 0) c.in-Inner.height k c.in-Inner.hull node
+    (take (length c.args.path.now - 1) (drop 1 c.args.path.now)) u c.move_below.ensures.others d free in
+    c.refit.ensures.others k m.1 ∙ m.0

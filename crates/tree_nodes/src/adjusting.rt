@@ -1,0 +1,61 @@
+ghost use Rattle.std.specs.Prelude.{◌≡◌};
+ghost use Rattle.tree_nodes.specs.Exchange.{SameLeaves};
+ghost use Rattle.tree_nodes.specs.Moved.{refitted};
+ghost use Rattle.tree_nodes.specs.Rotation.{ToAdjust, ToRebalance, rebalanced};
+ghost use Rattle.tree_nodes.specs.Stored.{Holds, StandsAt, Apart, KeepsKeys};
+ghost use Rattle.tree_nodes.specs.Tree.{Tree, count_of};
+
+use crate::NodeView;
+use crate::node_slab::height_at;
+use crate::refitting::refit;
+use crate::rotation::rotate_up;
+use crate::tightening::tighten;
+use slab::Slab;
+
+// Puts two trees below a node, rebalances it, and then exchanges a child with a grandchild where that shrinks a hull.
+pub(crate) fn adjust(
+    slab: &mut Slab<NodeView>,
+    parents: &mut [usize],
+    at: usize,
+    left: usize,
+    right: usize,
+) -> usize
+    requires { (l r : Tree) × ToAdjust slab.old at left right l r }
+    ensures there { (l r : Tree) → ToAdjust slab.old at left right l r →
+        (u : Tree) × SameLeaves slab.new result (rebalanced at l r) u }
+    ensures kept { (l r v : Tree) → ToAdjust slab.old at left right l r → Apart (refitted at l r) v →
+        Holds slab.old v → Holds slab.new v }
+    ensures keys { KeepsKeys slab.old slab.new }
+{
+    let top = rebalance(slab, parents, at, left, right);
+    tighten(slab, parents, top, false);
+    tighten(slab, parents, top, true);
+    top
+}
+
+// Puts two trees below a node whose heights differ by at most two, and rotates where they differ by two.
+fn rebalance(
+    slab: &mut Slab<NodeView>,
+    parents: &mut [usize],
+    at: usize,
+    left: usize,
+    right: usize,
+) -> usize
+    requires { (l r : Tree) × ToRebalance slab.old at left right l r }
+    ensures there { (l r : Tree) → ToRebalance slab.old at left right l r →
+        StandsAt slab.new result (rebalanced at l r) }
+    ensures kept { (t : Tree) → count_of t at ≡ 0 → count_of t left ≡ 0 → count_of t right ≡ 0 →
+        Holds slab.old t → Holds slab.new t }
+    ensures keys { KeepsKeys slab.old slab.new }
+{
+    let l = height_at(slab, left);
+    let r = height_at(slab, right);
+    if l > r + 1 {
+        return rotate_up(slab, parents, at, right, left);
+    }
+    if r > l + 1 {
+        return rotate_up(slab, parents, at, left, right);
+    }
+    refit(slab, parents, at, left, right);
+    at
+}

@@ -1,0 +1,35 @@
+ghost use Rattle.std.specs.Prelude.{◌≡◌, ◌<◌, ◌^◌, ◌⊎◌};
+ghost use Rattle.tree_nodes.specs.Stored.{StandsAt};
+ghost use Rattle.tree_nodes.specs.Tree.{Tree};
+
+use crate::NodeView;
+use crate::node_slab::bounds_at;
+use fixed_box::FBox;
+use slab::Slab;
+
+// Of two trees the one whose hull grows least where it takes a box in, and the other.
+pub(crate) fn by_growth(
+    slab: &Slab<NodeView>,
+    left: usize,
+    right: usize,
+    fat: &FBox,
+) -> (usize, usize)
+    requires { (f g : Tree) × StandsAt slab.now left f × StandsAt slab.now right g }
+    ensures { (result ≡ (left, right)) ⊎ (result ≡ (right, left)) }
+{
+    let l = bounds_at(slab, left);
+    let r = bounds_at(slab, right);
+    if perimeter(&l.union(fat)) + perimeter(&r) <= perimeter(&l) + perimeter(&r.union(fat)) {
+        (left, right)
+    } else {
+        (right, left)
+    }
+}
+
+// The sum of a box's three sides, in raw units.
+pub(crate) fn perimeter(body: &FBox) -> u64
+    ensures { result < 2 ^ 34 }
+{
+    let (lo, hi) = (body.lo(), body.hi());
+    u64::from(hi.x.abs_diff(lo.x)) + u64::from(hi.y.abs_diff(lo.y)) + u64::from(hi.z.abs_diff(lo.z))
+}

@@ -1,0 +1,79 @@
+ghost use Rattle.std.specs.Prelude.{◌≡◌, ◌≢◌, ℕ, ◌+◌, ◌<◌, ◌≤◌, length, ◌∷◌, All};
+ghost use Rattle.std.specs.List.Sorted.{IsPermutation};
+ghost use Rattle.tree_nodes.specs.Insertion.{ToInsert, Inserted};
+ghost use Rattle.tree_nodes.specs.Stored.{Holds, SoundIn, tree_of, KeepsKeys};
+ghost use Rattle.tree_nodes.specs.Tree.{Tree, count_of, one, leaves_in};
+ghost use Rattle.fixed_box.specs.Bounds.{Bounds};
+
+use crate::adjusting::adjust;
+use crate::growth::by_growth;
+use crate::refitting::refit;
+use crate::{MOST_NODES, NodeView};
+use fixed_box::{FBox, SLOTS};
+use slab::Slab;
+
+// Puts a leaf into the slab and its tree. Answers the leaf and the new root.
+pub(crate) fn insert_leaf(
+    slab: &mut Slab<NodeView>,
+    parents: &mut [usize],
+    root: Option<usize>,
+    slot: u32,
+    fat: FBox,
+) -> (usize, usize)
+    requires sound { SoundIn slab.old root (tree_of slab.old root) }
+    requires room { MOST_NODES ≤ slab.old.capacity }
+    requires few { length (leaves_in (tree_of slab.old root)) < SLOTS }
+    requires absent { All (λ x. x.slot ≢ slot) (leaves_in (tree_of slab.old root)) }
+    ensures sound { SoundIn slab.new (Some result.1) (tree_of slab.new (Some result.1)) }
+    ensures leaves { IsPermutation
+        (record { node = result.0; slot = slot; fat = fat } ∷ leaves_in (tree_of slab.old root))
+        (leaves_in (tree_of slab.new (Some result.1))) }
+    ensures capacity { slab.new.capacity ≡ slab.old.capacity }
+{
+    let leaf = slab.insert_reserved(NodeView::Leaf { slot, fat });
+    match root {
+        None => (leaf, leaf),
+        Some(at) => {
+            let new_parent = slab.insert_reserved(NodeView::Leaf { slot, fat });
+            (
+                leaf,
+                insert_below(slab, parents, at, leaf, new_parent, &fat),
+            )
+        }
+    }
+}
+
+// Puts a leaf into a tree, below the child whose hull grows least at each node, with the new parent over it.
+fn insert_below(
+    slab: &mut Slab<NodeView>,
+    parents: &mut [usize],
+    at: usize,
+    leaf: usize,
+    new_parent: usize,
+    fat: &FBox,
+) -> usize
+    requires { (s : ℕ) × (b : Bounds) × (t : Tree) × ToInsert slab.old at leaf new_parent s b t }
+    ensures there { (s : ℕ) (b : Bounds) (t : Tree) → ToInsert slab.old at leaf new_parent s b t →
+        (u : Tree) × Inserted slab.new result leaf new_parent s b t u }
+    ensures kept { (s : ℕ) (b : Bounds) (t u : Tree) → ToInsert slab.old at leaf new_parent s b t →
+        ((k : ℕ) → (count_of t k + (one leaf k + one new_parent k)) + count_of u k ≤ 1) →
+        Holds slab.old u → Holds slab.new u }
+    ensures keys { KeepsKeys slab.old slab.new }
+{
+    match slab[at] {
+        NodeView::Leaf { slot: _, fat: _ } => {
+            refit(slab, parents, new_parent, at, leaf);
+            new_parent
+        }
+        NodeView::Inner {
+            left,
+            right,
+            hull: _,
+            height: _,
+        } => {
+            let (down, stay) = by_growth(slab, left, right, fat);
+            let below = insert_below(slab, parents, down, leaf, new_parent, fat);
+            adjust(slab, parents, at, below, stay)
+        }
+    }
+}

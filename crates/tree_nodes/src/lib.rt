@@ -1,0 +1,30 @@
+//! A balanced binary tree of boxes whose nodes have numbers that stay: a bounding volume hierarchy (Ericson, Real-Time
+//! Collision Detection, 2005, chapter 6) that is built by insertion and kept balanced by rotations.
+#![tactic(auto)]
+
+mod adjusting;
+mod growth;
+mod insertion;
+mod laws;
+mod moving;
+mod node_slab;
+mod node_view;
+mod nodes;
+mod path;
+mod refitting;
+mod removal;
+mod rotation;
+mod tightening;
+
+pub use laws::tree_laws;
+pub use node_view::NodeView;
+pub use nodes::Nodes;
+
+/// The greatest height that a balanced tree of at most 8,192 leaves has.
+pub const MOST_HEIGHT: u8 = 18;
+
+/// How many nodes a tree of 8,192 leaves has: the leaves, and one inner node fewer.
+pub const MOST_NODES: usize = 16_383;
+
+#[cfg(test)]
+mod tests;

@@ -1,0 +1,158 @@
+ghost use Rattle.std.specs.Prelude.{◌≡◌, ◌≢◌, ◌↔◌, ℕ, ◌<◌, ◌≤◌, IfOk, IfSome, IsSome, option_map, map, length, [], ◌∷◌};
+ghost use Rattle.std.specs.List.{All};
+ghost use Rattle.std.specs.List.Sorted.{IsPermutation};
+ghost use Rattle.fixed_box.specs.Bounds.{Bounds};
+ghost use Rattle.tree_nodes.specs.Tree.{top, height_in, view_in, leaves_in, IsTreeIn, IsLeafOf, ChildrenShown};
+ghost use Rattle.tree_nodes.specs.Moved.{moved, leaf_moved};
+ghost use Rattle.tree_nodes.specs.declared.node_view.NodeView.TheVariants.{Leaf as LeafNode};
+
+use crate::insertion::insert_leaf;
+use crate::moving::move_in_place;
+use crate::node_slab::height_at;
+use crate::removal::remove_leaf;
+use crate::{MOST_HEIGHT, MOST_NODES, NodeView};
+use fixed_box::{FBox, NoMemory, SLOTS};
+use slab::Slab;
+use std::alloc::Global;
+use std::marker::Model;
+
+/// A balanced binary tree of boxes, each under a slot, at most 8,192.
+///
+/// Clauses see the tree itself, or `None` where there is no leaf. Each node has a number. A leaf keeps its number until
+/// it goes, while an inner node may come and go, and stand elsewhere, with each call that adds or drops a leaf. Only
+/// `new` takes memory.
+///
+/// Insertion goes down to the child whose hull grows least by the sum of its sides. On the way up each node is
+/// rebalanced by a rotation where the heights of its children differ by two, and a child changes places with a
+/// grandchild where that shrinks a hull and keeps the height. Removal goes up in the same way. So a call that adds,
+/// drops or moves a leaf writes to a few nodes per level.
+#[derive(Drop)]
+pub struct Nodes {
+    // Each node is a key of the slab.
+    slab: Slab<NodeView>,
+    root: Option<usize>,
+    alloc: Global,
+    // Where the parent of each node stands. A path that follows these is checked as it is walked down, and searched
+    // afresh where they don't lead to the leaf, so no promise rests on them.
+    parents: Vec<usize>,
+}
+
+impl Model for Nodes {
+    ghost use Rattle.std.specs.Prelude.{Option, ◌≤◌};
+    ghost use Rattle.tree_nodes.specs.Tree.{Tree};
+    ghost use Rattle.tree_nodes.specs.TreeCode.{coded_tree};
+    ghost use Rattle.tree_nodes.specs.Stored.{tree_of, SoundIn};
+    ghost use Rattle.tree_nodes.specs.declared.TheConstants.{MOST_NODES};
+
+    ghost Value = { Option Tree };
+
+    ghost coded = { coded_tree };
+
+    ghost view = { λ s. tree_of s.slab s.root };
+
+    ghost invariant = { λ s. (MOST_NODES ≤ s.slab.capacity) × SoundIn s.slab s.root (tree_of s.slab s.root) };
+}
+
+impl Nodes {
+    /// No tree, with room for all nodes that there may ever be.
+    pub fn new(alloc: Global) -> Result<Nodes, NoMemory>
+        ensures { IfOk result (λ nodes. nodes ≡ None) }
+    {
+        Ok(Nodes {
+            slab: Slab::with_capacity(alloc, MOST_NODES)?,
+            root: None,
+            alloc,
+            parents: vec![in alloc; 0usize; MOST_NODES]?,
+        })
+    }
+
+    /// Puts a box under a slot that has none, and answers the number of the new leaf. The other leaves keep theirs.
+    pub fn add_leaf(&mut self, slot: u32, fat: FBox) -> usize
+        requires few { length (leaves_in self.old) < SLOTS }
+        requires absent { All (λ x. x.slot ≢ slot) (leaves_in self.old) }
+        ensures leaves { IsPermutation
+            (record { node = result; slot = slot; fat = fat } ∷ leaves_in self.old) (leaves_in self.new) }
+        ensures leaf { view_in self.new result ≡ Some (LeafNode slot fat) }
+        ensures others { (other s : ℕ) (b : Bounds) → view_in self.old other ≡ Some (LeafNode s b) →
+            view_in self.new other ≡ Some (LeafNode s b) }
+        ensures tree { IsTreeIn self.new }
+    {
+        let (leaf, root) = insert_leaf(&mut self.slab, &mut self.parents, self.root, slot, fat);
+        self.root = Some(root);
+        leaf
+    }
+
+    /// Takes a leaf out. The other leaves keep their numbers.
+    pub fn drop_leaf(&mut self, node: usize)
+        requires { IsLeafOf self.old node }
+        ensures leaves { (slot : ℕ) (fat : Bounds) → view_in self.old node ≡ Some (LeafNode slot fat) →
+            IsPermutation (record { node = node; slot = slot; fat = fat } ∷ leaves_in self.new) (leaves_in self.old) }
+        ensures others { (other s : ℕ) (b : Bounds) → view_in self.old other ≡ Some (LeafNode s b) →
+            other ≢ node → view_in self.new other ≡ Some (LeafNode s b) }
+        ensures tree { IsTreeIn self.new }
+    {
+        self.root = remove_leaf(
+            &mut self.slab,
+            &mut self.parents,
+            self.root,
+            node,
+            self.alloc,
+        );
+    }
+
+    /// Gives a leaf another box in its place: each node keeps its number, its place and its height. The hulls above the
+    /// leaf are refitted, up to one that stays. The tree isn't made tighter, so a leaf that goes far is better dropped
+    /// and added.
+    pub fn move_leaf(&mut self, node: usize, fat: FBox)
+        requires { IsLeafOf self.old node }
+        ensures moved { self.new ≡ option_map (moved node fat) self.old }
+        ensures leaves { leaves_in self.new ≡ map (leaf_moved node fat) (leaves_in self.old) }
+        ensures height { height_in self.new ≡ height_in self.old }
+        ensures leaf { (slot : ℕ) (old : Bounds) → view_in self.old node ≡ Some (LeafNode slot old) →
+            view_in self.new node ≡ Some (LeafNode slot fat) }
+        ensures others { (other s : ℕ) (b : Bounds) → view_in self.old other ≡ Some (LeafNode s b) →
+            other ≢ node → view_in self.new other ≡ Some (LeafNode s b) }
+        ensures tree { IsTreeIn self.new }
+    {
+        move_in_place(
+            &mut self.slab,
+            &mut self.parents,
+            self.root,
+            node,
+            &fat,
+            self.alloc,
+        );
+    }
+
+    /// The number of the top node, and `None` where there is no leaf.
+    pub fn root(&self) -> Option<usize>
+        ensures value { result ≡ option_map top self.now }
+        ensures none { (result ≡ None) ↔ (leaves_in self.now ≡ []) }
+        ensures shown { IfSome result (λ node. IsSome (view_in self.now node)) }
+        ensures tree { IsTreeIn self.now }
+    {
+        self.root
+    }
+
+    /// The height of the top node, 0 for a leaf and where there is none, and at most 18.
+    pub fn height(&self) -> u8
+        ensures value { result ≡ height_in self.now }
+        ensures most { result ≤ MOST_HEIGHT }
+        ensures tree { IsTreeIn self.now }
+    {
+        match self.root {
+            None => 0,
+            Some(at) => height_at(&self.slab, at),
+        }
+    }
+
+    /// The node with a number.
+    pub fn view(&self, node: usize) -> NodeView
+        requires { IsSome (view_in self.now node) }
+        ensures value { view_in self.now node ≡ Some result }
+        ensures children { ChildrenShown self.now result }
+        ensures tree { IsTreeIn self.now }
+    {
+        self.slab[node]
+    }
+}

@@ -1,0 +1,47 @@
+ghost use Rattle.std.specs.Prelude.{◌≡◌, ◌≢◌, ℕ};
+ghost use Rattle.slab.specs.Slab.{get};
+ghost use Rattle.tree_nodes.specs.Moved.{refitted};
+ghost use Rattle.tree_nodes.specs.Rotation.{Children};
+ghost use Rattle.tree_nodes.specs.Stored.{Holds, KeepsKeys};
+ghost use Rattle.tree_nodes.specs.Tree.{Tree, count_of};
+
+use crate::NodeView;
+use crate::node_slab::{bounds_at, height_at, replace};
+use slab::Slab;
+
+// Puts two trees below a node, with the hull and the height that they give it.
+pub(crate) fn refit(
+    slab: &mut Slab<NodeView>,
+    parents: &mut [usize],
+    at: usize,
+    left: usize,
+    right: usize,
+)
+    requires { (l r : Tree) × Children slab.old at left right l r }
+    ensures there { (l r : Tree) → Children slab.old at left right l r → Holds slab.new (refitted at l r) }
+    ensures kept { (t : Tree) → count_of t at ≡ 0 → Holds slab.old t → Holds slab.new t }
+    ensures others { (k : ℕ) → k ≢ at → get slab.new k ≡ get slab.old k }
+    ensures keys { KeepsKeys slab.old slab.new }
+{
+    let hull = bounds_at(slab, left).union(&bounds_at(slab, right));
+    let height = 1 + height_at(slab, left).max(height_at(slab, right));
+    replace(
+        slab,
+        at,
+        NodeView::Inner {
+            left,
+            right,
+            hull,
+            height,
+        },
+    );
+    note_parent(parents, left, at);
+    note_parent(parents, right, at);
+}
+
+// Notes where the parent of a node stands.
+fn note_parent(parents: &mut [usize], key: usize, parent: usize) {
+    if let Some(place) = parents.get_mut(key) {
+        *place = parent;
+    }
+}

@@ -1,0 +1,77 @@
+ghost use Rattle.std.specs.Prelude.{◌≡◌, ◌≤◌};
+ghost use Rattle.tree_nodes.specs.Rotation.{Children, RotationParts, rotated, lower, higher, rotated_up};
+ghost use Rattle.tree_nodes.specs.Stored.{Holds, StandsAt, KeepsKeys};
+ghost use Rattle.tree_nodes.specs.Tree.{Tree, Balanced, top, height, count_of};
+
+use crate::NodeView;
+use crate::node_slab::height_at;
+use crate::refitting::refit;
+use slab::Slab;
+
+// Brings the higher of two trees up over a node, and answers the new top. Its higher child stays with it, and the node
+// goes down to the two lower trees.
+pub(crate) fn rotate_up(
+    slab: &mut Slab<NodeView>,
+    parents: &mut [usize],
+    at: usize,
+    low: usize,
+    high: usize,
+) -> usize
+    requires { (l h : Tree) × Children slab.old at low high l h ×
+        (height l ≤ 100) × (height h ≤ 100) × Balanced h }
+    ensures there { (l h : Tree) → Children slab.old at low high l h → height l ≤ 100 → height h ≤ 100 →
+        Balanced h → StandsAt slab.new result (rotated_up at l h) }
+    ensures kept { (t : Tree) → count_of t at ≡ 0 → count_of t high ≡ 0 → Holds slab.old t → Holds slab.new t }
+    ensures keys { KeepsKeys slab.old slab.new }
+{
+    match slab[high] {
+        NodeView::Leaf { slot: _, fat: _ } => {
+            refit(slab, parents, at, low, high);
+            at
+        }
+        NodeView::Inner {
+            left,
+            right,
+            hull: _,
+            height: _,
+        } => {
+            let (below, above) = by_height(slab, left, right);
+            rotate(slab, parents, high, at, low, below, above);
+            high
+        }
+    }
+}
+
+// The lower of two trees, and the higher.
+fn by_height(slab: &Slab<NodeView>, left: usize, right: usize) -> (usize, usize)
+    requires { (f g : Tree) × StandsAt slab.now left f × StandsAt slab.now right g }
+    ensures { (f g : Tree) → StandsAt slab.now left f → StandsAt slab.now right g →
+        result ≡ (top (lower f g), top (higher f g)) }
+{
+    if height_at(slab, left) < height_at(slab, right) {
+        (left, right)
+    } else {
+        (right, left)
+    }
+}
+
+// Puts three trees below two nodes: `low` and `left` below `at`, and this and `right` below `high`. Both nodes are
+// refitted, the lower one first.
+pub(crate) fn rotate(
+    slab: &mut Slab<NodeView>,
+    parents: &mut [usize],
+    high: usize,
+    at: usize,
+    low: usize,
+    left: usize,
+    right: usize,
+)
+    requires { (l f g : Tree) × RotationParts slab.old high at low left right l f g }
+    ensures there { (l f g : Tree) → RotationParts slab.old high at low left right l f g →
+        Holds slab.new (rotated high at l f g) }
+    ensures kept { (t : Tree) → count_of t at ≡ 0 → count_of t high ≡ 0 → Holds slab.old t → Holds slab.new t }
+    ensures keys { KeepsKeys slab.old slab.new }
+{
+    refit(slab, parents, at, low, left);
+    refit(slab, parents, high, at, right);
+}
