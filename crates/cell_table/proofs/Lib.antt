@@ -1,0 +1,4 @@
+mod EachLemmas
+mod KeptLemmas
+mod RingLemmas
+mod SlotMapLemmas

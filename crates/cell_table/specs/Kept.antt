@@ -1,0 +1,85 @@
+-- This file only serves proofs: the rings of links that keep the slots of each bucket, and the numbers of each level.
+use Rattle.std.specs.Prelude.{◌≡◌, ◌≢◌, ℕ, zero, suc, ◌+◌, ◌*◌, ◌/◌, ◌%◌, ◌<◌, Bool, false, ◌==◌, nat_lt, List, [], ◌∷◌, length, slice_index, slice_index_or, slice_set, map, filter, count_by, Option, None, Some, if◌then◌else◌}
+use Rattle.std.specs.Int.{cast_unsigned, w32}
+use Rattle.fixed_box.specs.declared.TheConstants.{SLOTS}
+use Rattle.cell_table.specs.declared.TheConstants.{BUCKETS, LEVELS}
+use Rattle.cell_table.specs.declared.rings.TheConstants.{NODES}
+use Rattle.cell_table.specs.declared.cell_key.CellKey.{CellKey}
+use Rattle.cell_table.specs.Cells.{has, same_cell}
+use Rattle.cell_table.specs.SlotMap.{entries_from}
+
+-- the bucket that a key is hashed into
+abbrev pub bucket_of : CellKey → ℕ
+bucket_of k = (cast_unsigned w32 k.x * 461845907 + cast_unsigned w32 k.y * 334214467 + cast_unsigned w32 k.z * 295559667 + k.level * 97531) / 65536 % BUCKETS
+
+-- the slots of a list, counted from n, whose keys pass a test
+abbrev pub slots_from : (CellKey → Bool) → ℕ → List (Option CellKey) → List ℕ
+slots_from p n keys = map (λ e. e.0) (filter (λ e. p e.1) (entries_from n keys))
+
+-- whether there is a key, and it passes a test
+abbrev pub meets_test : (CellKey → Bool) → Option CellKey → Bool
+meets_test p None = false
+meets_test p (Some k) = p k
+
+-- whether a slot's key passes a test
+abbrev pub at : (CellKey → Bool) → List (Option CellKey) → ℕ → Bool
+at p keys s = meets_test p (slice_index_or keys s None)
+
+-- whether a slot's key is hashed into a bucket
+abbrev pub in_bucket : List (Option CellKey) → ℕ → ℕ → Bool
+in_bucket keys b s = at (λ k. bucket_of k == b) keys s
+
+-- k is none of these
+abbrev pub Fresh : ℕ → List ℕ → Type 0
+Fresh k [] = Unit {0}
+Fresh k (x ∷ xs) = (k ≢ x) × Fresh k xs
+
+-- no two of these are one
+abbrev pub Distinct : List ℕ → Type 0
+Distinct [] = Unit {0}
+Distinct (x ∷ xs) = Fresh x xs × Distinct xs
+
+-- from u through these to e, forward and back
+abbrev pub Links : List ℕ → List ℕ → ℕ → List ℕ → ℕ → Type 0
+Links next prev u [] e = (slice_index next u ≡ e) × (slice_index prev e ≡ u)
+Links next prev u (x ∷ xs) e = (slice_index next u ≡ x) × (slice_index prev x ≡ u) × Links next prev x xs e
+
+-- the ring of a bucket: the bucket's node, its slots, and the node again
+pub record Ring (keys : List (Option CellKey)) (next prev : List ℕ) (b : ℕ) : Type 0 where
+  pub slots : List ℕ
+  pub linked : Links next prev (SLOTS + b) slots (SLOTS + b)
+  pub distinct : Distinct slots
+  pub members : (s : ℕ) → has slots s ≡ in_bucket keys b s
+
+-- each bucket's ring has exactly its slots, and each level's number is that of its slots
+pub record IsKept (keys : List (Option CellKey)) (next prev levels : List ℕ) : Type 0 where
+  pub keys_len : length keys ≡ SLOTS
+  pub next_len : length next ≡ NODES
+  pub prev_len : length prev ≡ NODES
+  pub levels_len : length levels ≡ LEVELS
+  pub rings : (b : ℕ) → b < BUCKETS → Ring keys next prev b
+  pub counted : (l : ℕ) → l < LEVELS → slice_index levels l ≡ count_by (meets_test (λ k. k.level == l)) keys
+  pub low : (s : ℕ) (k : CellKey) → slice_index_or keys s None ≡ Some k → k.level < LEVELS
+
+-- the slots that a walk meets, at most n
+unfoldable pub walk : List ℕ → ℕ → ℕ → List ℕ
+walk next zero u = []
+walk next (suc n) u = if nat_lt u SLOTS then u ∷ walk next n (slice_index next u) else []
+
+-- those of the slots that have this key
+abbrev pub picked : CellKey → List (Option CellKey) → List ℕ → List ℕ
+picked key keys slots = filter (at (λ k. same_cell k key) keys) slots
+
+-- the links after slot s is put behind node u
+abbrev pub put_next : List ℕ → ℕ → ℕ → List ℕ
+put_next N s u = slice_set (slice_set N s (slice_index N u)) u s
+
+abbrev pub put_prev : List ℕ → List ℕ → ℕ → ℕ → List ℕ
+put_prev N P s u = slice_set (slice_set P (slice_index N u) s) s u
+
+-- the links after slot s is taken out
+abbrev pub take_next : List ℕ → List ℕ → ℕ → List ℕ
+take_next N P s = slice_set N (slice_index P s) (slice_index N s)
+
+abbrev pub take_prev : List ℕ → List ℕ → ℕ → List ℕ
+take_prev N P s = slice_set P (slice_index N s) (slice_index P s)

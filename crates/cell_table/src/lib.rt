@@ -1,0 +1,21 @@
+//! Which slot lies in which cell of a hierarchical grid, kept in hashed buckets (Ericson, *Real-Time Collision
+//! Detection*, 2005, 7.2).
+#![tactic(auto)]
+
+mod buckets;
+mod cell_key;
+mod cells;
+mod rings;
+mod table;
+
+pub use cell_key::CellKey;
+pub use table::CellTable;
+
+/// How many levels of cells there are: 0 to 10.
+pub const LEVELS: u8 = 11;
+
+// How many buckets the cells are hashed into.
+const BUCKETS: u32 = 16_384;
+
+#[cfg(test)]
+mod tests;

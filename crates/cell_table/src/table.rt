@@ -1,0 +1,139 @@
+ghost use Rattle.std.specs.Prelude.{◌≡◌, ◌<◌, ◌++◌, true, false, IfOk, OnOk, OnErr, length};
+ghost use Rattle.std.specs.FinMap as map;
+ghost use Rattle.cell_table.specs.Cells.{slots_in, slots_at, Visits};
+
+use crate::buckets::bucket_of;
+use crate::cells::{no_counts, no_keys, push_cell, push_level, sort_from};
+use crate::rings::{link, nodes, unlink};
+use crate::{CellKey, LEVELS};
+use fixed_box::{NoMemory, SLOTS};
+use std::alloc::Global;
+use std::marker::Model;
+
+/// The cell of each slot that has one, seen as a map from slot to key.
+///
+/// The slots of a bucket stand in a ring of links in arrays, so a slot comes and goes in constant time. Only `new` takes
+/// memory of the table's own.
+#[derive(Drop)]
+pub struct CellTable {
+    keys: Vec<Option<CellKey>>,
+    next: Vec<u32>,
+    prev: Vec<u32>,
+    // How many slots each level has.
+    levels: Vec<u32>,
+}
+
+impl Model for CellTable {
+    ghost use Rattle.std.specs.Ordering.{nat_cmp};
+    ghost use Rattle.std.specs.Coded.{coded_ℕ};
+    ghost use Rattle.std.specs.FinMap.{FinMap, code};
+    ghost use Rattle.cell_table.specs.declared.cell_key.CellKey.{CellKey};
+    ghost use Rattle.cell_table.specs.Cells.{coded_key};
+    ghost use Rattle.cell_table.specs.SlotMap.{map_of};
+    ghost use Rattle.cell_table.specs.Kept.{IsKept};
+
+    ghost Value = { FinMap nat_cmp CellKey };
+
+    ghost coded = { code coded_ℕ coded_key };
+
+    ghost view = { λ t. map_of t.keys.items };
+
+    ghost invariant = { λ t. IsKept t.keys.items t.next.items t.prev.items t.levels.items };
+}
+
+impl CellTable {
+    /// A table in which no slot has a cell, with the memory for all slots.
+    pub fn new(alloc: Global) -> Result<CellTable, NoMemory>
+        ensures { IfOk result (λ table. table ≡ map.empty) }
+    {
+        Ok(CellTable {
+            keys: no_keys(alloc)?,
+            next: nodes(alloc)?,
+            prev: nodes(alloc)?,
+            levels: no_counts(alloc)?,
+        })
+    }
+
+    /// The key of a slot.
+    pub fn key_of(&self, slot: u32) -> Option<CellKey>
+        ensures { result ≡ map.get self.now slot }
+    {
+        let slot = slot as usize;
+        if slot < self.keys.len() {
+            self.keys[slot]
+        } else {
+            None
+        }
+    }
+
+    /// How many slots have keys of a level, in constant time.
+    pub fn level_len(&self, level: u8) -> u32
+        requires { level < LEVELS }
+        ensures { result ≡ length (slots_at self.now level) }
+    {
+        self.levels[level as usize]
+    }
+
+    /// Gives a slot that has none a key, in constant time.
+    pub fn put(&mut self, slot: u32, key: CellKey)
+        requires small { slot < SLOTS }
+        requires level { key.level < LEVELS }
+        requires absent { map.contains_key self.old slot ≡ false }
+        ensures { self.new ≡ map.insert self.old slot key }
+    {
+        self.keys[slot as usize] = Some(key);
+        self.levels[key.level as usize] += 1;
+        link(
+            &mut self.next,
+            &mut self.prev,
+            slot,
+            SLOTS + bucket_of(&key),
+        );
+    }
+
+    /// Takes a slot's key away, in constant time.
+    pub fn take(&mut self, slot: u32)
+        requires { map.contains_key self.old slot ≡ true }
+        ensures { self.new ≡ map.remove self.old slot }
+    {
+        let Some(key) = self.keys[slot as usize] else {
+            return;
+        };
+        self.keys[slot as usize] = None;
+        self.levels[key.level as usize] -= 1;
+        unlink(&mut self.next, &mut self.prev, slot);
+    }
+
+    /// Appends the slots with exactly this key, rising. After `NoMemory` `out` is as before.
+    pub fn each_in(&self, key: &CellKey, out: &mut Vec<u32>) -> Result<(), NoMemory>
+        ensures ok { OnOk result (out.new.items ≡ out.old.items ++ slots_in self.now key.now) }
+        ensures err { OnErr result (out.new.items ≡ out.old.items) }
+    {
+        let before = out.len();
+        push_cell(&self.keys, &self.next, key, out)?;
+        sort_from(out, before);
+        Ok(())
+    }
+
+    /// Appends the slots with exactly this key, in whichever order they stand in their bucket, for a search that sorts
+    /// what it finds. After `NoMemory` `out` is as before.
+    pub fn visit_in(&self, key: &CellKey, out: &mut Vec<u32>) -> Result<(), NoMemory>
+        ensures ok { OnOk result (Visits self.now key.now out.old.items out.new.items) }
+        ensures err { OnErr result (out.new.items ≡ out.old.items) }
+    {
+        push_cell(&self.keys, &self.next, key, out)
+    }
+
+    /// Appends the slots whose keys have a level, rising, by a walk over all slots. After `NoMemory` `out` is as before.
+    pub fn each_at(&self, level: u8, out: &mut Vec<u32>) -> Result<(), NoMemory>
+        ensures ok { OnOk result (out.new.items ≡ out.old.items ++ slots_at self.now level) }
+        ensures err { OnErr result (out.new.items ≡ out.old.items) }
+    {
+        let before = out.len();
+        let pushed = push_level(&self.keys, level, out);
+        if pushed.is_err() {
+            out.truncate(before);
+        }
+        pushed
+    }
+}

@@ -1,0 +1,5 @@
+mod ExchangeLemmas
+mod LinkLemmas
+mod NodeLemmas
+mod PushLemmas
+mod UnlinkLemmas

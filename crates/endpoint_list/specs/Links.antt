@@ -1,0 +1,66 @@
+-- This file only serves proofs: the links that keep a list. The node NODES stands before the first and behind the last.
+use Rattle.std.specs.Prelude.{◌≡◌, ◌≢◌, ℕ, zero, suc, ◌+◌, ◌<◌, ◌==◌, nat_lt, if◌then◌else◌, List, [], ◌∷◌, length, slice_index, slice_set, Option, None, Some}
+use Rattle.endpoint_list.specs.declared.TheConstants.{NODES}
+
+-- the nodes from u on, at most n
+unfoldable pub walk : List ℕ → ℕ → ℕ → List ℕ
+walk next zero u = []
+walk next (suc n) u = if nat_lt u NODES then u ∷ walk next n (slice_index next u) else []
+
+-- the list that the links keep
+abbrev pub listed : List ℕ → List ℕ
+listed next = walk next NODES (slice_index next NODES)
+
+-- a node's neighbour, or none where that is an end of the list
+abbrev pub neighbour : ℕ → Option ℕ
+neighbour n = if n == NODES then None else Some n
+
+-- k is none of these
+abbrev pub Fresh : ℕ → List ℕ → Type 0
+Fresh k [] = Unit {0}
+Fresh k (x ∷ xs) = (k ≢ x) × Fresh k xs
+
+-- no two of these are one
+abbrev pub Distinct : List ℕ → Type 0
+Distinct [] = Unit {0}
+Distinct (x ∷ xs) = Fresh x xs × Distinct xs
+
+-- all are below n
+abbrev pub Below : ℕ → List ℕ → Type 0
+Below n [] = Unit {0}
+Below n (x ∷ xs) = (x < n) × Below n xs
+
+-- from u through these to e, forward and back
+abbrev pub Links : List ℕ → List ℕ → ℕ → List ℕ → ℕ → Type 0
+Links next prev u [] e = (slice_index next u ≡ e) × (slice_index prev e ≡ u)
+Links next prev u (x ∷ xs) e = (slice_index next u ≡ x) × (slice_index prev x ≡ u) × Links next prev x xs e
+
+-- the links keep these nodes, and every other one has the mark of absence
+pub record IsKept (next prev nodes : List ℕ) : Type 0 where
+  pub next_len : length next ≡ NODES + 1
+  pub prev_len : length prev ≡ NODES + 1
+  pub linked : Links next prev NODES nodes NODES
+  pub distinct : Distinct nodes
+  pub below : Below NODES nodes
+  pub absent : (node : ℕ) → node < NODES → Fresh node nodes → slice_index next node ≡ NODES + 1
+
+-- the links after a node is put behind the last
+abbrev pub pushed_next : List ℕ → List ℕ → ℕ → List ℕ
+pushed_next N P node = slice_set (slice_set N (slice_index P NODES) node) node NODES
+
+abbrev pub pushed_prev : List ℕ → ℕ → List ℕ
+pushed_prev P node = slice_set (slice_set P node (slice_index P NODES)) NODES node
+
+-- the links after a node is taken out
+abbrev pub unlinked_next : List ℕ → List ℕ → ℕ → List ℕ
+unlinked_next N P node = slice_set (slice_set N (slice_index P node) (slice_index N node)) node (NODES + 1)
+
+abbrev pub unlinked_prev : List ℕ → List ℕ → ℕ → List ℕ
+unlinked_prev N P node = slice_set P (slice_index N node) (slice_index P node)
+
+-- the links after a node and the next one, b, change places
+abbrev pub exchanged_next : List ℕ → List ℕ → ℕ → ℕ → List ℕ
+exchanged_next N P a b = slice_set (slice_set (slice_set N (slice_index P a) b) a (slice_index N b)) b a
+
+abbrev pub exchanged_prev : List ℕ → List ℕ → ℕ → ℕ → List ℕ
+exchanged_prev N P a b = slice_set (slice_set (slice_set P b (slice_index P a)) (slice_index N b) a) a b

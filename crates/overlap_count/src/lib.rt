@@ -1,0 +1,12 @@
+//! On how many axes two boxes overlap, counted for each pair of slots as single endpoints change places.
+#![tactic(auto)]
+
+mod counts;
+mod full_pairs;
+mod row;
+mod tally;
+
+pub use counts::Counts;
+
+#[cfg(test)]
+mod tests;
