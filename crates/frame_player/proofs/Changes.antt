@@ -1,11 +1,11 @@
 -- What an index holds after a change of the live boxes.
-use Rattle.std.proofs.Common.{◌≡◌, ◌≢◌, ℕ, suc, ◌<◌, Bool, true, false, cond, not, T, List, [], ◌∷◌, length, Some, None, is_some, refl, sym, ap, ◌∙◌, subst, arith, nat_eq, nat_lt}
+use Rattle.std.proofs.Common.{◌≡◌, ◌≢◌, ℕ, suc, ◌<◌, Bool, true, false, cond, not, T, List, [], ◌∷◌, length, Option, Some, None, is_some, option_map, refl, sym, ap, ◌∙◌, subst, arith, nat_eq, nat_lt}
 use Rattle.std.specs.List.{list_all, All}
 use Rattle.std.specs.Ordering.{nat_cmp, is_lt, is_eq, eq_by_cmp}
 use Rattle.std.specs.declared.cmp.Ordering.TheVariants.{Less, Equal, Greater}
 use Rattle.std.specs.Cmp.{first_so, second_so, nat_cmp_is, eq_by_cmp_equiv, alike_right}
 use Rattle.std.specs.Cmp.Derive.{both_true}
-use Rattle.std.specs.FinMap.{FinMap, entries, entries-insert, entries-from_sorted, from_sorted, is_sorted, insert, remove, find, put, contains_key, get-from_sorted, get-remove, same_entries_map, same_map, nat_cmp-IsAntisymmetric, empty, empty_of_len, len-entries}
+use Rattle.std.specs.FinMap.{FinMap, get, entries, entries-insert, entries-from_sorted, from_sorted, is_sorted, insert, remove, find, put, contains_key, get-from_sorted, get-remove, same_entries_map, same_map, nat_cmp-IsAntisymmetric, empty, empty_of_len, len-entries}
 use Rattle.std.specs.FinMap.Entries.{below_all, where_key, is_sorted-where_key, find-where_key}
 use Rattle.std.proofs.lemmas.Bool.{eqb-true}
 use Rattle.std.proofs.lemmas.Bool.Decides.{nat_tests}
@@ -16,7 +16,8 @@ use Rattle.live_table.specs.declared.handle.Handle.{Handle}
 use Rattle.live_table.specs.declared.live.Live.{Live}
 use Rattle.live_table.specs.declared.masks.Masks.{Masks}
 use Rattle.live_table.specs.Entries.{slot_of, has, entry_at, entered, with_body, with_masks, without, rises, IsLeastFree}
-use Rattle.frame_player.specs.Indexed.{slots_with_bodies, indexed}
+use Rattle.frame_player.specs.World.{body_of}
+use Rattle.frame_player.specs.Pairs.{slots_with_bodies, bodies_of}
 
 true_to : (b : Bool) → b ≡ true → T b
 true_to true h = tt
@@ -48,15 +49,15 @@ slots_sorted (e ∷ es) h = both_true (below_slots (slot_of e) es (first_so _ _ 
 sorted : (es : List Live) → rises es ≡ true → T (is_sorted nat_cmp (slots_with_bodies es))
 sorted es h = true_to _ (slots_sorted es h)
 
-pub entries-indexed : (es : List Live) → rises es ≡ true → entries (indexed es) ≡ slots_with_bodies es
-entries-indexed es h = entries-from_sorted nat_cmp (slots_with_bodies es) (sorted es h)
+pub entries-bodies_of : (es : List Live) → rises es ≡ true → entries (bodies_of es) ≡ slots_with_bodies es
+entries-bodies_of es h = entries-from_sorted nat_cmp (slots_with_bodies es) (sorted es h)
 
-pub indexed-nil : indexed [] ≡ empty {K = ℕ} {X = Bounds} {R = nat_cmp}
-indexed-nil = empty_of_len _ (len-entries _ ∙ ap length (entries-from_sorted {X = Bounds} nat_cmp [] tt))
+pub bodies_of-nil : bodies_of [] ≡ empty {K = ℕ} {X = Bounds} {R = nat_cmp}
+bodies_of-nil = empty_of_len _ (len-entries _ ∙ ap length (entries-from_sorted {X = Bounds} nat_cmp [] tt))
 
 -- a map of entries with one put in
-put_indexed : (es fs : List Live) (slot : ℕ) (body : Bounds) → rises es ≡ true → rises fs ≡ true → put nat_cmp slot body (slots_with_bodies es) ≡ slots_with_bodies fs → insert (indexed es) slot body ≡ indexed fs
-put_indexed es fs slot body r s e = same_entries_map _ _ (entries-insert nat_cmp_total (indexed es) slot body ∙ ap (put nat_cmp slot body) (entries-indexed es r) ∙ e ∙ sym (entries-indexed fs s))
+put_indexed : (es fs : List Live) (slot : ℕ) (body : Bounds) → rises es ≡ true → rises fs ≡ true → put nat_cmp slot body (slots_with_bodies es) ≡ slots_with_bodies fs → insert (bodies_of es) slot body ≡ bodies_of fs
+put_indexed es fs slot body r s e = same_entries_map _ _ (entries-insert nat_cmp_total (bodies_of es) slot body ∙ ap (put nat_cmp slot body) (entries-bodies_of es r) ∙ e ∙ sym (entries-bodies_of fs s))
 
 -- a new box
 put_entered : (es : List Live) (new : Live) → list_all (λ o. not (nat_eq (slot_of o) (slot_of new))) es ≡ true → put nat_cmp (slot_of new) new.body (slots_with_bodies es) ≡ slots_with_bodies (entered new es)
@@ -77,7 +78,7 @@ free_slots (e ∷ es) slot free = both_true (differs (slot_of e) slot (free 0 e 
     differs : (x y : ℕ) → x ≢ y → not (nat_eq x y) ≡ true
     differs x y h = grind (arith, nat_tests)
 
-pub insert-entered : (es : List Live) (new : Live) → rises es ≡ true → rises (entered new es) ≡ true → IsLeastFree (slot_of new) es → insert (indexed es) (slot_of new) new.body ≡ indexed (entered new es)
+pub insert-entered : (es : List Live) (new : Live) → rises es ≡ true → rises (entered new es) ≡ true → IsLeastFree (slot_of new) es → insert (bodies_of es) (slot_of new) new.body ≡ bodies_of (entered new es)
 insert-entered es new r s free = put_indexed es (entered new es) (slot_of new) new.body r s (put_entered es new (free_slots es (slot_of new) free.free))
 
 absent_slot : (es : List Live) (slot : ℕ) → list_all (λ o. not (nat_eq (slot_of o) slot)) es ≡ true → find nat_cmp slot (slots_with_bodies es) ≡ None
@@ -93,7 +94,7 @@ absent_slot (e ∷ es) slot free = rw (apart slot (slot_of e) (first_so _ _ free
       | false ↦ λ ge. let gt : x < k = grind (arith, nat_tests, differ k x h) in ap is_eq (greater k x gt)
     ] refl
 
-pub indexed_absent : (es : List Live) (slot : ℕ) → rises es ≡ true → IsLeastFree slot es → contains_key (indexed es) slot ≡ false
+pub indexed_absent : (es : List Live) (slot : ℕ) → rises es ≡ true → IsLeastFree slot es → contains_key (bodies_of es) slot ≡ false
 indexed_absent es slot r free = ap is_some (get-from_sorted nat_cmp (slots_with_bodies es) slot (sorted es r) ∙ absent_slot es slot (free_slots es slot free.free))
 
 -- a live box's handle
@@ -122,6 +123,19 @@ lives_small h (e ∷ es) small some =
       | false ↦ λ _ later. lives_small h es (λ k d i. small (suc k) d (omega arith)) later
     ] refl some
 
+-- an index has the box of a live handle
+pub found_body : (h : Handle) (es : List Live) → rises es ≡ true → lives h es ≡ true → get (bodies_of es) h.slot ≡ body_of h es
+found_body h es r some = get-from_sorted nat_cmp (slots_with_bodies es) h.slot (sorted es r) ∙ found es r some
+  where
+    found : (es : List Live) → rises es ≡ true → lives h es ≡ true → find nat_cmp h.slot (slots_with_bodies es) ≡ body_of h es
+    found [] r some = cc
+    found (e ∷ es) r some =
+        elim (has h e) as (λ t. has h e ≡ t → is_some (cond t (Some e) (entry_at h es)) ≡ true
+        → find nat_cmp h.slot (slots_with_bodies (e ∷ es)) ≡ option_map (λ entry. entry.body) (cond t (Some e) (entry_at h es))) [
+          | true ↦ λ is _. rw (equal h.slot (slot_of e) (sym (same_slot h e is))) refl
+          | false ↦ λ _ later. rw (greater h.slot (slot_of e) (lives_above h es (slot_of e) later (first_so _ _ r))) (found es (second_so _ _ r) later)
+        ] refl some
+
 -- boxes above a slot stay as they are
 body_above : (h : Handle) (body : Bounds) (es : List Live) → above h.slot es ≡ true → slots_with_bodies (with_body h body es) ≡ slots_with_bodies es
 body_above h body [] up = refl
@@ -139,7 +153,7 @@ put_body h body (e ∷ es) r some =
           rw (greater h.slot (slot_of e) (lives_above h es (slot_of e) later (first_so _ _ r))) (ap (λ xs. (slot_of e, e.body) ∷ xs) (put_body h body es (second_so _ _ r) later))
     ] refl some
 
-pub insert-with_body : (h : Handle) (body : Bounds) (es : List Live) → rises es ≡ true → rises (with_body h body es) ≡ true → lives h es ≡ true → insert (indexed es) h.slot body ≡ indexed (with_body h body es)
+pub insert-with_body : (h : Handle) (body : Bounds) (es : List Live) → rises es ≡ true → rises (with_body h body es) ≡ true → lives h es ≡ true → insert (bodies_of es) h.slot body ≡ bodies_of (with_body h body es)
 insert-with_body h body es r s some = put_indexed es (with_body h body es) h.slot body r s (put_body h body es r some)
 
 found_slot : (h : Handle) (es : List Live) → rises es ≡ true → lives h es ≡ true → is_some (find nat_cmp h.slot (slots_with_bodies es)) ≡ true
@@ -150,12 +164,12 @@ found_slot h (e ∷ es) r some =
       | false ↦ λ _ later. rw (greater h.slot (slot_of e) (lives_above h es (slot_of e) later (first_so _ _ r))) (found_slot h es (second_so _ _ r) later)
     ] refl some
 
-pub indexed_present : (h : Handle) (es : List Live) → rises es ≡ true → lives h es ≡ true → contains_key (indexed es) h.slot ≡ true
+pub indexed_present : (h : Handle) (es : List Live) → rises es ≡ true → lives h es ≡ true → contains_key (bodies_of es) h.slot ≡ true
 indexed_present h es r some = ap is_some (get-from_sorted nat_cmp (slots_with_bodies es) h.slot (sorted es r)) ∙ found_slot h es r some
 
 -- other masks change no box
-pub indexed-with_masks : (h : Handle) (masks : Masks) (es : List Live) → indexed (with_masks h masks es) ≡ indexed es
-indexed-with_masks h masks es = ap (λ xs. from_sorted {R = nat_cmp} xs) (same es)
+pub bodies_of-with_masks : (h : Handle) (masks : Masks) (es : List Live) → bodies_of (with_masks h masks es) ≡ bodies_of es
+bodies_of-with_masks h masks es = ap (λ xs. from_sorted {R = nat_cmp} xs) (same es)
   where
     same : (es : List Live) → slots_with_bodies (with_masks h masks es) ≡ slots_with_bodies es
     same [] = refl
@@ -189,16 +203,16 @@ turned : {A : Type 0} (b : Bool) (x y : A) → cond (not b) x y ≡ cond b y x
 turned true x y = refl
 turned false x y = refl
 
-pub remove-indexed : (h : Handle) (es : List Live) → rises es ≡ true → lives h es ≡ true → remove (indexed es) h.slot ≡ indexed (without h es)
-remove-indexed h es r some =
+pub remove-bodies_of : (h : Handle) (es : List Live) → rises es ≡ true → lives h es ≡ true → remove (bodies_of es) h.slot ≡ bodies_of (without h es)
+remove-bodies_of h es r some =
     let xs = slots_with_bodies es in
     let left : T (is_sorted nat_cmp (where_key nat_cmp (other_than h.slot) xs)) = is_sorted-where_key nat_cmp (other_than h.slot) xs (sorted es r) in
     same_map nat_cmp_total nat_cmp-IsAntisymmetric _ _ (λ q.
-    get-remove nat_cmp_total (indexed es) h.slot q ∙ ap (cond (eq_by_cmp nat_cmp q h.slot) None) (get-from_sorted nat_cmp xs q (sorted es r))
+    get-remove nat_cmp_total (bodies_of es) h.slot q ∙ ap (cond (eq_by_cmp nat_cmp q h.slot) None) (get-from_sorted nat_cmp xs q (sorted es r))
     ∙ ap (λ b. cond b None (find nat_cmp q xs)) ((eq_by_cmp_equiv nat_cmp_total).symm q h.slot) ∙ sym (turned (eq_by_cmp nat_cmp h.slot q) _ _)
     ∙ sym (get-from_sorted nat_cmp (where_key nat_cmp (other_than h.slot) xs) q left ∙ find-where_key nat_cmp (other_than h.slot) q (λ x t. ap (λ o. not (is_eq o)) (sym (alike_right nat_cmp_total q x h.slot t))) xs))
     ∙ ap (λ ys. from_sorted {R = nat_cmp} ys) (left_out h es r some)
 
 -- an empty index has the boxes of an empty table
-pub opening_boxes : (bodies : FinMap nat_cmp Bounds) → bodies ≡ empty → bodies ≡ indexed []
-opening_boxes bodies e = e ∙ sym indexed-nil
+pub opening_boxes : (bodies : FinMap nat_cmp Bounds) → bodies ≡ empty → bodies ≡ bodies_of []
+opening_boxes bodies e = e ∙ sym bodies_of-nil

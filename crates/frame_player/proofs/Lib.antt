@@ -1,5 +1,7 @@
+pub mod AlikeWorlds
 pub mod Changes
 pub mod Counts
+pub mod FrameReply
 pub mod InOrder
 pub mod InputEnded
 pub mod Kept
@@ -7,6 +9,7 @@ pub mod LineAsked
 pub mod LinePlayed
 pub mod LineRefused
 pub mod Outcomes
+pub mod OwedAnswers
 pub mod ReplyPrefix
+pub mod Sending
 pub mod Touches
-pub mod PieceWritten

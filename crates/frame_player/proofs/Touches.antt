@@ -14,8 +14,9 @@ use Rattle.broad_index.specs.Found.{found_of, query_meets}
 use Rattle.frame_player.specs.Pairs.{may_touch, partners, pairs_of, is_asked_for, hits_of}
 use Rattle.broad_index.specs.Near.{near}
 use Rattle.broad_index.specs.Found.{found}
-use Rattle.frame_player.proofs.Changes.{entries-indexed}
-use Rattle.frame_player.specs.Indexed.{indexed, slots_with_bodies, touching, listed, listed_of, pair_of}
+use Rattle.frame_player.proofs.Changes.{entries-bodies_of}
+use Rattle.frame_player.specs.Pairs.{bodies_of, slots_with_bodies}
+use Rattle.frame_player.specs.InHandles.{touching, listed, listed_of, pair_of}
 
 filter_map-append : {A B : Type 0} (f : A → Option B) (xs ys : List A) → filter_map f (xs ++ ys) ≡ filter_map f xs ++ filter_map f ys
 filter_map-append f [] ys = refl
@@ -90,8 +91,8 @@ pub listed-found : (es : List Live) (query : Query) (mask : ℕ) → rises es �
 listed-found es query mask r = hits_listed es query mask es (all_found es r)
 
 -- the same, of the index that has the live boxes
-pub pairs_from_near : (es : List Live) (pairs : List Pair) → rises es ≡ true → pairs ≡ near (indexed es) → filter_map (touching es) pairs ≡ pairs_of es
-pairs_from_near es pairs r e = ap (filter_map (touching es)) (e ∙ ap near_of (entries-indexed es r)) ∙ touching-near es r
+pub pairs_from_near : (es : List Live) (pairs : List Pair) → rises es ≡ true → pairs ≡ near (bodies_of es) → filter_map (touching es) pairs ≡ pairs_of es
+pairs_from_near es pairs r e = ap (filter_map (touching es)) (e ∙ ap near_of (entries-bodies_of es r)) ∙ touching-near es r
 
-pub hits_from_found : (es : List Live) (slots : List ℕ) (query : Query) (mask : ℕ) → rises es ≡ true → slots ≡ found (indexed es) query → filter_map (listed es mask) slots ≡ hits_of es query mask
-hits_from_found es slots query mask r e = ap (filter_map (listed es mask)) (e ∙ ap (λ xs. found_of xs query) (entries-indexed es r)) ∙ listed-found es query mask r
+pub hits_from_found : (es : List Live) (slots : List ℕ) (query : Query) (mask : ℕ) → rises es ≡ true → slots ≡ found (bodies_of es) query → filter_map (listed es mask) slots ≡ hits_of es query mask
+hits_from_found es slots query mask r e = ap (filter_map (listed es mask)) (e ∙ ap (λ xs. found_of xs query) (entries-bodies_of es r)) ∙ listed-found es query mask r

@@ -1,17 +1,32 @@
--- Serves proofs: what the text of a play is before it is written, and what writing it makes of the status.
-use Rattle.std.specs.Prelude.{◌≡◌, ℕ, ◌<◌, true, List, [], Option, Some}
+-- Serves proofs: the text of a play before it is written, and what writing it makes of the status.
+use Rattle.std.specs.Prelude.{◌≡◌, ℕ, ◌<◌, Bool, true, List, [], Option, Some}
+use Rattle.pair_report.specs.PairReport.{end_line, refused_line}
 use Rattle.scene_lines.specs.SceneLines.{lines}
+use Rattle.frame_player.specs.declared.last.Last.{Last}
+use Rattle.frame_player.specs.declared.last.Last.TheVariants as last
 use Rattle.frame_player.specs.declared.status.Status.{Status}
 use Rattle.frame_player.specs.declared.status.Status.TheVariants.{Done, Refused, ReadFault, WriteFault}
 use Rattle.frame_player.specs.Play.{played, report}
-use Rattle.frame_player.specs.Outcome.{IsReplyTo}
+use Rattle.frame_player.specs.Outcome.{IsReplyTo, IsReadUpTo}
+
+-- the last line, of which there is none after a read fault
+abbrev pub last_line : Last → List ℕ
+last_line (last.End lines frames live) = end_line lines frames live
+last_line (last.Refused n c) = refused_line n c
+last_line last.ReadFault = []
+
+abbrev pub status_of : Last → Status
+status_of (last.End lines frames live) = Done
+status_of (last.Refused n c) = Refused n c
+status_of last.ReadFault = ReadFault
 
 -- the text of the bytes that were given, as the play ends, where these are left
-abbrev pub IsTextOf : ℕ → List ℕ → Option (List ℕ) → List ℕ → Status → Type 0
-IsTextOf limit given left text Done = ((played limit (lines given true)).status ≡ Done) × (text ≡ report limit (lines given true)) × (left ≡ Some [])
-IsTextOf limit given left text (Refused n c) = ((played limit (lines given true)).status ≡ Refused n c) × (text ≡ report limit (lines given true))
-IsTextOf limit given left text ReadFault = IsReplyTo (played limit) given left text
-IsTextOf limit given left text other = ⊥
+abbrev pub IsTextOf : Bool → ℕ → List ℕ → Option (List ℕ) → List ℕ → Status → Type 0
+IsTextOf shows limit given left text Done = ((played shows limit (lines given true)).status ≡ Done) × (text ≡ report shows limit (lines given true)) × (left ≡ Some [])
+IsTextOf shows limit given left text (Refused n c) =
+    ((played shows limit (lines given true)).status ≡ Refused n c) × (text ≡ report shows limit (lines given true)) × IsReadUpTo n given left
+IsTextOf shows limit given left text ReadFault = IsReplyTo (played shows limit) given left text
+IsTextOf shows limit given left text other = ⊥
 
 -- the answer where the sink failed: a read fault stays one
 abbrev pub after_fault : Status → Status

@@ -1,22 +1,12 @@
--- Serves proofs: what an index of slots holds of the live boxes, and its answers in handles.
-use Rattle.std.specs.Prelude.{ℕ, List, map, if◌then◌else◌, Option, Some, None}
-use Rattle.std.specs.Ordering.{nat_cmp}
-use Rattle.std.specs.FinMap.{FinMap, from_sorted}
-use Rattle.fixed_box.specs.Bounds.{Bounds}
+-- Serves proofs: the answers of an index of slots, in handles.
+use Rattle.std.specs.Prelude.{ℕ, List, if◌then◌else◌, Option, Some, None}
 use Rattle.live_table.specs.declared.handle.Handle.{Handle}
 use Rattle.live_table.specs.declared.live.Live.{Live}
-use Rattle.live_table.specs.Entries.{slot_of, live_at}
+use Rattle.live_table.specs.Entries.{live_at}
 use Rattle.live_table.specs.Masks.{may}
 use Rattle.broad_index.specs.declared.pair.Pair.{Pair}
 use Rattle.pair_events.specs.declared.hpair.HPair.{HPair}
 use Rattle.frame_player.specs.Pairs.{is_asked_for}
-
--- each live box under its slot
-abbrev pub slots_with_bodies : List Live → List (ℕ × Bounds)
-slots_with_bodies entries = map (λ entry. (slot_of entry, entry.body)) entries
-
-abbrev pub indexed : List Live → FinMap nat_cmp Bounds
-indexed entries = from_sorted (slots_with_bodies entries)
 
 -- two live boxes as a pair, where their masks allow it
 abbrev pub pair_of : Option Live → Option Live → Option HPair

@@ -1,6 +1,9 @@
 pub mod Ending
-pub mod Indexed
+pub mod FrameText
+pub mod InHandles
 pub mod Outcome
+pub mod Outlet
+pub mod Owed
 pub mod Pairs
 pub mod Play
 pub mod Player

@@ -1,7 +1,9 @@
 -- How a play may end, and what it has read and written then: the table of the statuses.
-use Rattle.std.specs.Prelude.{◌≡◌, ℕ, ◌<◌, true, false, List, [], length, Option, Some, IfSome, option_map}
+use Rattle.std.specs.Prelude.{◌≡◌, ℕ, ◌+◌, ◌-◌, ◌<◌, true, false, List, [], take, length, Option, Some, IfSome, option_map}
 use Rattle.std.specs.Io.KnownBytes.{append_known, prepend_known}
-use Rattle.scene_lines.specs.SceneLines.{lines, IsPrefix}
+use Rattle.std.specs.List.{count_by}
+use Rattle.scene_lines.specs.SceneLines.{lines, is_feed, IsPrefix}
+use Rattle.scene_lines.specs.declared.TheConstants.{LONGEST_LINE, BUFFER_LEN}
 use Rattle.frame_player.specs.declared.status.Status.{Status}
 use Rattle.frame_player.specs.declared.status.Status.TheVariants.{Done, Refused, Usage, ReadFault, WriteFault, NoMemory}
 use Rattle.frame_player.specs.Play.{Played, whole}
@@ -28,11 +30,12 @@ pub record IsBegun (before now : Option (List ℕ)) (text : List ℕ) : Type 0 w
   pub prefix : IsPrefix part text
   pub written : now ≡ append_known before part
 
--- The text is the replies to the lines that end in the bytes taken, which stand before those that are left.
+-- The text is the replies to the lines that end in the bytes taken, which stand before those that are left. Each of them passed.
 pub record IsReplyTo (play : List (List ℕ) → Played) (given : List ℕ) (left : Option (List ℕ)) (text : List ℕ) : Type 0 where
   pub taken : List ℕ
   pub split : Some given ≡ prepend_known taken left
   pub replies : text ≡ (play (lines taken false)).replies
+  pub passed : (play (lines taken false)).passed ≡ true
 
 -- A play that came to an end of its own: the whole report is written and settled, and nothing failed.
 pub record IsReported (play : List (List ℕ) → Played) (before now : Ends) (status : Status) : Type 0 where
@@ -41,6 +44,16 @@ pub record IsReported (play : List (List ℕ) → Played) (before now : Ends) (s
   pub flushed : now.settled ≡ option_map length now.written
   pub unread : now.read_faults ≡ before.read_faults
   pub unwritten : now.write_faults ≡ before.write_faults
+
+-- How many bytes may be taken past the lines before a refused one: those of a reader's buffer, and of the longest line with its end.
+abbrev pub READ_AHEAD : ℕ
+READ_AHEAD = BUFFER_LEN + (LONGEST_LINE + 2)
+
+-- Where line n is refused, no more was read than that: the bytes taken before hold fewer than n ends of lines.
+pub record IsReadUpTo (n : ℕ) (given : List ℕ) (left : Option (List ℕ)) : Type 0 where
+  pub taken : List ℕ
+  pub split : Some given ≡ prepend_known taken left
+  pub few : count_by is_feed (take (length taken - READ_AHEAD) taken) < n
 
 -- what is written after a read fault: all where nothing else failed, and else a part of it
 pub record IsRepliedTo (play : List (List ℕ) → Played) (given : List ℕ) (before now : Ends) : Type 0 where
@@ -68,7 +81,7 @@ pub record IsWriteFault (play : List (List ℕ) → Played) (before now : Ends) 
 -- What each status says, where `play` is what the lines of a scene come to.
 abbrev pub IsOutcome : (List (List ℕ) → Played) → Ends → Ends → Status → Type 0
 IsOutcome play before now Done = IsReported play before now Done × IfSome before.left (λ given. now.left ≡ Some [])
-IsOutcome play before now (Refused n c) = IsReported play before now (Refused n c)
+IsOutcome play before now (Refused n c) = IsReported play before now (Refused n c) × IfSome before.left (λ given. IsReadUpTo n given now.left)
 IsOutcome play before now Usage = now ≡ before
 IsOutcome play before now ReadFault = IsReadFault play before now
 IsOutcome play before now WriteFault = IsWriteFault play before now

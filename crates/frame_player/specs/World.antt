@@ -1,17 +1,20 @@
 -- The world of a scene, and what a line does to it.
-use Rattle.std.specs.Prelude.{ℕ, ◌+◌, Bool, true, false, nat_lt, List, [], ◌++◌, length, flat_map, if◌then◌else◌, is_some, Result, Ok, Err}
+use Rattle.std.specs.Prelude.{ℕ, ◌+◌, Bool, true, false, nat_lt, List, [], ◌++◌, length, flat_map, if◌then◌else◌, is_some, Option, option_map, Result, Ok, Err}
+use Rattle.fixed_box.specs.Bounds.{Bounds}
 use Rattle.fixed_box.specs.declared.TheConstants.{SLOTS}
 use Rattle.live_table.specs.declared.handle.Handle.{Handle}
-use Rattle.live_table.specs.Entries.{entry_at}
-use Rattle.live_table.specs.Table.{Table, next_handle, after_give, after_set_box, after_set_masks, after_take}
+use Rattle.live_table.specs.declared.live.Live.{Live}
+use Rattle.live_table.specs.Entries.{entry_at, least_free}
+use Rattle.live_table.specs.Table.{Table, empty_table, next_handle, after_give, after_set_box, after_set_masks, after_take}
 use Rattle.broad_index.specs.declared.query.Query.{Query}
 use Rattle.broad_index.specs.declared.query.Query.TheVariants.{Region, Spot, Along, Between}
+use Rattle.broad_index.specs.Exchanges.{passed_from_above, passed_from}
 use Rattle.broad_index.specs.Found.{kind_of}
 use Rattle.pair_events.specs.declared.hpair.HPair.{HPair}
 use Rattle.pair_events.specs.PairEvents.{events}
 use Rattle.pair_report.specs.declared.cause.Cause.{Cause}
 use Rattle.pair_report.specs.declared.cause.Cause.TheVariants as cause
-use Rattle.pair_report.specs.PairReport.{add_line, stale_line, frame_line, told_line, hits_line}
+use Rattle.pair_report.specs.PairReport.{add_line, stale_line, frame_line, told_line, exchanges_line, hits_line}
 use Rattle.scene_lines.specs.declared.TheConstants.{LONGEST_LINE}
 use Rattle.scene_words.specs.declared.version.Version.TheVariants.{One}
 use Rattle.scene_words.specs.declared.command.Command.{Command}
@@ -19,30 +22,44 @@ use Rattle.scene_words.specs.declared.command.Command.TheVariants.{Blank, Header
 use Rattle.scene_words.specs.declared.line_fault.LineFault.{LineFault}
 use Rattle.scene_words.specs.declared.line_fault.LineFault.TheVariants as fault
 use Rattle.scene_words.specs.SceneWords.{command}
-use Rattle.frame_player.specs.Pairs.{pairs_of, hits_of}
+use Rattle.frame_player.specs.Pairs.{slots_with_bodies, pairs_of, hits_of}
 
--- Whether a header was read, the live boxes with how often each slot was given, the pairs of the last frame, and the number of frames.
+-- Whether a header was read, the live boxes with how often each slot was given, the pairs of the last frame, the number of frames,
+-- and the exchanges since the last frame.
 pub record World : Type 0 where
   pub header : Bool
   pub table : Table
   pub last : List HPair
   pub frames : ℕ
+  pub exchanges : ℕ
 
 abbrev pub opening : World
-opening = record { header = false; table = record { entries = []; gives = [] }; last = []; frames = 0 }
+opening = record { header = false; table = empty_table; last = []; frames = 0; exchanges = 0 }
 
 -- the pairs of a world
 abbrev pub pairs : World → List HPair
 pairs w = pairs_of w.table.entries
 
+-- the exchanges of a new box, which comes under the least free slot
+abbrev pub exchanges_of_add : World → Bounds → ℕ
+exchanges_of_add w body = passed_from_above (slots_with_bodies w.table.entries) (least_free w.table.entries) body
+
+-- the box of a handle, where a live box has it
+abbrev pub body_of : Handle → List Live → Option Bounds
+body_of handle entries = option_map (λ entry. entry.body) (entry_at handle entries)
+
+-- the exchanges of a move, none where no live box has the handle
+abbrev pub exchanges_of_move : World → Handle → Bounds → ℕ
+exchanges_of_move w handle body = passed_from (body_of handle w.table.entries) (slots_with_bodies w.table.entries) handle.slot body
+
 -- The world after a command. A handle that no live box has changes nothing, nor do blank lines and queries.
 abbrev pub after : World → Command → World
 after w (Header version) = record w { header = true }
-after w (Add body masks) = record w { table = after_give w.table body masks }
-after w (Move handle body) = record w { table = after_set_box w.table handle body }
+after w (Add body masks) = record w { table = after_give w.table body masks; exchanges = w.exchanges + exchanges_of_add w body }
+after w (Move handle body) = record w { table = after_set_box w.table handle body; exchanges = w.exchanges + exchanges_of_move w handle body }
 after w (Mask handle masks) = record w { table = after_set_masks w.table handle masks }
 after w (Remove handle) = record w { table = after_take w.table handle }
-after w Frame = record w { last = pairs w; frames = w.frames + 1 }
+after w Frame = record w { last = pairs w; frames = w.frames + 1; exchanges = 0 }
 after w _ = w
 
 -- a line where no live box has the handle, and else nothing
@@ -53,18 +70,22 @@ unless_live w handle = if is_some (entry_at handle w.table.entries) then [] else
 abbrev pub answer : World → Query → ℕ → List ℕ
 answer w query mask = hits_line (kind_of query) (hits_of w.table.entries query mask)
 
--- What is reported of a command, in the world before it.
-abbrev pub reply : World → Command → List ℕ
-reply w (Add body masks) = add_line (next_handle w.table)
-reply w (Move handle body) = unless_live w handle
-reply w (Mask handle masks) = unless_live w handle
-reply w (Remove handle) = unless_live w handle
-reply w Frame = frame_line (w.frames + 1) (length (pairs w)) ++ flat_map told_line (events w.last (pairs w))
-reply w (BoxQ body mask) = answer w (Region body) mask
-reply w (PointQ at mask) = answer w (Spot at) mask
-reply w (RayQ ray mask) = answer w (Along ray) mask
-reply w (SegQ seg mask) = answer w (Between seg) mask
-reply w _ = []
+-- the last line of a frame, where `shows` asks for it
+abbrev pub shown : Bool → ℕ → List ℕ
+shown shows number = if shows then exchanges_line number else []
+
+-- What is reported of a command, in the world before it. Frames end with their exchanges where `shows` asks for it.
+abbrev pub reply : Bool → World → Command → List ℕ
+reply shows w (Add body masks) = add_line (next_handle w.table)
+reply shows w (Move handle body) = unless_live w handle
+reply shows w (Mask handle masks) = unless_live w handle
+reply shows w (Remove handle) = unless_live w handle
+reply shows w Frame = frame_line (w.frames + 1) (length (pairs w)) ++ (flat_map told_line (events w.last (pairs w)) ++ shown shows w.exchanges)
+reply shows w (BoxQ body mask) = answer w (Region body) mask
+reply shows w (PointQ at mask) = answer w (Spot at) mask
+reply shows w (RayQ ray mask) = answer w (Along ray) mask
+reply shows w (SegQ seg mask) = answer w (Between seg) mask
+reply shows w _ = []
 
 -- the cause of the same name
 abbrev pub cause_of : LineFault → Cause

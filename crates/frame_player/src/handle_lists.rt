@@ -4,7 +4,8 @@ ghost use Rattle.live_table.specs.Table.{IsTable};
 ghost use Rattle.broad_index.specs.Found.{found};
 ghost use Rattle.broad_index.specs.Near.{near};
 ghost use Rattle.pair_events.specs.PairEvents.{is_in_order};
-ghost use Rattle.frame_player.specs.Indexed.{indexed, touching, listed};
+ghost use Rattle.frame_player.specs.Pairs.{bodies_of};
+ghost use Rattle.frame_player.specs.InHandles.{touching, listed};
 ghost use Rattle.frame_player.specs.Pairs.{pairs_of, hits_of};
 
 use broad_index::{Pair, Query};
@@ -19,7 +20,7 @@ pub(crate) fn push_pairs(
     out: &mut Vec<HPair>,
 ) -> Result<(), NoMemory>
     requires table { IsTable table.now }
-    requires near { pairs.now ≡ near (indexed table.now.entries) }
+    requires near { pairs.now ≡ near (bodies_of table.now.entries) }
     requires none { out.old.items ≡ [] }
     ensures pairs { OnOk result (out.new.items ≡ pairs_of table.now.entries) }
     ensures order { OnOk result (is_in_order out.new.items ≡ true) }
@@ -37,7 +38,7 @@ pub(crate) fn push_hits(
     out: &mut Vec<Handle>,
 ) -> Result<(), NoMemory>
     requires table { IsTable table.now }
-    requires found { slots.now ≡ found (indexed table.now.entries) query.now }
+    requires found { slots.now ≡ found (bodies_of table.now.entries) query.now }
     ensures { OnOk result (out.new.items ≡ out.old.items ++ hits_of table.now.entries query.now mask) }
 {
     push_listed(table, mask, slots, out)

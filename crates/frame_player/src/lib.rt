@@ -4,7 +4,10 @@
 mod allowed;
 mod frame_text;
 mod handle_lists;
+mod last;
+mod obeying;
 mod player;
+mod query_run;
 mod report_prefix;
 mod scene_play;
 mod status;
@@ -13,5 +16,5 @@ mod writing;
 
 pub use report_prefix::replies_begin_report;
 pub use scene_play::play;
-pub use status::{Limits, Status};
+pub use status::{Limits, Options, Status};
 pub use worked::worked_scenes;

@@ -1,15 +1,18 @@
-ghost use Rattle.std.specs.Prelude.{◌≡◌, ◌++◌, ◌<◌, false, length, Ok, OnOk, OnErr, IfOk};
+ghost use Rattle.std.specs.Prelude.{◌≡◌, ◌++◌, ◌<◌, ◌≤◌, Bool, true, false, length, Ok, OnOk, OnErr, IfOk};
 
+use crate::Options;
 use crate::allowed::{allow_first, allow_later};
-use crate::handle_lists::{push_hits, push_pairs};
-use crate::frame_text::put_frame_events;
-use broad_index::{BroadPhase, Pair, Query};
+use crate::frame_text::send_frame;
+use crate::handle_lists::push_pairs;
+use broad_index::{BroadPhase, Gate, Pair};
 use fixed_box::{FBox, NoMemory, SLOTS};
 use live_table::{Full, Handle, LiveTable, Masks, Stale};
 use pair_events::{PairTable, Told};
-use pair_report::{Cause, put_add, put_hits, put_stale};
+use pair_report::{Cause, put_add, put_stale};
+use play_io::{Sink, SinkFault};
 use scene_words::{Command, Version, read_command};
 use std::alloc::Global;
+use std::thread::Threads;
 
 // The state of a play between two lines. The lists are kept from line to line.
 #[derive(Drop)]
@@ -22,22 +25,24 @@ pub(crate) struct Player<B: Drop> {
     pub frames: u32,
     pub pairs: Vec<Pair>,
     pub events: Vec<Told>,
-    pub slots: Vec<u32>,
-    pub handles: Vec<Handle>,
 }
 
 impl<B: BroadPhase + Drop> Player<B> {
     ghost use Rattle.broad_index.specs.Fresh.{IsFresh};
     ghost use Rattle.scene_words.specs.declared.version.Version.TheVariants.{One};
     ghost use Rattle.scene_words.specs.SceneWords.{command};
-    ghost use Rattle.frame_player.specs.Player.{world_in, IsPlaying, HasRoom, CountsOn, IsObeyed};
-    ghost use Rattle.frame_player.specs.World.{opening, allowed, answer};
+    ghost use Rattle.pair_events.specs.PairEvents.{events};
+    ghost use Rattle.frame_player.specs.FrameText.{shown_number};
+    ghost use Rattle.frame_player.specs.Outlet.{outlet, IsSent};
+    ghost use Rattle.frame_player.specs.Pairs.{pairs_of};
+    ghost use Rattle.frame_player.specs.Player.{world_in, IsPlaying, HasRoom, IsObeyed, IsChange};
+    ghost use Rattle.frame_player.specs.World.{opening, allowed, reply, shown};
 
     // The opening world.
     #[tactic(auto, using(crate::proofs::Changes::opening_boxes))]
     pub(crate) fn new(alloc: Global, index: B) -> Result<Player<B>, NoMemory>
         requires { IsFresh (B.bodies index) (B.spent index) (B.exchanges index) }
-        ensures opening { IfOk result (λ player. world_in player ≡ opening) }
+        ensures opening { IfOk result (λ player. world_in B.exchanges player ≡ opening) }
         ensures playing { IfOk result (IsPlaying B.bodies B.spent) }
         ensures index { IfOk result (λ player. player.index ≡ index) }
     {
@@ -51,15 +56,13 @@ impl<B: BroadPhase + Drop> Player<B> {
             frames: 0,
             pairs: Vec::new(alloc),
             events: Vec::new(alloc),
-            slots: Vec::new(alloc),
-            handles: Vec::new(alloc),
         })
     }
 
     // Reads a line as a command that the world allows.
     pub(crate) fn read_line(&self, line: &[u8]) -> Result<Command, Cause>
-        ensures read { result ≡ allowed (world_in self.now) (command One line.now) }
-        ensures allowed { IfOk result (λ read. allowed (world_in self.now) (Ok read) ≡ Ok read) }
+        ensures read { result ≡ allowed (world_in B.exchanges self.now) (command One line.now) }
+        ensures allowed { IfOk result (λ read. allowed (world_in B.exchanges self.now) (Ok read) ≡ Ok read) }
     {
         let said = read_command(Version::One, line);
         if self.header {
@@ -69,16 +72,17 @@ impl<B: BroadPhase + Drop> Player<B> {
         }
     }
 
-    // Does what a line asks for, and appends its reply, or nothing where memory runs out.
-    pub(crate) fn obey(&mut self, command: &Command, out: &mut Vec<u8>) -> Result<(), NoMemory>
+    // Changes the world, and appends the reply of at most one line.
+    pub(crate) fn change(&mut self, command: &Command, out: &mut Vec<u8>) -> Result<(), NoMemory>
         requires playing { IsPlaying B.bodies B.spent self.old }
-        requires allowed { allowed (world_in self.old) (Ok command.now) ≡ Ok command.now }
+        requires allowed { allowed (world_in B.exchanges self.old) (Ok command.now) ≡ Ok command.now }
         requires room { HasRoom B.COUNTS B.exchanges self.old }
-        ensures obeyed { OnOk result (IsObeyed B.bodies B.spent B.COUNTS B.exchanges command.now self.old self.new out.old.items out.new.items) }
+        requires change { IsChange command.now }
+        ensures obeyed { OnOk result (IsObeyed B.bodies B.spent B.COUNTS B.exchanges command.now self.old self.new) }
+        ensures text { (shows : Bool) → OnOk result (out.new.items ≡ out.old.items ++ reply shows (world_in B.exchanges self.old) command.now) }
         ensures err { OnErr result (out.new.items ≡ out.old.items) }
     {
         match command {
-            Command::Blank => Ok(()),
             Command::Header { .. } => {
                 self.header = true;
                 Ok(())
@@ -87,11 +91,7 @@ impl<B: BroadPhase + Drop> Player<B> {
             Command::Move { handle, body } => self.shift(*handle, *body, out),
             Command::Mask { handle, masks } => self.mask(*handle, *masks, out),
             Command::Remove { handle } => self.remove(*handle, out),
-            Command::Frame => self.end_frame(out),
-            Command::BoxQ { body, mask } => self.answer(&Query::Region(*body), *mask, out),
-            Command::PointQ { at, mask } => self.answer(&Query::Spot(*at), *mask, out),
-            Command::RayQ { ray, mask } => self.answer(&Query::Along(*ray), *mask, out),
-            Command::SegQ { seg, mask } => self.answer(&Query::Between(*seg), *mask, out),
+            _ => unreachable!(),
         }
     }
 
@@ -100,7 +100,8 @@ impl<B: BroadPhase + Drop> Player<B> {
         requires playing { IsPlaying B.bodies B.spent self.old }
         requires free { length self.old.table.entries < SLOTS }
         requires room { HasRoom B.COUNTS B.exchanges self.old }
-        ensures obeyed { OnOk result (IsObeyed B.bodies B.spent B.COUNTS B.exchanges (Command.Add body masks) self.old self.new out.old.items out.new.items) }
+        ensures obeyed { OnOk result (IsObeyed B.bodies B.spent B.COUNTS B.exchanges (Command.Add body masks) self.old self.new) }
+        ensures text { OnOk result (out.new.items ≡ out.old.items ++ reply false (world_in B.exchanges self.old) (Command.Add body masks)) }
         ensures err { OnErr result (out.new.items ≡ out.old.items) }
     {
         match self.table.give(body, masks) {
@@ -116,7 +117,8 @@ impl<B: BroadPhase + Drop> Player<B> {
     fn shift(&mut self, handle: Handle, body: FBox, out: &mut Vec<u8>) -> Result<(), NoMemory>
         requires playing { IsPlaying B.bodies B.spent self.old }
         requires room { HasRoom B.COUNTS B.exchanges self.old }
-        ensures obeyed { OnOk result (IsObeyed B.bodies B.spent B.COUNTS B.exchanges (Command.Move handle body) self.old self.new out.old.items out.new.items) }
+        ensures obeyed { OnOk result (IsObeyed B.bodies B.spent B.COUNTS B.exchanges (Command.Move handle body) self.old self.new) }
+        ensures text { OnOk result (out.new.items ≡ out.old.items ++ reply false (world_in B.exchanges self.old) (Command.Move handle body)) }
         ensures err { OnErr result (out.new.items ≡ out.old.items) }
     {
         match self.table.set_box(handle, body) {
@@ -128,7 +130,8 @@ impl<B: BroadPhase + Drop> Player<B> {
     // The handle's box gets other masks.
     fn mask(&mut self, handle: Handle, masks: Masks, out: &mut Vec<u8>) -> Result<(), NoMemory>
         requires playing { IsPlaying B.bodies B.spent self.old }
-        ensures obeyed { OnOk result (IsObeyed B.bodies B.spent B.COUNTS B.exchanges (Command.Mask handle masks) self.old self.new out.old.items out.new.items) }
+        ensures obeyed { OnOk result (IsObeyed B.bodies B.spent B.COUNTS B.exchanges (Command.Mask handle masks) self.old self.new) }
+        ensures text { OnOk result (out.new.items ≡ out.old.items ++ reply false (world_in B.exchanges self.old) (Command.Mask handle masks)) }
         ensures err { OnErr result (out.new.items ≡ out.old.items) }
     {
         match self.table.set_masks(handle, masks) {
@@ -140,7 +143,8 @@ impl<B: BroadPhase + Drop> Player<B> {
     // The handle's box goes.
     fn remove(&mut self, handle: Handle, out: &mut Vec<u8>) -> Result<(), NoMemory>
         requires playing { IsPlaying B.bodies B.spent self.old }
-        ensures obeyed { OnOk result (IsObeyed B.bodies B.spent B.COUNTS B.exchanges (Command.Remove handle) self.old self.new out.old.items out.new.items) }
+        ensures obeyed { OnOk result (IsObeyed B.bodies B.spent B.COUNTS B.exchanges (Command.Remove handle) self.old self.new) }
+        ensures text { OnOk result (out.new.items ≡ out.old.items ++ reply false (world_in B.exchanges self.old) (Command.Remove handle)) }
         ensures err { OnErr result (out.new.items ≡ out.old.items) }
     {
         match self.table.take(handle) {
@@ -153,37 +157,70 @@ impl<B: BroadPhase + Drop> Player<B> {
     }
 
     // The frame ends: its pairs, and what became of each since the last one.
-    fn end_frame(&mut self, out: &mut Vec<u8>) -> Result<(), NoMemory>
+    pub(crate) fn end_frame<R: Threads + Sync, G: Gate + Sync, K: Sink>(
+        &mut self,
+        rt: &R,
+        options: Options,
+        gate: &G,
+        sink: &mut K,
+        text: &mut Vec<u8>,
+    ) -> Result<(), SinkFault>
+    where
+        B: Sync,
+        requires workers { (1 ≤ options.workers) × (options.workers ≤ 16) }
+        requires shown { options.exchanges ≡ true → B.COUNTS ≡ true }
         requires playing { IsPlaying B.bodies B.spent self.old }
         requires room { HasRoom B.COUNTS B.exchanges self.old }
-        ensures obeyed { OnOk result (IsObeyed B.bodies B.spent B.COUNTS B.exchanges Command.Frame self.old self.new out.old.items out.new.items) }
-        ensures err { OnErr result (out.new.items ≡ out.old.items) }
+        ensures obeyed { OnOk result (IsObeyed B.bodies B.spent B.COUNTS B.exchanges Command.Frame self.old self.new) }
+        ensures sent { IsSent (outlet (K.written sink.old) (K.faults sink.old) (K.since sink.old))
+            (outlet (K.written sink.new) (K.faults sink.new) (K.since sink.new))
+            (text.old.items ++ reply options.exchanges (world_in B.exchanges self.old) Command.Frame) text.new.items result }
+    {
+        let pairs = self.turn_pairs(rt, options.workers, gate)?;
+        let exchanges = self.shown_exchanges(options.exchanges);
+        send_frame(self.frames + 1, pairs, &self.events, exchanges, sink, text)?;
+        self.index.clear_exchanges();
+        self.frames += 1;
+        Ok(())
+    }
+
+    // The number of exchanges since the last frame, where it is to be shown.
+    fn shown_exchanges(&self, shows: bool) -> Option<u64>
+        requires { B.spent self.now.index ≡ false }
+        ensures { shown_number result ≡ shown shows (B.exchanges self.now.index) }
+    {
+        if shows {
+            Some(self.index.exchanges())
+        } else {
+            None
+        }
+    }
+
+    // Finds the pairs of the frame, and what became of each since the last one. Answers how many there are.
+    fn turn_pairs<R: Threads + Sync, G: Gate + Sync>(
+        &mut self,
+        rt: &R,
+        workers: u32,
+        gate: &G,
+    ) -> Result<u32, NoMemory>
+    where
+        B: Sync,
+        requires workers { (1 ≤ workers) × (workers ≤ 16) }
+        requires playing { IsPlaying B.bodies B.spent self.old }
+        ensures count { IfOk result (λ count. count ≡ length (pairs_of self.old.table.entries)) }
+        ensures events { OnOk result (self.new.events.items ≡ events self.old.pair_table (pairs_of self.old.table.entries)) }
+        ensures last { OnOk result (self.new.pair_table ≡ pairs_of self.old.table.entries) }
+        ensures playing { OnOk result (IsPlaying B.bodies B.spent self.new) }
+        ensures exchanges { OnOk result (B.exchanges self.new.index ≡ B.exchanges self.old.index) }
+        ensures same { OnOk result ((self.new.table ≡ self.old.table) × (self.new.header ≡ self.old.header) × (self.new.frames ≡ self.old.frames)) }
     {
         self.pairs.clear();
-        self.index.pairs(&mut self.pairs)?;
+        self.index.pairs_with(rt, workers, gate, &mut self.pairs)?;
         let mut now = Vec::new(self.alloc);
         push_pairs(&self.table, &self.pairs, &mut now)?;
         let count = now.len() as u32;
         self.events.clear();
         self.pair_table.turn(now, &mut self.events)?;
-        put_frame_events(self.frames + 1, count, &self.events, out)?;
-        self.frames += 1;
-        Ok(())
-    }
-
-    // The boxes that meet a query, of the groups that it asks for.
-    fn answer(&mut self, query: &Query, mask: u32, out: &mut Vec<u8>) -> Result<(), NoMemory>
-        requires { IsPlaying B.bodies B.spent self.old }
-        ensures world { world_in self.new ≡ world_in self.old }
-        ensures reply { OnOk result (out.new.items ≡ out.old.items ++ answer (world_in self.old) query.now mask) }
-        ensures playing { IsPlaying B.bodies B.spent self.new }
-        ensures counts { CountsOn B.COUNTS B.exchanges self.old self.new }
-        ensures err { OnErr result (out.new.items ≡ out.old.items) }
-    {
-        self.slots.clear();
-        self.index.hits(query, &mut self.slots)?;
-        self.handles.clear();
-        push_hits(&self.table, query, mask, &self.slots, &mut self.handles)?;
-        put_hits(query.kind(), &self.handles, out)
+        Ok(count)
     }
 }

@@ -1,4 +1,4 @@
-ghost use Rattle.std.specs.Prelude.{ℕ, List, true, false};
+ghost use Rattle.std.specs.Prelude.{ℕ, Bool, List, true, false};
 ghost use Rattle.scene_lines.specs.SceneLines.{lines, IsPrefix};
 ghost use Rattle.frame_player.specs.Play.{played, report};
 
@@ -7,8 +7,8 @@ use scene_lines::line_laws;
 /// The replies to the lines that end within the first bytes of a scene begin the report of the whole scene, whatever
 /// follows these bytes. So what was reported before a read fault stays true. It does nothing.
 pub fn replies_begin_report()
-    ensures { (limit : ℕ) (front whole : List ℕ) → IsPrefix front whole
-        → IsPrefix (played limit (lines front false)).replies (report limit (lines whole true)) }
+    ensures { (shows : Bool) (limit : ℕ) (front whole : List ℕ) → IsPrefix front whole
+        → IsPrefix (played shows limit (lines front false)).replies (report shows limit (lines whole true)) }
 {
     line_laws();
 }

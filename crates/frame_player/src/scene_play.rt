@@ -1,17 +1,22 @@
-ghost use Rattle.std.specs.Prelude.{◌≡◌, ◌≢◌, ◌-◌, ◌^◌, ◌<◌, ◌≤◌, ◌++◌, [], true, false, IfOk, IfSome, MatchResult};
+ghost use Rattle.std.specs.Prelude.{◌≡◌, ◌≢◌, ◌-◌, ◌^◌, ◌<◌, ◌≤◌, ◌++◌, [], true, length, IfOk, IfErr, OnOk, OnErr, IfSome, option_map};
 ghost use Rattle.broad_index.specs.Fresh.{IsFresh};
-ghost use Rattle.pair_report.specs.PairReport.{refused_line};
-ghost use Rattle.frame_player.specs.declared.status.Status.TheVariants.{Refused, Usage};
-ghost use Rattle.frame_player.specs.Ending.{IsTextOf, IsCountedAs, after_fault};
-ghost use Rattle.frame_player.specs.Outcome.{ends, IsOutcome};
-ghost use Rattle.frame_player.specs.Play.{played};
+ghost use Rattle.frame_player.specs.declared.status.Status.TheVariants.{Usage};
+ghost use Rattle.frame_player.specs.Ending.{IsTextOf, IsCountedAs, after_fault, last_line, status_of};
+ghost use Rattle.frame_player.specs.Outcome.{ends, IsOutcome, IsBegun};
+ghost use Rattle.frame_player.specs.Outlet.{outlet, IsSent, IsSaid, IsCutShort};
+ghost use Rattle.frame_player.specs.Owed.{owed, IsRun};
+ghost use Rattle.frame_player.specs.Play.{played, report};
+ghost use Rattle.frame_player.specs.Player.{IsPlaying, IsOpening};
+ghost use Rattle.scene_lines.specs.SceneLines.{lines};
 
+use crate::last::Last;
+use crate::obeying::obey;
 use crate::player::Player;
+use crate::query_run::{QueryRun, settle};
 use crate::writing::write_all;
-use crate::{Limits, Status, replies_begin_report};
-use broad_index::BroadPhase;
-use fixed_box::NoMemory;
-use pair_report::{Cause, put_end, put_refused};
+use crate::{Limits, Options, Status, replies_begin_report};
+use broad_index::{BroadPhase, Gate};
+use pair_report::Cause;
 use play_io::{Sink, SinkFault, Source};
 use scene_lines::{LineReader, MOST_LINES, Next, line_laws};
 use std::alloc::Global;
@@ -19,37 +24,55 @@ use std::thread::Threads;
 
 /// Plays the scene that a source has left through an index, and writes its report.
 ///
-/// The report is kept whole and written at the end of the play. After a read fault the replies so far are written.
-pub fn play<R: Threads + Sync, B: BroadPhase + Drop, S: Source, K: Sink>(
+/// The text goes out in pieces of about 64 KiB while the scene is played, and is flushed once, at the end. Queries that
+/// follow one another are answered together, and the pairs of a frame are found, by up to `options.workers` threads;
+/// the gate is entered at each piece of such a search. A refused line is answered without reading further. After a read
+/// fault the replies to the lines that had ended are written. After a sink fault the sink isn't called again.
+pub fn play<
+    R: Threads + Sync,
+    B: BroadPhase + Sync + Drop,
+    G: Gate + Sync,
+    S: Source,
+    K: Sink,
+>(
     rt: &R,
     alloc: Global,
     index: B,
+    options: Options,
     limits: Limits,
+    gate: &G,
     source: &mut S,
     sink: &mut K,
 ) -> Status
     requires fresh { IsFresh (B.bodies index) (B.spent index) (B.exchanges index) }
+    requires workers { (1 ≤ options.workers) × (options.workers ≤ 16) }
+    requires shown { options.exchanges ≡ true → B.COUNTS ≡ true }
     requires some_lines { 1 ≤ limits.lines }
     requires most_lines { limits.lines ≤ MOST_LINES }
     requires source_count { S.faults source.old < 2 ^ 64 - 1 }
     requires sink_count { K.faults sink.old < 2 ^ 64 - 1 }
 
     // How each status leaves the source and the sink.
-    ensures outcome { IsOutcome (played limits.lines)
+    ensures outcome { IsOutcome (played options.exchanges limits.lines)
         (ends (S.left source.old) (S.faults source.old) (K.written sink.old) (K.settled sink.old) (K.faults sink.old))
         (ends (S.left source.new) (S.faults source.new) (K.written sink.new) (K.settled sink.new) (K.faults sink.new)) result }
+    // After a fault the sink isn't called again.
+    ensures uncalled { K.faults sink.old ≡ 0 → K.since sink.new ≡ K.since sink.old }
     ensures never_usage { result ≢ Usage }
 {
-    // Handed on for later searches on several threads.
-    let _ = rt;
     replies_begin_report();
-    let mut text = Vec::new(alloc);
-    let Ok(status) = put_report(alloc, index, limits.lines, source, &mut text) else {
+    let Ok(mut player) = Player::new(alloc, index) else {
         return Status::NoMemory;
     };
-    match write_all(sink, &text) {
-        Ok(()) => status,
-        Err(SinkFault::Failed) => after_fault(status),
+    let mut run = QueryRun::new(alloc);
+    let mut text = Vec::new(alloc);
+    match play_lines(rt, alloc, options, limits.lines, gate, &mut player, &mut run, source, sink, &mut text) {
+        Ok(last) => match finish(rt, options.workers, gate, &player, &mut run, last, sink, &mut text) {
+            Ok(()) => last.status(),
+            Err(SinkFault::Failed) => after_fault(last.status()),
+            Err(SinkFault::NoMemory) => Status::NoMemory,
+        },
+        Err(SinkFault::Failed) => Status::WriteFault,
         Err(SinkFault::NoMemory) => Status::NoMemory,
     }
 }
@@ -64,50 +87,94 @@ fn after_fault(status: Status) -> Status
     }
 }
 
-// Appends the report of a scene, or the replies so far where a read failed, and answers how the play ends.
-fn put_report<B: BroadPhase + Drop, S: Source>(
+// Plays the lines up to the last one, and answers how the reading ends. The end of the text is held, and answers may be
+// owed still.
+fn play_lines<
+    R: Threads + Sync,
+    B: BroadPhase + Sync + Drop,
+    G: Gate + Sync,
+    S: Source,
+    K: Sink,
+>(
+    rt: &R,
     alloc: Global,
-    index: B,
+    options: Options,
     limit: u32,
+    gate: &G,
+    player: &mut Player<B>,
+    run: &mut QueryRun,
     source: &mut S,
-    out: &mut Vec<u8>,
-) -> Result<Status, NoMemory>
-    requires fresh { IsFresh (B.bodies index) (B.spent index) (B.exchanges index) }
+    sink: &mut K,
+    text: &mut Vec<u8>,
+) -> Result<Last, SinkFault>
+    requires opening { IsOpening B.exchanges player.old }
+    requires playing { IsPlaying B.bodies B.spent player.old }
+    requires workers { (1 ≤ options.workers) × (options.workers ≤ 16) }
+    requires shown { options.exchanges ≡ true → B.COUNTS ≡ true }
     requires some_lines { 1 ≤ limit }
     requires most_lines { limit ≤ MOST_LINES }
     requires source_count { S.faults source.old < 2 ^ 64 - 1 }
-    requires nothing { out.old.items ≡ [] }
-    ensures text { IfOk result (λ status. IfSome (S.left source.old) (λ given. IsTextOf limit given (S.left source.new) out.new.items status)) }
-    ensures count { MatchResult result (IsCountedAs (S.faults source.old) (S.faults source.new)) (λ _. S.faults source.new ≡ S.faults source.old) }
+    requires nothing { text.old.items ≡ [] }
+    requires queries { run.old.queries.items ≡ [] }
+    requires masks { run.old.masks.items ≡ [] }
+    ensures said { IfOk result (λ last. IsSaid (outlet (K.written sink.old) (K.faults sink.old) (K.since sink.old))
+        (outlet (K.written sink.new) (K.faults sink.new) (K.since sink.new))
+        (text.new.items ++ owed player.new.table.entries run.new)
+        (λ all. IfSome (S.left source.old) (λ given. IsTextOf options.exchanges limit given (S.left source.new) (all ++ last_line last) (status_of last)))) }
+    ensures count { IfOk result (λ last. IsCountedAs (S.faults source.old) (S.faults source.new) (status_of last)) }
+    ensures playing { OnOk result (IsPlaying B.bodies B.spent player.new) }
+    ensures run { OnOk result (IsRun run.new) }
+    ensures stopped { IfErr result (λ fault. IsCutShort (outlet (K.written sink.old) (K.faults sink.old) (K.since sink.old))
+        (outlet (K.written sink.new) (K.faults sink.new) (K.since sink.new)) fault
+        (IfSome (S.left source.old) (λ given. IsBegun (K.written sink.old) (K.written sink.new) (report options.exchanges limit (lines given true))))) }
+    ensures unread { OnErr result (S.faults source.new ≡ S.faults source.old) }
 {
     let mut reader = LineReader::new(alloc, limit)?;
-    let mut player = Player::new(alloc, index)?;
     line_laws();
     'lines: loop {
         match reader.next(source) {
             Next::Line => match player.read_line(reader.line()) {
-                Ok(command) => player.obey(&command, out)?,
-                Err(cause) => return refuse(reader.number(), cause, out),
+                Ok(command) => obey(rt, options, gate, player, run, &command, sink, text)?,
+                Err(cause) => return Ok(Last::Refused { line: reader.number(), cause }),
             },
-            Next::Long => return refuse(reader.number(), Cause::Long, out),
-            Next::TooMany => return refuse(reader.number(), Cause::Lines, out),
-            Next::ReadFault => return Ok(Status::ReadFault),
+            Next::Long => return Ok(Last::Refused { line: reader.number(), cause: Cause::Long }),
+            Next::TooMany => return Ok(Last::Refused { line: reader.number(), cause: Cause::Lines }),
+            Next::ReadFault => return Ok(Last::ReadFault),
             Next::End => {
                 if !player.header {
-                    return refuse(reader.number() + 1, Cause::Header, out);
+                    return Ok(Last::Refused { line: reader.number() + 1, cause: Cause::Header });
                 }
-                put_end(reader.number(), player.frames, player.table.len(), out)?;
-                return Ok(Status::Done);
+                return Ok(Last::End {
+                    lines: reader.number(),
+                    frames: player.frames,
+                    live: player.table.len(),
+                });
             }
         }
     }
 }
 
-// Appends the last line where a line is refused.
-fn refuse(line: u32, cause: Cause, out: &mut Vec<u8>) -> Result<Status, NoMemory>
-    ensures text { IfOk result (λ _. out.new.items ≡ out.old.items ++ refused_line line cause) }
-    ensures status { IfOk result (λ status. status ≡ Refused line cause) }
+// Answers what is owed, and writes the rest of the text with the last line.
+#[tactic(auto, using(crate::proofs::Sending::out_of_memory))]
+fn finish<R: Threads + Sync, B: BroadPhase + Sync + Drop, G: Gate + Sync, K: Sink>(
+    rt: &R,
+    workers: u32,
+    gate: &G,
+    player: &Player<B>,
+    run: &mut QueryRun,
+    last: Last,
+    sink: &mut K,
+    text: &mut Vec<u8>,
+) -> Result<(), SinkFault>
+    requires workers { (1 ≤ workers) × (workers ≤ 16) }
+    requires playing { IsPlaying B.bodies B.spent player.now }
+    requires run { IsRun run.old }
+    ensures sent { IsSent (outlet (K.written sink.old) (K.faults sink.old) (K.since sink.old))
+        (outlet (K.written sink.new) (K.faults sink.new) (K.since sink.new))
+        ((text.old.items ++ owed player.now.table.entries run.old) ++ last_line last) [] result }
+    ensures settled { OnOk result (K.settled sink.new ≡ option_map length (K.written sink.new)) }
 {
-    put_refused(line, cause, out)?;
-    Ok(Status::Refused { line, cause })
+    settle(rt, workers, gate, player, run, sink, text)?;
+    last.put(text)?;
+    write_all(sink, text)
 }

@@ -1,21 +1,46 @@
-ghost use Rattle.std.specs.Prelude.{◌≡◌, length, OnOk, option_map};
-ghost use Rattle.std.specs.Io.KnownBytes.{append_known};
-ghost use Rattle.play_io.specs.Sink.{SinkCount};
-ghost use Rattle.frame_player.specs.Outcome.{IsBegun};
+ghost use Rattle.std.specs.Prelude.{◌≡◌, [], length, OnOk, option_map};
+ghost use Rattle.frame_player.specs.Outlet.{outlet, IsSent};
 
 use play_io::{Sink, SinkFault};
 
+// From this many bytes on a text is written.
+const FULL: usize = 65_536;
+
 // Writes a whole text, and settles it. After a fault the sink isn't called again.
 pub(crate) fn write_all<K: Sink>(sink: &mut K, text: &[u8]) -> Result<(), SinkFault>
-    ensures written { OnOk result (K.written sink.new ≡ append_known (K.written sink.old) text.now) }
+    ensures sent { IsSent (outlet (K.written sink.old) (K.faults sink.old) (K.since sink.old))
+        (outlet (K.written sink.new) (K.faults sink.new) (K.since sink.new))
+        text.now [] result }
     ensures settled { OnOk result (K.settled sink.new ≡ option_map length (K.written sink.new)) }
-    ensures begun { IsBegun (K.written sink.old) (K.written sink.new) text.now }
-    ensures count { SinkCount (K.faults sink.old) (K.faults sink.new) result }
+{
+    write_pieces(sink, text)?;
+    sink.flush()
+}
+
+// Writes a whole text.
+fn write_pieces<K: Sink>(sink: &mut K, text: &[u8]) -> Result<(), SinkFault>
+    ensures { IsSent (outlet (K.written sink.old) (K.faults sink.old) (K.since sink.old))
+        (outlet (K.written sink.new) (K.faults sink.new) (K.since sink.new))
+        text.now [] result }
 {
     let mut rest = text;
     'writes: while !rest.is_empty() {
         let count = sink.write(rest)?;
         rest = rest.split_at(count).1;
     }
-    sink.flush()
+    Ok(())
+}
+
+// Writes a text that is full, and holds one that isn't.
+pub(crate) fn hand_on<K: Sink>(sink: &mut K, text: &mut Vec<u8>) -> Result<(), SinkFault>
+    ensures { IsSent (outlet (K.written sink.old) (K.faults sink.old) (K.since sink.old))
+        (outlet (K.written sink.new) (K.faults sink.new) (K.since sink.new))
+        text.old.items text.new.items result }
+{
+    if text.len() < FULL {
+        return Ok(());
+    }
+    write_pieces(sink, text)?;
+    text.clear();
+    Ok(())
 }

@@ -1,6 +1,6 @@
 use Rattle.std.proofs.Common.{◌≡◌, ◌++◌, length}
 use Rattle.std.specs.List.{filter_map}
-use Rattle.frame_player.specs.Indexed.{listed}
+use Rattle.frame_player.specs.InHandles.{listed}
 use Rattle.frame_player.proofs.handle_lists.push_listed.Given as goal
 
 abbrev pub invariant-slots : goal.invariant-slots

@@ -1,6 +1,6 @@
 use Rattle.std.proofs.Common.{◌≡◌, ◌++◌, length}
 use Rattle.std.specs.List.{filter_map}
-use Rattle.frame_player.specs.Indexed.{touching}
+use Rattle.frame_player.specs.InHandles.{touching}
 use Rattle.frame_player.proofs.handle_lists.push_touching.Given as goal
 
 abbrev pub invariant-pairs : goal.invariant-pairs

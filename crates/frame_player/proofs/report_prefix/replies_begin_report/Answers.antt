@@ -6,6 +6,6 @@ use Rattle.frame_player.proofs.ReplyPrefix.{replies_begin}
 use Rattle.frame_player.proofs.report_prefix.replies_begin_report.Goals as goal
 
 pub returns : goal.returns
-returns c limit front whole is =
+returns c shows limit front whole is =
     let first = c.line_laws.ensures.prefix front whole is in
-    rw first.1 (replies_begin limit (lines front false) first.0 opening 1)
+    rw first.1 (replies_begin shows limit (lines front false) first.0 opening 1)

@@ -64,3 +64,7 @@ returns-clause-just_enough_lines c = refl
 pub returns-clause-inverted : goal.returns-clause-inverted
 unfolding asked command_of add_of move_of mask_of box_of point_of ray_of seg_of point_at in_ray in_seg digits
 returns-clause-inverted c = refl
+
+pub returns-clause-exchanges : goal.returns-clause-exchanges
+unfolding asked command_of add_of move_of mask_of box_of point_of ray_of seg_of point_at in_ray in_seg digits
+returns-clause-exchanges c = refl

@@ -1,8 +1,10 @@
 -- The table gives a handle, and the index gets the box under its slot.
-use Rattle.std.proofs.Common.{rules, ap, ◌∙◌, arith}
-use Rattle.std.specs.FinMap.{contains_key}
+use Rattle.std.proofs.Common.{◌+◌, refl, ap, ◌∙◌, arith}
+use Rattle.std.specs.FinMap.{contains_key, entries}
 use Rattle.std.proofs.lemmas.Result.{on_ok_weaker}
-use Rattle.frame_player.proofs.Changes.{indexed_absent}
+use Rattle.broad_index.specs.Exchanges.{passed_from_above}
+use Rattle.frame_player.specs.Pairs.{slots_with_bodies}
+use Rattle.frame_player.proofs.Changes.{indexed_absent, entries-bodies_of}
 use Rattle.frame_player.proofs.Counts.{added_few}
 use Rattle.frame_player.proofs.Kept.{few_bodies, added_boxes}
 use Rattle.frame_player.proofs.player.Player.add.Goals as goal
@@ -19,9 +21,19 @@ returns-clause-obeyed g c =
     let added = c.in_ok-add-in-Ok.ensures in
     let bodies = g.B.BroadPhase.bodies c.args.self.now.index in
     let few = added_few bodies c.in-Ok.handle.slot c.args.body (few_bodies bodies c.args.self.now.table.entries playing.boxes playing.table.rising playing.table.few) in
-    on_ok_weaker c.put_add.result (λ text. record {
-      world = search rules;
-      text = search rules;
+    let exchanges = g.B.BroadPhase.exchanges c.args.self.now.index in
+    let live = c.args.self.now.table.entries in
+    on_ok_weaker c.put_add.result (λ _. record {
+      world = record {
+        header = refl;
+        table = given.given;
+        last = refl;
+        frames = refl;
+        exchanges = λ on.
+            added.counted on
+            ∙ ap (λ es. exchanges + passed_from_above es c.in-Ok.handle.slot c.args.body) (ap entries playing.boxes ∙ entries-bodies_of live playing.table.rising)
+            ∙ ap (λ h. exchanges + passed_from_above (slots_with_bodies live) h.slot c.args.body) given.handle;
+      };
       playing = record {
         sound = added.sound;
         boxes = added_boxes _ _ c.args.self.now.table c.give.new.self c.in-Ok.handle c.args.body c.args.masks playing.boxes added.ok given.handle given.given playing.table given.table given.free;

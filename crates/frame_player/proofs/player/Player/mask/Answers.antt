@@ -9,7 +9,6 @@ returns-in-Ok-clause-obeyed g c =
     let after = c.in-Ok.ensures in
     record {
       world = search rules;
-      text = search rules;
       playing = record {
         sound = playing.sound;
         boxes = masked_boxes _ c.args.self.now.table c.set_masks.new.self c.args.handle c.args.masks playing.boxes after.after;

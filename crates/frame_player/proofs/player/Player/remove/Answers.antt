@@ -17,7 +17,6 @@ returns-in-Ok-clause-obeyed g c =
     let taken = c.in-Ok.ensures in
     record {
       world = search rules;
-      text = search rules;
       playing = record {
         sound = c.leave.ensures.spent ∙ playing.sound;
         boxes = removed_boxes _ _ c.args.self.now.table c.take.new.self c.args.handle playing.boxes (c.leave.ensures.gone playing.sound) taken.after playing.table (ap is_some (sym taken.found));

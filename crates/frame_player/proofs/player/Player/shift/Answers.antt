@@ -1,8 +1,10 @@
 -- The table's box moves, and the index follows.
-use Rattle.std.proofs.Common.{rules, ap, ◌∙◌, sym, arith}
+use Rattle.std.proofs.Common.{◌+◌, refl, ap, ◌∙◌, sym, arith}
 use Rattle.std.specs.List.{sum}
-use Rattle.std.specs.FinMap.{contains_key}
-use Rattle.frame_player.proofs.Changes.{indexed_present, lives_small}
+use Rattle.std.specs.FinMap.{contains_key, entries, get}
+use Rattle.broad_index.specs.Exchanges.{passed_from}
+use Rattle.frame_player.specs.Pairs.{bodies_of, slots_with_bodies}
+use Rattle.frame_player.proofs.Changes.{indexed_present, lives_small, entries-bodies_of, found_body}
 use Rattle.frame_player.proofs.Counts.{shifted_few}
 use Rattle.frame_player.proofs.Kept.{few_bodies, moved_boxes, on_shifted}
 use Rattle.frame_player.proofs.player.Player.shift.Goals as goal
@@ -21,9 +23,19 @@ returns-in-Ok-clause-obeyed g c =
     let moved = c.in-Ok.ensures in
     let bodies = g.B.BroadPhase.bodies c.args.self.now.index in
     let few = shifted_few bodies c.args.handle.slot c.args.body (few_bodies bodies c.args.self.now.table.entries playing.boxes playing.table.rising playing.table.few) in
+    let exchanges = g.B.BroadPhase.exchanges c.args.self.now.index in
+    let live = c.args.self.now.table.entries in
     on_shifted c.shift.result c.shift.ensures.sound c.shift.ensures.ok c.shift.ensures.counted (λ sound put passed. record {
-      world = search rules;
-      text = search rules;
+      world = record {
+        header = refl;
+        table = moved.after;
+        last = refl;
+        frames = refl;
+        exchanges = λ on.
+            passed on ∙ ap (λ b. exchanges + passed_from (get b c.args.handle.slot) (entries b) c.args.handle.slot c.args.body) playing.boxes
+            ∙ ap (λ es. exchanges + passed_from (get (bodies_of live) c.args.handle.slot) es c.args.handle.slot c.args.body) (entries-bodies_of live playing.table.rising)
+            ∙ ap (λ o. exchanges + passed_from o (slots_with_bodies live) c.args.handle.slot c.args.body) (found_body c.args.handle live playing.table.rising (sym moved.known));
+      };
       playing = record {
         sound = sound;
         boxes = moved_boxes _ _ c.args.self.now.table c.set_box.new.self c.args.handle c.args.body playing.boxes put moved.after playing.table moved.table moved.known;

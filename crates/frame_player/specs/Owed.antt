@@ -1,0 +1,28 @@
+-- Serves proofs: the answers to queries that are gathered.
+use Rattle.std.specs.Prelude.{◌≡◌, ℕ, ◌<◌, List, [], ◌∷◌, ◌++◌, length}
+use Rattle.live_table.specs.declared.live.Live.{Live}
+use Rattle.broad_index.specs.declared.query.Query.{Query}
+use Rattle.broad_index.specs.Found.{kind_of}
+use Rattle.pair_report.specs.PairReport.{hits_line}
+use Rattle.frame_player.specs.declared.query_run.QueryRun.{QueryRun}
+use Rattle.frame_player.specs.declared.query_run.TheConstants.{LONGEST_RUN}
+use Rattle.frame_player.specs.Pairs.{hits_of}
+
+-- the line of a query
+abbrev pub answer_line : List Live → Query → ℕ → List ℕ
+answer_line entries query mask = hits_line (kind_of query) (hits_of entries query mask)
+
+-- a line for each query, in their order
+abbrev pub answers : List Live → List Query → List ℕ → List ℕ
+answers entries [] masks = []
+answers entries (query ∷ queries) [] = []
+answers entries (query ∷ queries) (mask ∷ masks) = answer_line entries query mask ++ answers entries queries masks
+
+-- what is owed for a run
+abbrev pub owed : List Live → QueryRun → List ℕ
+owed entries run = answers entries run.queries.items run.masks.items
+
+-- each query has its mask, and there is room for one more
+pub record IsRun (run : QueryRun) : Type 0 where
+  pub same : length run.masks.items ≡ length run.queries.items
+  pub few : length run.queries.items < LONGEST_RUN

@@ -1,0 +1,87 @@
+ghost use Rattle.std.specs.Prelude.{◌≡◌, ◌++◌, ◌≤◌, true, Ok, OnOk};
+ghost use Rattle.frame_player.specs.Outlet.{outlet, IsSent};
+ghost use Rattle.frame_player.specs.Owed.{owed, IsRun};
+ghost use Rattle.frame_player.specs.Player.{world_in, IsPlaying, HasRoom, IsObeyed, IsChange};
+ghost use Rattle.frame_player.specs.World.{reply, allowed};
+
+use crate::Options;
+use crate::player::Player;
+use crate::query_run::{QueryRun, gather, settle};
+use crate::writing::hand_on;
+use broad_index::{BroadPhase, Gate, Query};
+use play_io::{Sink, SinkFault};
+use scene_words::Command;
+use std::thread::Threads;
+
+// Does what a line asks for. A query is held, and any other line but a blank one comes after the answers that are owed.
+pub(crate) fn obey<R: Threads + Sync, B: BroadPhase + Sync + Drop, G: Gate + Sync, K: Sink>(
+    rt: &R,
+    options: Options,
+    gate: &G,
+    player: &mut Player<B>,
+    run: &mut QueryRun,
+    command: &Command,
+    sink: &mut K,
+    text: &mut Vec<u8>,
+) -> Result<(), SinkFault>
+    requires workers { (1 ≤ options.workers) × (options.workers ≤ 16) }
+    requires shown { options.exchanges ≡ true → B.COUNTS ≡ true }
+    requires playing { IsPlaying B.bodies B.spent player.old }
+    requires allowed { allowed (world_in B.exchanges player.old) (Ok command.now) ≡ Ok command.now }
+    requires room { HasRoom B.COUNTS B.exchanges player.old }
+    requires run { IsRun run.old }
+    ensures obeyed { OnOk result (IsObeyed B.bodies B.spent B.COUNTS B.exchanges command.now player.old player.new) }
+    ensures sent { IsSent (outlet (K.written sink.old) (K.faults sink.old) (K.since sink.old))
+        (outlet (K.written sink.new) (K.faults sink.new) (K.since sink.new))
+        ((text.old.items ++ owed player.old.table.entries run.old) ++ reply options.exchanges (world_in B.exchanges player.old) command.now)
+        (text.new.items ++ owed player.new.table.entries run.new) result }
+    ensures run { OnOk result (IsRun run.new) }
+{
+    let workers = options.workers;
+    match command {
+        Command::Blank => Ok(()),
+        Command::BoxQ { body, mask } => {
+            gather(rt, workers, gate, player, run, Query::Region(*body), *mask, sink, text)
+        }
+        Command::PointQ { at, mask } => {
+            gather(rt, workers, gate, player, run, Query::Spot(*at), *mask, sink, text)
+        }
+        Command::RayQ { ray, mask } => {
+            gather(rt, workers, gate, player, run, Query::Along(*ray), *mask, sink, text)
+        }
+        Command::SegQ { seg, mask } => {
+            gather(rt, workers, gate, player, run, Query::Between(*seg), *mask, sink, text)
+        }
+        Command::Frame => {
+            settle(rt, workers, gate, player, run, sink, text)?;
+            player.end_frame(rt, options, gate, sink, text)
+        }
+        _ => {
+            settle(rt, workers, gate, player, run, sink, text)?;
+            change(options.exchanges, player, command, sink, text)
+        }
+    }
+}
+
+// Changes the world at once, and hands the reply on.
+#[tactic(auto, using(crate::proofs::Sending::out_of_memory))]
+fn change<B: BroadPhase + Drop, K: Sink>(
+    shows: bool,
+    player: &mut Player<B>,
+    command: &Command,
+    sink: &mut K,
+    text: &mut Vec<u8>,
+) -> Result<(), SinkFault>
+    requires playing { IsPlaying B.bodies B.spent player.old }
+    requires allowed { allowed (world_in B.exchanges player.old) (Ok command.now) ≡ Ok command.now }
+    requires room { HasRoom B.COUNTS B.exchanges player.old }
+    requires change { IsChange command.now }
+    ensures obeyed { OnOk result (IsObeyed B.bodies B.spent B.COUNTS B.exchanges command.now player.old player.new) }
+    ensures sent { IsSent (outlet (K.written sink.old) (K.faults sink.old) (K.since sink.old))
+        (outlet (K.written sink.new) (K.faults sink.new) (K.since sink.new))
+        (text.old.items ++ reply shows (world_in B.exchanges player.old) command.now) text.new.items result }
+{
+    let _ = shows;
+    player.change(command, text)?;
+    hand_on(sink, text)
+}

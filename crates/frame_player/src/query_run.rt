@@ -1,0 +1,177 @@
+ghost use Rattle.std.specs.Prelude.{◌≡◌, ◌+◌, ◌<◌, ◌≤◌, ◌++◌, ◌∷◌, [], length, map, OnOk};
+ghost use Rattle.broad_index.specs.Found.{found};
+ghost use Rattle.live_table.specs.Table.{IsTable};
+ghost use Rattle.frame_player.specs.Outlet.{outlet, IsSent};
+ghost use Rattle.frame_player.specs.Owed.{answer_line, answers, owed, IsRun};
+ghost use Rattle.frame_player.specs.Pairs.{bodies_of};
+ghost use Rattle.frame_player.specs.Player.{IsPlaying};
+
+use crate::handle_lists::push_hits;
+use crate::player::Player;
+use crate::writing::hand_on;
+use broad_index::{BroadPhase, Gate, Query};
+use fixed_box::NoMemory;
+use live_table::{Handle, LiveTable};
+use pair_report::put_hits;
+use par_phase::hits_many;
+use play_io::{Sink, SinkFault};
+use std::alloc::Global;
+use std::thread::Threads;
+
+// The most queries that are answered together.
+pub(crate) const LONGEST_RUN: usize = 256;
+
+// Queries that were read one after another and not answered yet, each with its mask.
+#[derive(Drop)]
+pub(crate) struct QueryRun {
+    pub queries: Vec<Query>,
+    pub masks: Vec<u32>,
+}
+
+impl QueryRun {
+    // A run of no query.
+    pub(crate) fn new(alloc: Global) -> QueryRun
+        ensures queries { result.queries.items ≡ [] }
+        ensures masks { result.masks.items ≡ [] }
+    {
+        QueryRun {
+            queries: Vec::new(alloc),
+            masks: Vec::new(alloc),
+        }
+    }
+
+    // One more query.
+    fn push(&mut self, query: Query, mask: u32) -> Result<(), NoMemory>
+        ensures queries { OnOk result (self.new.queries.items ≡ self.old.queries.items ++ query ∷ []) }
+        ensures masks { OnOk result (self.new.masks.items ≡ self.old.masks.items ++ mask ∷ []) }
+    {
+        self.queries.push(query)?;
+        self.masks.push(mask)?;
+        Ok(())
+    }
+}
+
+// Holds one more query, and answers the run where it is long enough.
+#[tactic(auto, using(crate::proofs::Sending::out_of_memory))]
+pub(crate) fn gather<
+    R: Threads + Sync,
+    B: BroadPhase + Sync + Drop,
+    G: Gate + Sync,
+    K: Sink,
+>(
+    rt: &R,
+    workers: u32,
+    gate: &G,
+    player: &Player<B>,
+    run: &mut QueryRun,
+    query: Query,
+    mask: u32,
+    sink: &mut K,
+    text: &mut Vec<u8>,
+) -> Result<(), SinkFault>
+    requires workers { (1 ≤ workers) × (workers ≤ 16) }
+    requires playing { IsPlaying B.bodies B.spent player.now }
+    requires run { IsRun run.old }
+    ensures sent { IsSent (outlet (K.written sink.old) (K.faults sink.old) (K.since sink.old))
+        (outlet (K.written sink.new) (K.faults sink.new) (K.since sink.new))
+        ((text.old.items ++ owed player.now.table.entries run.old) ++ answer_line player.now.table.entries query mask)
+        (text.new.items ++ owed player.now.table.entries run.new) result }
+    ensures run { OnOk result (IsRun run.new) }
+{
+    run.push(query, mask)?;
+    if run.queries.len() < LONGEST_RUN {
+        return Ok(());
+    }
+    settle(rt, workers, gate, player, run, sink, text)
+}
+
+// Answers a run, by up to so many threads.
+#[tactic(auto, using(crate::proofs::Sending::out_of_memory))]
+pub(crate) fn settle<
+    R: Threads + Sync,
+    B: BroadPhase + Sync + Drop,
+    G: Gate + Sync,
+    K: Sink,
+>(
+    rt: &R,
+    workers: u32,
+    gate: &G,
+    player: &Player<B>,
+    run: &mut QueryRun,
+    sink: &mut K,
+    text: &mut Vec<u8>,
+) -> Result<(), SinkFault>
+    requires workers { (1 ≤ workers) × (workers ≤ 16) }
+    requires playing { IsPlaying B.bodies B.spent player.now }
+    requires same { length run.old.masks.items ≡ length run.old.queries.items }
+    requires few { length run.old.queries.items ≤ LONGEST_RUN }
+    ensures sent { IsSent (outlet (K.written sink.old) (K.faults sink.old) (K.since sink.old))
+        (outlet (K.written sink.new) (K.faults sink.new) (K.since sink.new))
+        (text.old.items ++ owed player.now.table.entries run.old) text.new.items result }
+    ensures queries { OnOk result (run.new.queries.items ≡ []) }
+    ensures masks { OnOk result (run.new.masks.items ≡ []) }
+{
+    let lists = hits_many(rt, player.alloc, &player.index, &run.queries, workers, gate)?;
+    send_answers(player.alloc, &player.table, &run.queries, &run.masks, &lists, sink, text)?;
+    run.queries.clear();
+    run.masks.clear();
+    Ok(())
+}
+
+// A line for each query, from the slots that an index has found for it.
+fn send_answers<K: Sink>(
+    alloc: Global,
+    table: &LiveTable,
+    queries: &[Query],
+    masks: &[u32],
+    lists: &[Vec<u32>],
+    sink: &mut K,
+    text: &mut Vec<u8>,
+) -> Result<(), SinkFault>
+    requires table { IsTable table.now }
+    requires same { length masks.now ≡ length queries.now }
+    requires lists { map (λ l. l.items) lists.now ≡ map (found (bodies_of table.now.entries)) queries.now }
+    ensures { IsSent (outlet (K.written sink.old) (K.faults sink.old) (K.since sink.old))
+        (outlet (K.written sink.new) (K.faults sink.new) (K.since sink.new))
+        (text.old.items ++ answers table.now.entries queries.now masks.now) text.new.items result }
+{
+    let mut handles = Vec::new(alloc);
+    let mut asked = queries;
+    let mut seen = masks;
+    let mut found = lists;
+    'answers: while let Some((query, later)) = asked.split_first() {
+        let Some((mask, later_masks)) = seen.split_first() else {
+            unreachable!()
+        };
+        let Some((slots, later_lists)) = found.split_first() else {
+            unreachable!()
+        };
+        send_answer(table, query, *mask, slots, &mut handles, sink, text)?;
+        asked = later;
+        seen = later_masks;
+        found = later_lists;
+    }
+    Ok(())
+}
+
+// The line of one query. The list of handles is used again and again.
+fn send_answer<K: Sink>(
+    table: &LiveTable,
+    query: &Query,
+    mask: u32,
+    slots: &[u32],
+    handles: &mut Vec<Handle>,
+    sink: &mut K,
+    text: &mut Vec<u8>,
+) -> Result<(), SinkFault>
+    requires table { IsTable table.now }
+    requires found { slots.now ≡ found (bodies_of table.now.entries) query.now }
+    ensures { IsSent (outlet (K.written sink.old) (K.faults sink.old) (K.since sink.old))
+        (outlet (K.written sink.new) (K.faults sink.new) (K.since sink.new))
+        (text.old.items ++ answer_line table.now.entries query.now mask) text.new.items result }
+{
+    handles.clear();
+    push_hits(table, query, mask, slots, handles)?;
+    put_hits(query.kind(), handles, text)?;
+    hand_on(sink, text)
+}
