@@ -1,5 +1,7 @@
-ghost use Rattle.std.specs.Prelude.{◌≡◌, ◌∷◌, [], map, string_bytes};
-ghost use Rattle.broadplay.specs.JobWords.{job};
+ghost use Rattle.std.specs.Prelude.{◌≡◌, ◌≤◌, true, map, string_bytes, IfSome};
+ghost use Rattle.broadplay.specs.JobWords.{job, choices_of, choose, no_choices, job_of, structure_of, workers_of, as_workers, is_digit, counts};
+
+use frame_player::Options;
 
 /// What the program is to do.
 #[derive(Clone, Copy, Debug, PartialEq, Eq)]
@@ -7,27 +9,127 @@ pub enum Task {
     Play,
 }
 
+/// By which structure the boxes are kept.
+#[derive(Clone, Copy, Debug, PartialEq, Eq)]
+pub enum Structure {
+    Plain,
+}
+
 /// What a command line asks for.
 #[derive(Clone, Copy, Debug, PartialEq, Eq)]
 pub struct Job {
     pub task: Task,
+    pub structure: Structure,
+    pub options: Options,
+}
+
+// The options that were named so far.
+#[derive(Clone, Copy)]
+pub(crate) struct Choices {
+    pub structure: Option<Structure>,
+    pub workers: Option<u32>,
 }
 
 /// The job of a command line without the program's name, and `None` where it has no meaning.
 pub fn read_words(words: &[String]) -> Option<Job>
-    ensures { result ≡ job (map string_bytes words.now) }
+    ensures job { result ≡ job (map string_bytes words.now) }
+    ensures workers { IfSome result (λ j. (1 ≤ j.options.workers) × (j.options.workers ≤ 16)) }
+    ensures counted { IfSome result (λ j. j.options.exchanges ≡ true → counts j.structure ≡ true) }
 {
-    match words {
-        [word] => read_task(word.as_str()),
+    let (word, more) = words.split_first()?;
+    if word.as_str() != "play" {
+        return None;
+    }
+    let choices = read_options(more)?;
+    Some(Job {
+        task: Task::Play,
+        structure: choices.structure.unwrap_or(Structure::Plain),
+        options: Options {
+            workers: choices.workers.unwrap_or(1),
+            exchanges: false,
+        },
+    })
+}
+
+// The options in any order, each at most once.
+fn read_options(words: &[String]) -> Option<Choices>
+    ensures choices { result ≡ choices_of no_choices (map string_bytes words.now) }
+    ensures workers { IfSome result (λ c. IfSome c.workers (λ n. (1 ≤ n) × (n ≤ 16))) }
+{
+    let mut choices = Choices {
+        structure: None,
+        workers: None,
+    };
+    let mut rest = words;
+    'options: while let Some((word, more)) = rest.split_first() {
+        let (value, later) = more.split_first()?;
+        choices = choose(choices, word.as_str(), value.as_str())?;
+        rest = later;
+    }
+    Some(choices)
+}
+
+// One option of two words.
+fn choose(choices: Choices, word: &str, value: &str) -> Option<Choices>
+    requires { IfSome choices.workers (λ n. (1 ≤ n) × (n ≤ 16)) }
+    ensures choices { result ≡ choose choices word.now value.now }
+    ensures workers { IfSome result (λ c. IfSome c.workers (λ n. (1 ≤ n) × (n ≤ 16))) }
+{
+    match word {
+        "--with" if choices.structure.is_none() => {
+            let structure = read_structure(value)?;
+            Some(Choices {
+                structure: Some(structure),
+                workers: choices.workers,
+            })
+        }
+        "--workers" if choices.workers.is_none() => {
+            let workers = read_workers(value.as_bytes())?;
+            Some(Choices {
+                structure: choices.structure,
+                workers: Some(workers),
+            })
+        }
         _ => None,
     }
 }
 
-fn read_task(word: &str) -> Option<Job>
-    ensures { result ≡ job (word.now ∷ []) }
+fn read_structure(word: &str) -> Option<Structure>
+    ensures { result ≡ structure_of word.now }
 {
-    if word == "play" {
-        Some(Job { task: Task::Play })
+    if word == "plain" {
+        Some(Structure::Plain)
+    } else {
+        None
+    }
+}
+
+// One or two digits with a value from 1 to 16.
+fn read_workers(word: &[u8]) -> Option<u32>
+    ensures workers { result ≡ workers_of word.now }
+    ensures within { IfSome result (λ n. (1 ≤ n) × (n ≤ 16)) }
+{
+    match word {
+        [a] if is_digit(*a) => as_workers(u32::from(*a) - 48),
+        [a, b] if is_digit(*a) && is_digit(*b) => {
+            as_workers(10 * (u32::from(*a) - 48) + (u32::from(*b) - 48))
+        }
+        _ => None,
+    }
+}
+
+fn is_digit(byte: u8) -> bool
+    ensures { result ≡ is_digit byte }
+{
+    48 <= byte && byte <= 57
+}
+
+fn as_workers(number: u32) -> Option<u32>
+    ensures workers { result ≡ as_workers number }
+    ensures within { IfSome result (λ n. (1 ≤ n) × (n ≤ 16)) }
+{
+    if 1 <= number && number <= 16 {
+        Some(number)
     } else {
         None
     }

@@ -5,14 +5,14 @@ mod job;
 mod run_job;
 
 use frame_player::Status;
-pub use job::{Job, Task, read_words};
+pub use job::{Job, Structure, Task, read_words};
 use play_io::{FileSink, FileSource};
 pub use run_job::broadplay;
 use std::env;
 use std::process::ExitCode;
 use std::rt::Env;
 
-const USAGE: &str = "usage: broadplay play";
+const USAGE: &str = "usage: broadplay play, then --with plain, --workers N";
 
 fn main(rt: HostRuntime) -> ExitCode {
     let status = match words_of(&rt) {
