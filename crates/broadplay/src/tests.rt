@@ -1,10 +1,11 @@
 use super::*;
-use broad_index::PlainIndex;
-use frame_player::{Limits, play};
+use broad_index::{Gate, NoGate, PlainIndex};
+use frame_player::{Limits, Options, play};
 use pair_report::Cause;
 use play_io::{HonestSink, HonestSource, MemSink, MemSource};
 use std::alloc::{AllocError, Global};
 use std::process::Abort;
+use std::sync::atomic::{AtomicBool, AtomicU32, Ordering};
 use std::test::Fail;
 use std::thread::Threads;
 
@@ -125,8 +126,15 @@ fn scenes_give_their_reports(rt: HostRuntime) -> Result<(), Fail> {
             Status::Done,
         ),
     ];
+    let words: [&[&str]; 3] = [
+        &["play"],
+        &["play", "--workers", "4"],
+        &["play", "--workers", "16", "--with", "plain"],
+    ];
     for (scene, report, status) in rows {
-        written(&rt, rt.alloc(), &["play"], scene, report, status)?;
+        for list in words {
+            written(&rt, rt.alloc(), list, scene, report, status)?;
+        }
     }
     Ok(())
 }
@@ -260,10 +268,18 @@ fn faults_end_a_play(rt: HostRuntime) -> Result<(), Fail> {
 
 #[test]
 fn other_command_lines_touch_nothing(rt: HostRuntime) -> Result<(), Fail> {
-    let rows: [&[&str]; 9] = [
+    let rows: [&[&str]; 17] = [
         &[],
         &["--help"],
         &["play", "play"],
+        &["play", "--with"],
+        &["play", "--with", "plane"],
+        &["play", "--with", "plain", "--with", "plain"],
+        &["play", "--workers"],
+        &["play", "--workers", ""],
+        &["play", "--workers", "004"],
+        &["play", "--workers", "1x"],
+        &["play", "--workers", "4", "--workers", "4"],
         &["play", "--with", "sap", "--with", "tree"],
         &["play", "--workers", "0"],
         &["play", "--workers", "17"],
@@ -298,7 +314,12 @@ fn played_within<R: Threads + Sync + Abort>(
         rt,
         alloc,
         index,
+        Options {
+            workers: 1,
+            exchanges: false,
+        },
         Limits { lines: 3 },
+        &NoGate,
         &mut source,
         &mut sink,
     );
@@ -368,4 +389,187 @@ fn a_slot_that_is_free_again_takes_the_next_box(rt: HostRuntime) -> Result<(), F
         report.as_bytes(),
         Status::Done,
     )
+}
+
+// A level with a floor, two crates and a player, and what is reported of it.
+const LEVEL: &[u8] = b"scene 1\n# floor, two crates, a player\nadd -100 -1 -100 100 0 100 1 6\nadd 2 0 2 3 1 3 2 7\nadd 2.5 1 2.5 3.5 2 3.5 2 7\nadd 10 0.5 10 10.8 2.3 10.8 4 3\nframe\nmove 3:0 3 0.5 3 3.8 2.3 3.8\nray 0 1.5 3 1 0 0 4\nframe\nremove 2:0\nframe\n";
+
+// What is written of a scene that is read to its end.
+fn report_of<R: Threads + Sync + Abort>(rt: &R, alloc: Global, scene: &[u8]) -> Result<Vec<u8>, Fail> {
+    let mut list = Vec::new(alloc);
+    list.push(String::from_str(alloc, "play")?)?;
+    let mut source = HonestSource::new(alloc, scene, 1024)?;
+    let mut sink = HonestSink::new(alloc, 1024);
+    let answer = broadplay(rt, alloc, &list, &mut source, &mut sink);
+    assert!(rt; matches!(answer, Status::Done | Status::Refused { .. }));
+    Ok(Vec::from_slice(alloc, sink.bytes())?)
+}
+
+// The bytes up to the last line feed but so many, with it.
+fn lines_before(bytes: &[u8], but: usize) -> &[u8] {
+    let mut end = bytes.len();
+    let mut left = but;
+    for at in (0..bytes.len()).rev() {
+        if bytes[at] == b'\n' {
+            if left == 0 {
+                return &bytes[..at + 1];
+            }
+            left -= 1;
+        }
+        end = at;
+    }
+    &bytes[..end]
+}
+
+#[test]
+fn each_read_that_fails_ends_a_play(rt: HostRuntime) -> Result<(), Fail> {
+    let alloc = rt.alloc();
+    let mut list = Vec::new(alloc);
+    list.push(String::from_str(alloc, "play")?)?;
+    for k in 0..LEVEL.len() + 1 {
+        let mut source = MemSource::new(alloc, LEVEL, 1, &[k as u32])?;
+        let mut sink = MemSink::new(alloc, 1024, &[])?;
+        let answer = broadplay(&rt, alloc, &list, &mut source, &mut sink);
+        let report = report_of(&rt, alloc, lines_before(LEVEL.split_at(k).0, 0))?;
+        assert_eq!(rt; answer, Status::ReadFault);
+        assert_eq!(rt; sink.bytes(), lines_before(&report, 1));
+        assert_eq!(rt; source.calls(), k as u64 + 1);
+    }
+    Ok(())
+}
+
+#[test]
+fn each_write_that_fails_ends_a_play(rt: HostRuntime) -> Result<(), Fail> {
+    let alloc = rt.alloc();
+    let mut list = Vec::new(alloc);
+    list.push(String::from_str(alloc, "play")?)?;
+    let report = report_of(&rt, alloc, LEVEL)?;
+    for k in 0..report.len() + 2 {
+        let mut source = HonestSource::new(alloc, LEVEL, 1024)?;
+        let mut sink = MemSink::new(alloc, 1, &[k as u32])?;
+        let answer = broadplay(&rt, alloc, &list, &mut source, &mut sink);
+        let last = k == report.len() + 1;
+        assert_eq!(rt; answer, if last { Status::Done } else { Status::WriteFault });
+        assert_eq!(rt; sink.bytes(), report.split_at(k.min(report.len())).0);
+        assert_eq!(rt; sink.calls(), (k as u64 + 1).min(report.len() as u64 + 1));
+    }
+    Ok(())
+}
+
+#[test]
+fn a_part_of_a_scene_has_a_part_of_its_report(rt: HostRuntime) -> Result<(), Fail> {
+    let alloc = rt.alloc();
+    for k in 0..LEVEL.len() + 1 {
+        let part = LEVEL.split_at(k).0;
+        let whole_lines = report_of(&rt, alloc, lines_before(part, 0))?;
+        let replies = lines_before(&whole_lines, 1);
+        let report = report_of(&rt, alloc, part)?;
+        assert!(rt; report.starts_with(replies));
+    }
+    Ok(())
+}
+
+// A read fails while answers are owed, and the sink fails on them.
+#[test]
+fn a_read_fault_stays_the_answer(rt: HostRuntime) -> Result<(), Fail> {
+    let scene = b"scene 1\nadd 0 0 0 1 1 1\npoint 0 0 0\nbox 0 0 0 1 1 1\n".as_slice();
+    let end = [scene.len() as u32];
+    let rows = [
+        ([].as_slice(), b"add 0:0\npoint 1 0:0\nbox 1 0:0\n".as_slice()),
+        ([0].as_slice(), b""),
+        ([9].as_slice(), b"add 0:0\np"),
+    ];
+    for (writes, report) in rows {
+        let failing = (end.as_slice(), writes);
+        written_with_faults(&rt, rt.alloc(), scene, failing, report, Status::ReadFault)?;
+    }
+    Ok(())
+}
+
+#[test]
+fn many_lines_pass_through_short_reads(rt: HostRuntime) -> Result<(), Fail> {
+    let alloc = rt.alloc();
+    let mut list = Vec::new(alloc);
+    list.push(String::from_str(alloc, "play")?)?;
+    let mut scene = String::from_str(alloc, "scene 1\n")?;
+    for _ in 0..200_000 {
+        scene.push_str("frame\n")?;
+    }
+    let mut source = HonestSource::new(alloc, scene.as_bytes(), 3)?;
+    let mut sink = HonestSink::new(alloc, 65_536);
+    let answer = broadplay(&rt, alloc, &list, &mut source, &mut sink);
+    assert_eq!(rt; answer, Status::Done);
+    assert!(rt; sink.bytes().ends_with(b"frame 200000 0\nend 200001 200000 0\n"));
+    Ok(())
+}
+
+// More queries than are answered together, with a blank line and a move among them.
+#[test]
+fn a_long_run_of_queries_is_answered_whole(rt: HostRuntime) -> Result<(), Fail> {
+    let alloc = rt.alloc();
+    let mut scene = String::from_str(alloc, "scene 1\nadd 0 0 0 1 1 1\n")?;
+    let mut report = String::from_str(alloc, "add 0:0\n")?;
+    for n in 0..600 {
+        match n {
+            300 => scene.push_str("\n# still here\n")?,
+            400 => scene.push_str("move 0:0 5 5 5 6 6 6\n")?,
+            _ => {}
+        }
+        scene.push_str("point 0 1 0\n")?;
+        report.push_str(if n < 400 { "point 1 0:0\n" } else { "point 0\n" })?;
+    }
+    report.push_str("end 605 0 1\n")?;
+    let words: [&[&str]; 3] = [
+        &["play"],
+        &["play", "--workers", "3"],
+        &["play", "--workers", "16"],
+    ];
+    for list in words {
+        let text = report.as_bytes();
+        written(&rt, alloc, list, scene.as_bytes(), text, Status::Done)?;
+    }
+    Ok(())
+}
+
+// A gate whose two pieces each look for the other.
+#[derive(Drop)]
+struct Meeting {
+    entered: [AtomicBool; 2],
+    met: AtomicU32,
+}
+
+impl Gate for Meeting {
+    fn enter(&self, piece: u32) {
+        let here = (piece & 1) as usize;
+        self.entered[here].store(true, Ordering::SeqCst);
+        for _ in 0..1_000_000_000u64 {
+            if self.entered[1 - here].load(Ordering::SeqCst) {
+                self.met.fetch_add(1, Ordering::SeqCst);
+                return;
+            }
+        }
+    }
+}
+
+#[test]
+fn two_threads_answer_two_queries(rt: HostRuntime) -> Result<(), Fail> {
+    let alloc = rt.alloc();
+    let gate = Meeting {
+        entered: [AtomicBool::new(false), AtomicBool::new(false)],
+        met: AtomicU32::new(0),
+    };
+    let scene = b"scene 1\nadd 0 0 0 1 1 1\npoint 0 0 0\npoint 9 9 9\n";
+    let options = Options {
+        workers: 2,
+        exchanges: false,
+    };
+    let limits = Limits { lines: 9 };
+    let index = PlainIndex::new(alloc)?;
+    let mut source = HonestSource::new(alloc, scene, 1024)?;
+    let mut sink = HonestSink::new(alloc, 1024);
+    let answer = play(&rt, alloc, index, options, limits, &gate, &mut source, &mut sink);
+    assert_eq!(rt; answer, Status::Done);
+    assert_eq!(rt; sink.bytes(), b"add 0:0\npoint 1 0:0\npoint 0\nend 4 0 1\n".as_slice());
+    assert_eq!(rt; gate.met.load(Ordering::SeqCst), 2);
+    Ok(())
 }
