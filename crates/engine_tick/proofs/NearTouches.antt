@@ -1,17 +1,17 @@
 -- The pairs that an index lists are those of the bodies that touch.
-use Rattle.std.proofs.Common.{◌≡◌, ℕ, ◌<◌, Bool, true, false, cond, T, ◌⊎◌, inl, inr, List, [], ◌∷◌, ◌++◌, length, map, Option, Some, None, is_some, unwrap_or, refl, sym, ap, ◌∙◌, subst, arith, slice_index_or}
+use Rattle.std.proofs.Common.{◌≡◌, ℕ, ◌<◌, Bool, true, false, cond, T, ◌⊎◌, inl, inr, List, [], ◌∷◌, ◌++◌, map, Some, None, is_some, unwrap_or, refl, sym, ap, ◌∙◌, subst, arith, slice_index_or}
 use Rattle.std.specs.List.{Contains, filter}
 use Rattle.std.specs.Ordering.{nat_cmp, is_lt, is_eq, eq_by_cmp}
 use Rattle.std.specs.declared.cmp.Ordering.TheVariants.{Less, Equal, Greater}
 use Rattle.std.specs.Cmp.{ranked, first_so, second_so, eq_by_cmp_equiv}
-use Rattle.std.specs.FinMap.{FinMap, entries, entries_sorted, is_sorted, find, get, get-entries}
+use Rattle.std.specs.FinMap.{FinMap, entries, entries_sorted, is_sorted, find, get-entries}
 use Rattle.std.specs.FinMap.Entries.{below_all}
 use Rattle.std.proofs.lemmas.Cmp.{nat_cmp_total}
 use Rattle.std.proofs.lemmas.List.Elements.{Contains-append_left, Contains-append_right, Contains-append_cases}
 use Rattle.fixed_box.specs.Bounds.{Bounds, meets}
 use Rattle.broad_index.specs.declared.pair.Pair.{Pair}
 use Rattle.broad_index.specs.Near.{partners, near_of, near}
-use Rattle.engine_tick.specs.Touching.{DoTouch, AreTouching}
+use Rattle.engine_tick.specs.Touching.{AreTouching}
 
 abbrev Entries : Type 0
 Entries = List (ℕ × Bounds)

@@ -1,5 +1,5 @@
 -- Which pairs of bodies touch, as an engine asks it.
-use Rattle.std.specs.Prelude.{◌≡◌, ℕ, ◌<◌, Bool, true, List, Some}
+use Rattle.std.specs.Prelude.{◌≡◌, ◌<◌, true, List, Some}
 use Rattle.std.specs.List.{Contains}
 use Rattle.std.specs.Ordering.{nat_cmp}
 use Rattle.std.specs.FinMap.{FinMap, get}

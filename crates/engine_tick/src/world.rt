@@ -54,11 +54,7 @@ impl<B: BroadPhase + Drop> World<B> {
     /// Moves bodies to where they are now, and puts the pairs that touch then into `touching`, in rising order.
     ///
     /// What `touching` had is dropped, and its memory serves again. Where a body is moved twice, the later move counts.
-    pub fn tick(
-        &mut self,
-        moved: &[(u32, FBox)],
-        touching: &mut Vec<Pair>,
-    ) -> Result<(), NoMemory>
+    pub fn tick(&mut self, moved: &[(u32, FBox)], touching: &mut Vec<Pair>) -> Result<(), NoMemory>
         requires sound { B.spent self.old.index ≡ false }
         requires small { All (λ m. m.0 < SLOTS) moved.now }
         requires present { All (λ m. map.contains_key (B.bodies self.old.index) m.0 ≡ true) moved.now }
