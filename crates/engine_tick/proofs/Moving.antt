@@ -13,16 +13,21 @@ some_either : (t : Bool) (x : Bounds) (o : Option Bounds) → is_some o ≡ true
 some_either true x o h = refl
 some_either false x o h = h
 
-pub still_there : (bodies : FinMap nat_cmp Bounds) (slot : ℕ) (body : Bounds) (moved : List (ℕ × Bounds))
-    → All (λ m. contains_key bodies m.0 ≡ true) moved → All (λ m. contains_key (insert bodies slot body) m.0 ≡ true) moved
-still_there bodies slot body moved h =
-    All-weaker (λ m. contains_key bodies m.0 ≡ true) (λ m. contains_key (insert bodies slot body) m.0 ≡ true)
-    (λ m there. ap is_some (get-insert nat_cmp_total bodies slot body m.0) ∙ some_either (eq_by_cmp nat_cmp m.0 slot) body (get bodies m.0) there)
+-- where one body is moved, all that were there are there still
+pub still_there : (now next : FinMap nat_cmp Bounds) (m : ℕ × Bounds) (moved : List (ℕ × Bounds)) → next ≡ insert now m.0 m.1
+    → All (λ o. contains_key now o.0 ≡ true) moved → All (λ o. contains_key next o.0 ≡ true) moved
+still_there now next m moved put h =
+    All-weaker (λ o. contains_key now o.0 ≡ true) (λ o. contains_key next o.0 ≡ true)
+    (λ o there.
+    ap (λ bodies. contains_key bodies o.0) put
+    ∙ ap is_some (get-insert nat_cmp_total now m.0 m.1 o.0)
+    ∙ some_either (eq_by_cmp nat_cmp o.0 m.0) m.1 (get now o.0) there)
     moved h
 
--- one more move is made, and the others are still ahead
-pub one_more : (now : FinMap nat_cmp Bounds) (moved : List (ℕ × Bounds)) (i : ℕ) (m : ℕ × Bounds) → i < length moved → m ≡ get_or moved i m
-    → moved_all (insert now m.0 m.1) (drop (i + 1) moved) ≡ moved_all now (drop i moved)
-one_more now moved i m lt is =
-    ap (λ n. moved_all (insert now n.0 n.1) (drop (i + 1) moved)) is
+-- one more move is made, and the others are ahead still
+pub one_more : (now next : FinMap nat_cmp Bounds) (moved : List (ℕ × Bounds)) (i : ℕ) (m : ℕ × Bounds)
+    → i < length moved → m ≡ get_or moved i m → next ≡ insert now m.0 m.1 → moved_all next (drop (i + 1) moved) ≡ moved_all now (drop i moved)
+one_more now next moved i m lt is put =
+    ap (λ bodies. moved_all bodies (drop (i + 1) moved)) put
+    ∙ ap (λ n. moved_all (insert now n.0 n.1) (drop (i + 1) moved)) is
     ∙ ap (moved_all now) (sym (drop_more moved i m lt))

@@ -1,5 +1,6 @@
 -- The pairs that an index lists are those of the bodies that touch.
-use Rattle.std.proofs.Common.{◌≡◌, ℕ, ◌<◌, Bool, true, false, cond, T, ◌⊎◌, inl, inr, List, [], ◌∷◌, ◌++◌, map, Some, None, is_some, unwrap_or, refl, sym, ap, ◌∙◌, subst, arith, slice_index_or}
+use Rattle.std.proofs.Common.{◌≡◌, ℕ, ◌<◌, Bool, true, false, cond, T, ◌⊎◌, inl, inr, List, [], ◌∷◌, ◌++◌, map, Some, None, is_some, unwrap_or, slice_index_or}
+use Rattle.std.proofs.Common.{refl, sym, ap, ◌∙◌, subst, arith}
 use Rattle.std.specs.List.{Contains, filter}
 use Rattle.std.specs.Ordering.{nat_cmp, is_lt, is_eq, eq_by_cmp}
 use Rattle.std.specs.declared.cmp.Ordering.TheVariants.{Less, Equal, Greater}
@@ -91,7 +92,8 @@ partner_first slot body e es met =
     subst (λ t. Contains (map (pair slot) (cond t (e ∷ met_by body es) (met_by body es))) (pair slot e)) (sym met)
     (here (pair slot e) (map (pair slot) (met_by body es)))
 
-partner_later : (slot : ℕ) (body : Bounds) (e : ℕ × Bounds) (es : Entries) (p : Pair) → Contains (partners slot body es) p → Contains (partners slot body (e ∷ es)) p
+partner_later : (slot : ℕ) (body : Bounds) (e : ℕ × Bounds) (es : Entries) (p : Pair)
+    → Contains (partners slot body es) p → Contains (partners slot body (e ∷ es)) p
 partner_later slot body e es p h = elim (meets body e.1) as (λ t. Contains (map (pair slot) (cond t (e ∷ met_by body es) (met_by body es))) p) [
   | true ↦ there (pair slot e) (map (pair slot) (met_by body es)) p h
   | false ↦ h
@@ -106,7 +108,8 @@ partner_cases slot body e es p h =
       | false ↦ λ h. inr h
     ] h
 
-in_partners : (slot b : ℕ) (x y : Bounds) (es : Entries) → find nat_cmp b es ≡ Some y → meets x y ≡ true → Contains (partners slot x es) (record { a = slot; b = b })
+in_partners : (slot b : ℕ) (x y : Bounds) (es : Entries)
+    → find nat_cmp b es ≡ Some y → meets x y ≡ true → Contains (partners slot x es) (record { a = slot; b = b })
 in_partners slot b x y [] f met = absurd (some_or_none y f)
 in_partners slot b x y (e ∷ es) f met =
     elim (eq_by_cmp nat_cmp b e.0) as
@@ -148,7 +151,8 @@ in_near : (p : Pair) (x y : Bounds) (es : Entries)
     → is_sorted nat_cmp es ≡ true → p.a < p.b → find nat_cmp p.a es ≡ Some x → find nat_cmp p.b es ≡ Some y → meets x y ≡ true → Contains (near_of es) p
 in_near p x y [] s lt f g met = absurd (some_or_none x f)
 in_near p x y (e ∷ es) s lt f g met =
-    elim (eq_by_cmp nat_cmp p.a e.0) as (λ t. eq_by_cmp nat_cmp p.a e.0 ≡ t → cond t (Some e.1) (find nat_cmp p.a es) ≡ Some x → Contains (near_of (e ∷ es)) p) [
+    elim (eq_by_cmp nat_cmp p.a e.0) as
+    (λ t. eq_by_cmp nat_cmp p.a e.0 ≡ t → cond t (Some e.1) (find nat_cmp p.a es) ≡ Some x → Contains (near_of (e ∷ es)) p) [
       | true ↦ λ t f.
           let same : p.a ≡ e.0 = eq_from p.a e.0 t in
           let above : e.0 < p.b = omega arith in
@@ -210,7 +214,10 @@ near_touches : (bodies : FinMap nat_cmp Bounds) → AreTouching bodies (near bod
 near_touches bodies =
     let s : is_sorted nat_cmp (entries bodies) ≡ true = true_from _ (entries_sorted bodies) in
     record {
-      none_missed = λ p t. in_near p t.first t.second (entries bodies) s t.order (sym (get-entries bodies p.a) ∙ t.has_first) (sym (get-entries bodies p.b) ∙ t.has_second) t.met;
+      none_missed = λ p t.
+          let first = sym (get-entries bodies p.a) ∙ t.has_first in
+          let second = sym (get-entries bodies p.b) ∙ t.has_second in
+          in_near p t.first t.second (entries bodies) s t.order first second t.met;
       no_other = λ p h.
           let r = of_near (entries bodies) p s h in
           record {
@@ -224,6 +231,7 @@ near_touches bodies =
     }
 
 -- as an index appends them to an empty list
-pub listed_touch : (old new : FinMap nat_cmp Bounds) (before listed : List Pair) → before ≡ [] → new ≡ old → listed ≡ before ++ near old → AreTouching new listed
+pub listed_touch : (old new : FinMap nat_cmp Bounds) (before listed : List Pair)
+    → before ≡ [] → new ≡ old → listed ≡ before ++ near old → AreTouching new listed
 listed_touch old new before listed none same is =
     subst (AreTouching new) (sym (is ∙ ap (λ b. b ++ near old) none ∙ ap near (sym same))) (near_touches new)
