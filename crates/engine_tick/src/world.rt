@@ -1,0 +1,96 @@
+ghost use Rattle.std.specs.Prelude.{◌≡◌, ◌++◌, ◌<◌, [], true, false, OnOk, OnErr};
+ghost use Rattle.std.specs.FinMap as map;
+ghost use Rattle.std.specs.List.{All};
+ghost use Rattle.broad_index.specs.Found.{found};
+ghost use Rattle.broad_index.specs.Near.{near};
+ghost use Rattle.engine_tick.specs.Moves.{moved_all};
+ghost use Rattle.engine_tick.specs.Touching.{AreTouching};
+
+use broad_index::{BroadPhase, Pair, Query};
+use fixed_box::{FBox, NoMemory, SLOTS};
+
+/// Where an engine's bodies are: a box for each of them, under a slot that the engine has chosen.
+///
+/// Each call but `hits` asks that memory hasn't run out in a change yet. A caller that was answered want of memory by
+/// `enter` or `tick` can't show that: it drops the world, makes another over a new index, and lets its bodies enter it.
+#[derive(Drop)]
+pub struct World<B: Drop> {
+    /// The structure that looks for pairs.
+    pub index: B,
+}
+
+impl<B: BroadPhase + Drop> World<B> {
+    /// A world with the boxes of an index.
+    pub fn new(index: B) -> World<B>
+        ensures { result.index ≡ index }
+    {
+        World { index }
+    }
+
+    /// A body comes in, under a slot that has none.
+    pub fn enter(&mut self, slot: u32, body: FBox) -> Result<(), NoMemory>
+        requires sound { B.spent self.old.index ≡ false }
+        requires small { slot < SLOTS }
+        requires absent { map.contains_key (B.bodies self.old.index) slot ≡ false }
+        ensures entered { OnOk result (B.bodies self.new.index ≡ map.insert (B.bodies self.old.index) slot body) }
+        ensures sound { OnOk result (B.spent self.new.index ≡ false) }
+    {
+        // No count of exchanges is wanted here, and one that begins anew has room.
+        self.index.clear_exchanges();
+        self.index.add(slot, body)
+    }
+
+    /// A body goes out.
+    pub fn leave(&mut self, slot: u32)
+        requires sound { B.spent self.old.index ≡ false }
+        requires small { slot < SLOTS }
+        requires present { map.contains_key (B.bodies self.old.index) slot ≡ true }
+        ensures gone { B.bodies self.new.index ≡ map.remove (B.bodies self.old.index) slot }
+        ensures sound { B.spent self.new.index ≡ false }
+    {
+        self.index.leave(slot);
+    }
+
+    /// Moves bodies to where they are now, and puts the pairs that touch then into `touching`, in rising order.
+    ///
+    /// What `touching` had is dropped, and its memory serves again. Where a body is moved twice, the later move counts.
+    pub fn tick(&mut self, moved: &[(u32, FBox)], touching: &mut Vec<Pair>) -> Result<(), NoMemory>
+        requires sound { B.spent self.old.index ≡ false }
+        requires small { All (λ m. m.0 < SLOTS) moved.now }
+        requires present { All (λ m. map.contains_key (B.bodies self.old.index) m.0 ≡ true) moved.now }
+        // The bodies are where the moves put them.
+        ensures moved { OnOk result (B.bodies self.new.index ≡ moved_all (B.bodies self.old.index) moved.now) }
+        // No pair of bodies that touch is missed, and no other pair is told.
+        ensures touching { OnOk result (AreTouching (B.bodies self.new.index) touching.new.items) }
+        ensures in_order { OnOk result (touching.new.items ≡ near (B.bodies self.new.index)) }
+        ensures sound { OnOk result (B.spent self.new.index ≡ false) }
+        ensures err { OnErr result (touching.new.items ≡ []) }
+    {
+        touching.clear();
+        self.move_all(moved)?;
+        self.index.pairs(touching)
+    }
+
+    /// Appends the bodies that meet a query, in rising order of their slots. After an `Err` all is as before.
+    pub fn hits(&self, query: &Query, met: &mut Vec<u32>) -> Result<(), NoMemory>
+        ensures met { OnOk result (met.new.items ≡ met.old.items ++ found (B.bodies self.now.index) query.now) }
+        ensures err { OnErr result (met.new.items ≡ met.old.items) }
+    {
+        self.index.hits(query, met)
+    }
+
+    // Moves one body after the other.
+    fn move_all(&mut self, moved: &[(u32, FBox)]) -> Result<(), NoMemory>
+        requires sound { B.spent self.old.index ≡ false }
+        requires small { All (λ m. m.0 < SLOTS) moved.now }
+        requires present { All (λ m. map.contains_key (B.bodies self.old.index) m.0 ≡ true) moved.now }
+        ensures moved { OnOk result (B.bodies self.new.index ≡ moved_all (B.bodies self.old.index) moved.now) }
+        ensures sound { OnOk result (B.spent self.new.index ≡ false) }
+    {
+        for one in moved {
+            self.index.clear_exchanges();
+            self.index.shift(one.0, one.1)?;
+        }
+        Ok(())
+    }
+}
