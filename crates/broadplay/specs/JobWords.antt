@@ -1,5 +1,6 @@
 -- What a command line asks for.
-use Rattle.std.specs.Prelude.{ℕ, ◌+◌, ◌*◌, ◌-◌, Bool, false, ◌&&◌, nat_le, List, [], ◌∷◌, codes, bytes_eq, if◌then◌else◌, is_some, unwrap_or, option_map, Option, Some, None}
+use Rattle.std.specs.Prelude.{ℕ, ◌+◌, ◌*◌, ◌-◌, Bool, false, ◌&&◌, nat_le, List, []}
+use Rattle.std.specs.Prelude.{◌∷◌, codes, bytes_eq, if◌then◌else◌, is_some, unwrap_or, option_map, Option, Some, None}
 use Rattle.broadplay.specs.declared.job.Choices.{Choices}
 use Rattle.broadplay.specs.declared.job.Job.{Job}
 use Rattle.broadplay.specs.declared.job.Structure.{Structure}
@@ -56,7 +57,8 @@ no_choices = record { structure = None; workers = None }
 
 -- What is left out is the plain list and one worker.
 abbrev pub job_of : Choices → Job
-job_of choices = record { task = Play; structure = unwrap_or choices.structure Plain; options = record { workers = unwrap_or choices.workers 1; exchanges = false } }
+job_of choices = record { task = Play; structure = unwrap_or choices.structure Plain; options = record { workers = unwrap_or choices.workers 1;
+    exchanges = false } }
 
 -- The word `play` and its options are the job to play a scene. No other list of words has a meaning.
 abbrev pub job : List (List ℕ) → Option Job

@@ -1,5 +1,6 @@
 -- A table keeps what it keeps.
-use Rattle.std.proofs.Common.{◌≡◌, ◌≢◌, ℕ, zero, suc, ◌+◌, ◌-◌, ◌<◌, ◌≤◌, Bool, List, [], ◌∷◌, length, get_or, set, Option, None, Some, is_some, cond, ◌==◌, refl, sym, ap, ◌∙◌, arith, subst, false, true, inl, inr, count_by, map}
+use Rattle.std.proofs.Common.{◌≡◌, ◌≢◌, ℕ, zero, suc, ◌+◌, ◌-◌, ◌<◌, ◌≤◌, Bool, List, [], ◌∷◌, length, get_or, set, Option}
+use Rattle.std.proofs.Common.{None, Some, is_some, cond, ◌==◌, refl, sym, ap, ◌∙◌, arith, subst, false, true, inl, inr, count_by, map}
 use Rattle.std.specs.List.{filter}
 use Rattle.std.proofs.lemmas.List.{get_or_read, get_or-set_same, get_or-set_other, length-set}
 use Rattle.std.proofs.lemmas.List.Sums.{count_by-le-length, sum_by-set, sum_by-cons}

@@ -1,5 +1,6 @@
 -- Rings of links in arrays, one for each bucket.
-use Rattle.std.proofs.Common.{◌≡◌, ◌≢◌, ℕ, zero, suc, ◌+◌, ◌<◌, ◌≤◌, Bool, List, [], ◌∷◌, ◌++◌, length, get_or, set, Option, None, Some, cond, ◌||◌, ◌==◌, refl, sym, ap, ◌∙◌, arith, subst, append-nil, append_assoc, false, true, inl, inr, nat_lt}
+use Rattle.std.proofs.Common.{◌≡◌, ◌≢◌, ℕ, zero, suc, ◌+◌, ◌<◌, ◌≤◌, Bool, List, [], ◌∷◌, ◌++◌, length, get_or, set, Option}
+use Rattle.std.proofs.Common.{None, Some, cond, ◌||◌, ◌==◌, refl, sym, ap, ◌∙◌, arith, subst, append-nil, append_assoc, false, true, inl, inr, nat_lt}
 use Rattle.std.proofs.lemmas.List.{get_or-set_same, get_or-set_other, length-set}
 use Rattle.std.proofs.lemmas.Map.Steps.{length-le_from_distinct_below}
 use Rattle.std.specs.List.{IsDistinct, AllByRecursion, list_any, filter}

@@ -1,5 +1,6 @@
 -- This file only serves proofs: the rings of links that keep the slots of each bucket, and the numbers of each level.
-use Rattle.std.specs.Prelude.{◌≡◌, ◌≢◌, ℕ, zero, suc, ◌+◌, ◌*◌, ◌/◌, ◌%◌, ◌<◌, Bool, false, ◌==◌, nat_lt, List, [], ◌∷◌, length, slice_index, slice_index_or, slice_set, map, filter, count_by, Option, None, Some, if◌then◌else◌}
+use Rattle.std.specs.Prelude.{◌≡◌, ◌≢◌, ℕ, zero, suc, ◌+◌, ◌*◌, ◌/◌, ◌%◌, ◌<◌, Bool, false, ◌==◌, nat_lt}
+use Rattle.std.specs.Prelude.{List, [], ◌∷◌, length, slice_index, slice_index_or, slice_set, map, filter, count_by, Option, None, Some, if◌then◌else◌}
 use Rattle.std.specs.Int.{cast_unsigned, w32}
 use Rattle.fixed_box.specs.declared.TheConstants.{SLOTS}
 use Rattle.cell_table.specs.declared.TheConstants.{BUCKETS, LEVELS}

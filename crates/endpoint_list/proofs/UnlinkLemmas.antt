@@ -4,7 +4,8 @@ use Rattle.std.proofs.lemmas.List.{get_or-set_same, get_or-set_other, length-set
 use Rattle.std.proofs.lemmas.Bool.{cases_eq}
 use Rattle.endpoint_list.specs.declared.TheConstants.{NODES}
 use Rattle.endpoint_list.specs.Links.{Fresh, Distinct, Links, Below, IsKept, unlinked_next, unlinked_prev}
-use Rattle.endpoint_list.proofs.NodeLemmas.{Below-weaker, Below-Fresh, Below-left, Below-right, Below-without, Distinct-left, Distinct-right, Distinct-apart, Distinct-without, Fresh-append, Fresh-left, Fresh-right}
+use Rattle.endpoint_list.proofs.NodeLemmas.{Below-weaker, Below-Fresh, Below-left, Below-right, Below-without, Distinct-left}
+use Rattle.endpoint_list.proofs.NodeLemmas.{Distinct-right, Distinct-apart, Distinct-without, Fresh-append, Fresh-left, Fresh-right}
 use Rattle.endpoint_list.proofs.LinkLemmas.{before_end, before_end_fresh, retarget_last, frame_next, frame_prev, Links-append, Links-left, Links-right}
 
 -- the links around the node join

@@ -18,7 +18,8 @@ shown_alike false x y same = refl
 
 module _ (shows : Bool) (limit : ℕ) where
   abbrev IsPlayAlike : List (List ℕ) → Type 0
-  IsPlayAlike lines = (w : World) (x n : ℕ) → (shows ≡ true → x ≡ w.exchanges) → play_from shows limit (record w { exchanges = x }) n lines ≡ play_from shows limit w n lines
+  IsPlayAlike lines = (w : World) (x n : ℕ) → (shows ≡ true → x ≡ w.exchanges)
+      → play_from shows limit (record w { exchanges = x }) n lines ≡ play_from shows limit w n lines
 
   -- one command
   step_alike : (more : List (List ℕ)) → IsPlayAlike more → (w : World) (x n : ℕ) → (shows ≡ true → x ≡ w.exchanges) → (c : Command)
@@ -27,9 +28,11 @@ module _ (shows : Bool) (limit : ℕ) where
   step_alike more rest w x n same Blank = ap (reply_first []) (rest w x n same)
   step_alike more rest w x n same (Header version) = ap (reply_first []) (rest (after w (Header version)) x n same)
   step_alike more rest w x n same (Add body masks) =
-      ap (reply_first (reply shows w (Add body masks))) (rest (after w (Add body masks)) (x + exchanges_of_add w body) n (λ s. ap (λ y. y + exchanges_of_add w body) (same s)))
+      ap (reply_first (reply shows w (Add body masks))) (rest (after w (Add body masks)) (x + exchanges_of_add w body) n
+          (λ s. ap (λ y. y + exchanges_of_add w body) (same s)))
   step_alike more rest w x n same (Move handle body) =
-      ap (reply_first (reply shows w (Move handle body))) (rest (after w (Move handle body)) (x + exchanges_of_move w handle body) n (λ s. ap (λ y. y + exchanges_of_move w handle body) (same s)))
+      ap (reply_first (reply shows w (Move handle body))) (rest (after w (Move handle body)) (x + exchanges_of_move w handle body) n
+          (λ s. ap (λ y. y + exchanges_of_move w handle body) (same s)))
   step_alike more rest w x n same (Mask handle masks) = ap (reply_first (reply shows w (Mask handle masks))) (rest (after w (Mask handle masks)) x n same)
   step_alike more rest w x n same (Remove handle) = ap (reply_first (reply shows w (Remove handle))) (rest (after w (Remove handle)) x n same)
   step_alike more rest w x n same Frame =
@@ -45,7 +48,8 @@ module _ (shows : Bool) (limit : ℕ) where
   with_exchanges (line ∷ more) w x n same =
       let u : World = record w { exchanges = x } in
       ap (λ a. step shows u n a (λ v. play_from shows limit v (n + 1) more)) (asked_alike limit w x n line)
-      ∙ elim (asked limit w n line) as (λ a. step shows u n a (λ v. play_from shows limit v (n + 1) more) ≡ step shows w n a (λ v. play_from shows limit v (n + 1) more)) [
+      ∙ elim (asked limit w n line) as (λ a. step shows u n a (λ v. play_from shows limit v (n + 1) more) ≡ step shows w n a
+          (λ v. play_from shows limit v (n + 1) more)) [
         | Ok c ↦ step_alike more (with_exchanges more) w x (n + 1) same c
         | Err c ↦ refl
       ]

@@ -1,11 +1,13 @@
 -- What an index holds after a change of the live boxes.
-use Rattle.std.proofs.Common.{◌≡◌, ◌≢◌, ℕ, suc, ◌<◌, Bool, true, false, cond, not, T, List, [], ◌∷◌, length, Option, Some, None, is_some, option_map, refl, sym, ap, ◌∙◌, subst, arith, nat_eq, nat_lt}
+use Rattle.std.proofs.Common.{◌≡◌, ◌≢◌, ℕ, suc, ◌<◌, Bool, true, false, cond, not, T, List, [], ◌∷◌}
+use Rattle.std.proofs.Common.{length, Option, Some, None, is_some, option_map, refl, sym, ap, ◌∙◌, subst, arith, nat_eq, nat_lt}
 use Rattle.std.specs.List.{list_all, All}
 use Rattle.std.specs.Ordering.{nat_cmp, is_lt, is_eq, eq_by_cmp}
 use Rattle.std.specs.declared.cmp.Ordering.TheVariants.{Less, Equal, Greater}
 use Rattle.std.specs.Cmp.{first_so, second_so, nat_cmp_is, eq_by_cmp_equiv, alike_right}
 use Rattle.std.specs.Cmp.Derive.{both_true}
-use Rattle.std.specs.FinMap.{FinMap, get, entries, entries-insert, entries-from_sorted, from_sorted, is_sorted, insert, remove, find, put, contains_key, get-from_sorted, get-remove, same_entries_map, same_map, nat_cmp-IsAntisymmetric, empty, empty_of_len, len-entries}
+use Rattle.std.specs.FinMap.{FinMap, get, entries, entries-insert, entries-from_sorted, from_sorted, is_sorted, insert, remove, find}
+use Rattle.std.specs.FinMap.{put, contains_key, get-from_sorted, get-remove, same_entries_map, same_map, nat_cmp-IsAntisymmetric, empty, empty_of_len, len-entries}
 use Rattle.std.specs.FinMap.Entries.{below_all, where_key, is_sorted-where_key, find-where_key}
 use Rattle.std.proofs.lemmas.Bool.{eqb-true}
 use Rattle.std.proofs.lemmas.Bool.Decides.{nat_tests}
@@ -56,14 +58,19 @@ pub bodies_of-nil : bodies_of [] ≡ empty {K = ℕ} {X = Bounds} {R = nat_cmp}
 bodies_of-nil = empty_of_len _ (len-entries _ ∙ ap length (entries-from_sorted {X = Bounds} nat_cmp [] tt))
 
 -- a map of entries with one put in
-put_indexed : (es fs : List Live) (slot : ℕ) (body : Bounds) → rises es ≡ true → rises fs ≡ true → put nat_cmp slot body (slots_with_bodies es) ≡ slots_with_bodies fs → insert (bodies_of es) slot body ≡ bodies_of fs
-put_indexed es fs slot body r s e = same_entries_map _ _ (entries-insert nat_cmp_total (bodies_of es) slot body ∙ ap (put nat_cmp slot body) (entries-bodies_of es r) ∙ e ∙ sym (entries-bodies_of fs s))
+put_indexed : (es fs : List Live) (slot : ℕ) (body : Bounds) → rises es ≡ true → rises fs ≡ true
+    → put nat_cmp slot body (slots_with_bodies es) ≡ slots_with_bodies fs → insert (bodies_of es) slot body ≡ bodies_of fs
+put_indexed es fs slot body r s e =
+    same_entries_map _ _ (entries-insert nat_cmp_total (bodies_of es) slot body ∙ ap (put nat_cmp slot body) (entries-bodies_of es r) ∙ e
+    ∙ sym (entries-bodies_of fs s))
 
 -- a new box
-put_entered : (es : List Live) (new : Live) → list_all (λ o. not (nat_eq (slot_of o) (slot_of new))) es ≡ true → put nat_cmp (slot_of new) new.body (slots_with_bodies es) ≡ slots_with_bodies (entered new es)
+put_entered : (es : List Live) (new : Live) → list_all (λ o. not (nat_eq (slot_of o) (slot_of new))) es ≡ true
+    → put nat_cmp (slot_of new) new.body (slots_with_bodies es) ≡ slots_with_bodies (entered new es)
 put_entered [] new free = refl
 put_entered (e ∷ es) new free =
-    elim (nat_lt (slot_of e) (slot_of new)) as (λ t. nat_lt (slot_of e) (slot_of new) ≡ t → put nat_cmp (slot_of new) new.body (slots_with_bodies (e ∷ es)) ≡ slots_with_bodies (cond t (e ∷ entered new es) (new ∷ e ∷ es))) [
+    elim (nat_lt (slot_of e) (slot_of new)) as (λ t. nat_lt (slot_of e) (slot_of new) ≡ t
+        → put nat_cmp (slot_of new) new.body (slots_with_bodies (e ∷ es)) ≡ slots_with_bodies (cond t (e ∷ entered new es) (new ∷ e ∷ es))) [
       | true ↦ λ lt. rw (greater (slot_of new) (slot_of e) (lt_of _ _ lt)) (ap (λ xs. (slot_of e, e.body) ∷ xs) (put_entered es new (second_so _ _ free)))
       | false ↦ λ ge. rw (less (slot_of new) (slot_of e) (apart (slot_of e) (slot_of new) ge (first_so _ _ free))) refl
     ] refl
@@ -78,7 +85,8 @@ free_slots (e ∷ es) slot free = both_true (differs (slot_of e) slot (free 0 e 
     differs : (x y : ℕ) → x ≢ y → not (nat_eq x y) ≡ true
     differs x y h = grind (arith, nat_tests)
 
-pub insert-entered : (es : List Live) (new : Live) → rises es ≡ true → rises (entered new es) ≡ true → IsLeastFree (slot_of new) es → insert (bodies_of es) (slot_of new) new.body ≡ bodies_of (entered new es)
+pub insert-entered : (es : List Live) (new : Live) → rises es ≡ true → rises (entered new es) ≡ true → IsLeastFree (slot_of new) es
+    → insert (bodies_of es) (slot_of new) new.body ≡ bodies_of (entered new es)
 insert-entered es new r s free = put_indexed es (entered new es) (slot_of new) new.body r s (put_entered es new (free_slots es (slot_of new) free.free))
 
 absent_slot : (es : List Live) (slot : ℕ) → list_all (λ o. not (nat_eq (slot_of o) slot)) es ≡ true → find nat_cmp slot (slots_with_bodies es) ≡ None
@@ -95,7 +103,8 @@ absent_slot (e ∷ es) slot free = rw (apart slot (slot_of e) (first_so _ _ free
     ] refl
 
 pub indexed_absent : (es : List Live) (slot : ℕ) → rises es ≡ true → IsLeastFree slot es → contains_key (bodies_of es) slot ≡ false
-indexed_absent es slot r free = ap is_some (get-from_sorted nat_cmp (slots_with_bodies es) slot (sorted es r) ∙ absent_slot es slot (free_slots es slot free.free))
+indexed_absent es slot r free =
+    ap is_some (get-from_sorted nat_cmp (slots_with_bodies es) slot (sorted es r) ∙ absent_slot es slot (free_slots es slot free.free))
 
 -- a live box's handle
 abbrev lives : Handle → List Live → Bool
@@ -141,25 +150,31 @@ body_above : (h : Handle) (body : Bounds) (es : List Live) → above h.slot es �
 body_above h body [] up = refl
 body_above h body (e ∷ es) up = rw (not_above h e (first_so _ _ up)) (ap (λ xs. (slot_of e, e.body) ∷ xs) (body_above h body es (second_so _ _ up)))
 
-put_body : (h : Handle) (body : Bounds) (es : List Live) → rises es ≡ true → lives h es ≡ true → put nat_cmp h.slot body (slots_with_bodies es) ≡ slots_with_bodies (with_body h body es)
+put_body : (h : Handle) (body : Bounds) (es : List Live) → rises es ≡ true → lives h es ≡ true
+    → put nat_cmp h.slot body (slots_with_bodies es) ≡ slots_with_bodies (with_body h body es)
 put_body h body [] r some = cc
 put_body h body (e ∷ es) r some =
     elim (has h e) as (λ t. has h e ≡ t → is_some (cond t (Some e) (entry_at h es)) ≡ true
-    → put nat_cmp h.slot body (slots_with_bodies (e ∷ es)) ≡ (slot_of (cond t (record e { body = body }) e), (cond t (record e { body = body }) e).body) ∷ slots_with_bodies (with_body h body es)) [
+    → put nat_cmp h.slot body (slots_with_bodies (e ∷ es)) ≡ (slot_of (cond t (record e { body = body }) e), (cond t (record e { body = body }) e).body) ∷
+        slots_with_bodies (with_body h body es)) [
       | true ↦ λ is _.
           let same : slot_of e ≡ h.slot = same_slot h e is in
-          rw (equal h.slot (slot_of e) (sym same)) (ap (λ xs. (slot_of e, body) ∷ xs) (sym (body_above h body es (subst (λ s. above s es ≡ true) same (first_so _ _ r)))))
+          rw (equal h.slot (slot_of e) (sym same))
+              (ap (λ xs. (slot_of e, body) ∷ xs) (sym (body_above h body es (subst (λ s. above s es ≡ true) same (first_so _ _ r)))))
       | false ↦ λ _ later.
-          rw (greater h.slot (slot_of e) (lives_above h es (slot_of e) later (first_so _ _ r))) (ap (λ xs. (slot_of e, e.body) ∷ xs) (put_body h body es (second_so _ _ r) later))
+          rw (greater h.slot (slot_of e) (lives_above h es (slot_of e) later (first_so _ _ r)))
+              (ap (λ xs. (slot_of e, e.body) ∷ xs) (put_body h body es (second_so _ _ r) later))
     ] refl some
 
-pub insert-with_body : (h : Handle) (body : Bounds) (es : List Live) → rises es ≡ true → rises (with_body h body es) ≡ true → lives h es ≡ true → insert (bodies_of es) h.slot body ≡ bodies_of (with_body h body es)
+pub insert-with_body : (h : Handle) (body : Bounds) (es : List Live) → rises es ≡ true → rises (with_body h body es) ≡ true → lives h es ≡ true
+    → insert (bodies_of es) h.slot body ≡ bodies_of (with_body h body es)
 insert-with_body h body es r s some = put_indexed es (with_body h body es) h.slot body r s (put_body h body es r some)
 
 found_slot : (h : Handle) (es : List Live) → rises es ≡ true → lives h es ≡ true → is_some (find nat_cmp h.slot (slots_with_bodies es)) ≡ true
 found_slot h [] r some = cc
 found_slot h (e ∷ es) r some =
-    elim (has h e) as (λ t. has h e ≡ t → is_some (cond t (Some e) (entry_at h es)) ≡ true → is_some (find nat_cmp h.slot (slots_with_bodies (e ∷ es))) ≡ true) [
+    elim (has h e) as (λ t. has h e ≡ t → is_some (cond t (Some e) (entry_at h es)) ≡ true
+        → is_some (find nat_cmp h.slot (slots_with_bodies (e ∷ es))) ≡ true) [
       | true ↦ λ is _. rw (equal h.slot (slot_of e) (sym (same_slot h e is))) refl
       | false ↦ λ _ later. rw (greater h.slot (slot_of e) (lives_above h es (slot_of e) later (first_so _ _ r))) (found_slot h es (second_so _ _ r) later)
     ] refl some
@@ -173,7 +188,8 @@ bodies_of-with_masks h masks es = ap (λ xs. from_sorted {R = nat_cmp} xs) (same
   where
     same : (es : List Live) → slots_with_bodies (with_masks h masks es) ≡ slots_with_bodies es
     same [] = refl
-    same (e ∷ es) = elim (has h e) as (λ t. (slot_of (cond t (record e { masks = masks }) e), (cond t (record e { masks = masks }) e).body) ∷ slots_with_bodies (with_masks h masks es) ≡ (slot_of e, e.body) ∷ slots_with_bodies es) [
+    same (e ∷ es) = elim (has h e) as (λ t. (slot_of (cond t (record e { masks = masks }) e), (cond t (record e { masks = masks }) e).body) ∷
+        slots_with_bodies (with_masks h masks es) ≡ (slot_of e, e.body) ∷ slots_with_bodies es) [
       | true ↦ ap (λ xs. (slot_of e, e.body) ∷ xs) (same es)
       | false ↦ ap (λ xs. (slot_of e, e.body) ∷ xs) (same es)
     ]
@@ -182,12 +198,15 @@ bodies_of-with_masks h masks es = ap (λ xs. from_sorted {R = nat_cmp} xs) (same
 abbrev other_than : ℕ → ℕ → Bool
 other_than k x = not (eq_by_cmp nat_cmp k x)
 
-left_above : (h : Handle) (es : List Live) → above h.slot es ≡ true → where_key nat_cmp (other_than h.slot) (slots_with_bodies es) ≡ slots_with_bodies (without h es)
+left_above : (h : Handle) (es : List Live) → above h.slot es ≡ true
+    → where_key nat_cmp (other_than h.slot) (slots_with_bodies es) ≡ slots_with_bodies (without h es)
 left_above h [] up = refl
 left_above h (e ∷ es) up =
-    rw (not_above h e (first_so _ _ up), less h.slot (slot_of e) (lt_of _ _ (first_so _ _ up))) (ap (λ xs. (slot_of e, e.body) ∷ xs) (left_above h es (second_so _ _ up)))
+    rw (not_above h e (first_so _ _ up), less h.slot (slot_of e) (lt_of _ _ (first_so _ _ up)))
+        (ap (λ xs. (slot_of e, e.body) ∷ xs) (left_above h es (second_so _ _ up)))
 
-left_out : (h : Handle) (es : List Live) → rises es ≡ true → lives h es ≡ true → where_key nat_cmp (other_than h.slot) (slots_with_bodies es) ≡ slots_with_bodies (without h es)
+left_out : (h : Handle) (es : List Live) → rises es ≡ true → lives h es ≡ true
+    → where_key nat_cmp (other_than h.slot) (slots_with_bodies es) ≡ slots_with_bodies (without h es)
 left_out h [] r some = cc
 left_out h (e ∷ es) r some =
     elim (has h e) as (λ t. has h e ≡ t → is_some (cond t (Some e) (entry_at h es)) ≡ true
@@ -196,7 +215,8 @@ left_out h (e ∷ es) r some =
           let same : slot_of e ≡ h.slot = same_slot h e is in
           rw (equal h.slot (slot_of e) (sym same)) (left_above h es (subst (λ s. above s es ≡ true) same (first_so _ _ r)))
       | false ↦ λ _ later.
-          rw (greater h.slot (slot_of e) (lives_above h es (slot_of e) later (first_so _ _ r))) (ap (λ xs. (slot_of e, e.body) ∷ xs) (left_out h es (second_so _ _ r) later))
+          rw (greater h.slot (slot_of e) (lives_above h es (slot_of e) later (first_so _ _ r)))
+              (ap (λ xs. (slot_of e, e.body) ∷ xs) (left_out h es (second_so _ _ r) later))
     ] refl some
 
 turned : {A : Type 0} (b : Bool) (x y : A) → cond (not b) x y ≡ cond b y x
@@ -210,7 +230,8 @@ remove-bodies_of h es r some =
     same_map nat_cmp_total nat_cmp-IsAntisymmetric _ _ (λ q.
     get-remove nat_cmp_total (bodies_of es) h.slot q ∙ ap (cond (eq_by_cmp nat_cmp q h.slot) None) (get-from_sorted nat_cmp xs q (sorted es r))
     ∙ ap (λ b. cond b None (find nat_cmp q xs)) ((eq_by_cmp_equiv nat_cmp_total).symm q h.slot) ∙ sym (turned (eq_by_cmp nat_cmp h.slot q) _ _)
-    ∙ sym (get-from_sorted nat_cmp (where_key nat_cmp (other_than h.slot) xs) q left ∙ find-where_key nat_cmp (other_than h.slot) q (λ x t. ap (λ o. not (is_eq o)) (sym (alike_right nat_cmp_total q x h.slot t))) xs))
+    ∙ sym (get-from_sorted nat_cmp (where_key nat_cmp (other_than h.slot) xs) q left
+        ∙ find-where_key nat_cmp (other_than h.slot) q (λ x t. ap (λ o. not (is_eq o)) (sym (alike_right nat_cmp_total q x h.slot t))) xs))
     ∙ ap (λ ys. from_sorted {R = nat_cmp} ys) (left_out h es r some)
 
 -- an empty index has the boxes of an empty table

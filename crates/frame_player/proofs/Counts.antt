@@ -48,19 +48,24 @@ counted_keys : (p : Key → Bool) (axis : Point → ℤ) (slot : ℕ) (es : List
 counted_keys p axis slot es le = omega (arith, count_by-le-length p (keys axis (others slot es)), keys_few axis (others slot es), others_le slot es)
 
 -- over three axes, two walks of so many
-six_walks : (f : (Point → ℤ) → ℕ) (g : (Point → ℤ) → ℕ) → ((axis : Point → ℤ) → f axis ≤ 2 * SLOTS) → ((axis : Point → ℤ) → g axis ≤ 2 * SLOTS) → over_axes (λ axis. f axis + g axis) ≤ 12 * SLOTS
+six_walks : (f : (Point → ℤ) → ℕ) (g : (Point → ℤ) → ℕ) → ((axis : Point → ℤ) → f axis ≤ 2 * SLOTS) → ((axis : Point → ℤ) → g axis ≤ 2 * SLOTS)
+    → over_axes (λ axis. f axis + g axis) ≤ 12 * SLOTS
 six_walks f g few_f few_g = omega (arith, few_f (λ p. p.x), few_f (λ p. p.y), few_f (λ p. p.z), few_g (λ p. p.x), few_g (λ p. p.y), few_g (λ p. p.z))
 
 pub added_few : (bodies : FinMap nat_cmp Bounds) (slot : ℕ) (body : Bounds) → length (entries bodies) ≤ SLOTS → passed_by_add bodies slot body ≤ 12 * SLOTS
 added_few bodies slot body le =
-    six_walks (λ axis. count_by (key_lt (min_key axis slot body)) (keys axis (others slot (entries bodies)))) (λ axis. count_by (key_lt (max_key axis slot body)) (keys axis (others slot (entries bodies))))
-    (λ axis. counted_keys (key_lt (min_key axis slot body)) axis slot (entries bodies) le) (λ axis. counted_keys (key_lt (max_key axis slot body)) axis slot (entries bodies) le)
+    six_walks (λ axis. count_by (key_lt (min_key axis slot body)) (keys axis (others slot (entries bodies))))
+        (λ axis. count_by (key_lt (max_key axis slot body)) (keys axis (others slot (entries bodies))))
+    (λ axis. counted_keys (key_lt (min_key axis slot body)) axis slot (entries bodies) le) (λ axis. counted_keys (key_lt (max_key axis slot body)) axis slot
+        (entries bodies) le)
 
 moved_few : (old : Option Bounds) (es : List (ℕ × Bounds)) (slot : ℕ) (new : Bounds) → length es ≤ SLOTS → passed_from old es slot new ≤ 12 * SLOTS
 moved_few None es slot new le = omega arith
 moved_few (Some old) es slot new le =
-    six_walks (λ axis. count_by (is_between (min_key axis slot old) (min_key axis slot new)) (keys axis (others slot es))) (λ axis. count_by (is_between (max_key axis slot old) (max_key axis slot new)) (keys axis (others slot es)))
-    (λ axis. counted_keys (is_between (min_key axis slot old) (min_key axis slot new)) axis slot es le) (λ axis. counted_keys (is_between (max_key axis slot old) (max_key axis slot new)) axis slot es le)
+    six_walks (λ axis. count_by (is_between (min_key axis slot old) (min_key axis slot new)) (keys axis (others slot es)))
+        (λ axis. count_by (is_between (max_key axis slot old) (max_key axis slot new)) (keys axis (others slot es)))
+    (λ axis. counted_keys (is_between (min_key axis slot old) (min_key axis slot new)) axis slot es le)
+        (λ axis. counted_keys (is_between (max_key axis slot old) (max_key axis slot new)) axis slot es le)
 
 pub shifted_few : (bodies : FinMap nat_cmp Bounds) (slot : ℕ) (body : Bounds) → length (entries bodies) ≤ SLOTS → passed_by_shift bodies slot body ≤ 12 * SLOTS
 shifted_few bodies slot body le = moved_few (get bodies slot) (entries bodies) slot body le

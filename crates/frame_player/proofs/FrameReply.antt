@@ -7,7 +7,8 @@ use Rattle.scene_words.specs.declared.command.Command.TheVariants.{Frame}
 use Rattle.frame_player.specs.FrameText.{shown_number}
 use Rattle.frame_player.specs.World.{World, pairs, reply, shown}
 
-pub frame_reply : (shows : Bool) (w : World) (number count : ℕ) (told : List Told) (exchanges : Option ℕ) → number ≡ w.frames + 1 → count ≡ length (pairs w) → told ≡ events w.last (pairs w) → shown_number exchanges ≡ shown shows w.exchanges
+pub frame_reply : (shows : Bool) (w : World) (number count : ℕ) (told : List Told) (exchanges : Option ℕ) → number ≡ w.frames + 1 → count ≡ length (pairs w)
+    → told ≡ events w.last (pairs w) → shown_number exchanges ≡ shown shows w.exchanges
     → frame_line number count ++ (flat_map told_line told ++ shown_number exchanges) ≡ reply shows w Frame
 frame_reply shows w number count told exchanges en ec et ex =
     ap (λ n. frame_line n count ++ (flat_map told_line told ++ shown_number exchanges)) en

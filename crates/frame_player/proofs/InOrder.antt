@@ -69,12 +69,15 @@ before_pairs p (a ∷ later) h =
     list_all-append (precedes p) (partners a later) (pairs_of later)
     ∙ both_true (before_partners p a later (first_so _ _ h)) (before_pairs p later (second_so _ _ h))
 
-partners_before : (a : Live) (later es : List Live) → above (slot_of a) es ≡ true → rises (partners a later) ≡ true → rises (pairs_of es) ≡ true → rises (partners a later ++ pairs_of es) ≡ true
+partners_before : (a : Live) (later es : List Live) → above (slot_of a) es ≡ true → rises (partners a later) ≡ true → rises (pairs_of es) ≡ true
+    → rises (partners a later ++ pairs_of es) ≡ true
 partners_before a [] es h = λ r s. s
 partners_before a (e ∷ later) es h =
-    elim (may_touch a e) as (λ m. rises (map (pair a) (cond m (e ∷ filter (may_touch a) later) (filter (may_touch a) later))) ≡ true → rises (pairs_of es) ≡ true
+    elim (may_touch a e) as (λ m. rises (map (pair a) (cond m (e ∷ filter (may_touch a) later) (filter (may_touch a) later))) ≡ true
+        → rises (pairs_of es) ≡ true
     → rises (map (pair a) (cond m (e ∷ filter (may_touch a) later) (filter (may_touch a) later)) ++ pairs_of es) ≡ true) [
-      | true ↦ λ r s. both_true (list_all-append (precedes (pair a e)) (partners a later) (pairs_of es) ∙ both_true (first_so _ _ r) (before_pairs (pair a e) es h)) (partners_before a later es h (second_so _ _ r) s)
+      | true ↦ λ r s. both_true (list_all-append (precedes (pair a e)) (partners a later) (pairs_of es)
+          ∙ both_true (first_so _ _ r) (before_pairs (pair a e) es h)) (partners_before a later es h (second_so _ _ r) s)
       | false ↦ λ r s. partners_before a later es h r s
     ]
 
@@ -84,7 +87,8 @@ pairs_rise (a ∷ later) h = partners_before a later later (first_so _ _ h) (par
 
 pairs_up : (es : List Live) → slots_rise es ≡ true → list_all rising_pair (pairs_of es) ≡ true
 pairs_up [] h = refl
-pairs_up (a ∷ later) h = list_all-append rising_pair (partners a later) (pairs_of later) ∙ both_true (partners_up a later (first_so _ _ h)) (pairs_up later (second_so _ _ h))
+pairs_up (a ∷ later) h =
+    list_all-append rising_pair (partners a later) (pairs_of later) ∙ both_true (partners_up a later (first_so _ _ h)) (pairs_up later (second_so _ _ h))
 
 pub pairs_in_order : (es : List Live) → slots_rise es ≡ true → is_in_order (pairs_of es) ≡ true
 pairs_in_order es h = both_true (pairs_up es h) (pairs_rise es h)

@@ -1,5 +1,6 @@
 -- A line that passes: the play has come one line further.
-use Rattle.std.proofs.Common.{◌≡◌, ℕ, ◌+◌, ◌≤◌, Bool, true, false, cond, arith, List, [], ◌∷◌, ◌++◌, length, take, Option, Some, None, IfSome, option_map, Ok, refl, sym, ap, ◌∙◌, subst}
+use Rattle.std.proofs.Common.{◌≡◌, ℕ, ◌+◌, ◌≤◌, Bool, true, false, cond, arith, List, [], ◌∷◌, ◌++◌}
+use Rattle.std.proofs.Common.{length, take, Option, Some, None, IfSome, option_map, Ok, refl, sym, ap, ◌∙◌, subst}
 use Rattle.std.specs.List.{count_by}
 use Rattle.std.proofs.lemmas.List.{append_assoc, take-append-drop}
 use Rattle.std.proofs.lemmas.List.Sums.{sum_by-append}
@@ -59,7 +60,8 @@ pub feeds_joined : (xs ys : List ℕ) → count_by is_feed (xs ++ ys) ≡ count_
 feeds_joined xs ys = sum_by-append (λ b. cond {A = ℕ} (is_feed b) 1 0) xs ys
 
 -- a line that passes
-pub line_played : (shows : Bool) (limit : ℕ) (given : List ℕ) (left now : Option (List ℕ)) (old new : Reading) (w v : World) (out longer : List ℕ) (said : Command)
+pub line_played : (shows : Bool) (limit : ℕ) (given : List ℕ) (left now : Option (List ℕ)) (old new : Reading) (w v : World) (out longer : List ℕ)
+    (said : Command)
     → LineEnds → OneFeed → IsReached shows limit given left old.held old.over w (old.number + 1) out → IsNextLine left now old new → new.number ≤ limit
     → allowed w (command One new.line) ≡ Ok said → IsAlike shows v (after w said) → longer ≡ out ++ reply shows w said
     → IsReached shows limit given now new.held new.over v (new.number + 1) longer
@@ -71,10 +73,13 @@ line_played shows limit given left now old new w v out longer said law feeds rea
     let line_is : new.line ≡ line_ahead bytes = subst (λ o. IfSome o (λ b. new.line ≡ line_ahead b)) here next.line in
     let rest_is : coming new.held now ≡ Some (past_line bytes) = next.rest ∙ ap (option_map past_line) here in
     let first_is : lines bytes true ≡ new.line ∷ lines (past_line bytes) true =
-    subst (λ o. IfSome o (λ r. lines bytes true ≡ new.line ∷ lines r true)) rest_is (subst (λ o. IfSome o (λ b. IfSome (coming new.held now) (λ r. lines b true ≡ new.line ∷ lines r true))) here next.first) in
+    subst (λ o. IfSome o (λ r. lines bytes true ≡ new.line ∷ lines r true)) rest_is
+        (subst (λ o. IfSome o (λ b. IfSome (coming new.held now) (λ r. lines b true ≡ new.line ∷ lines r true))) here next.first) in
     let last_is : has_feed bytes ≡ false → new.over ≡ true = subst (λ o. IfSome o (λ b. has_feed b ≡ false → new.over ≡ true)) here next.last in
-    let asks : asked limit w (old.number + 1) new.line ≡ Ok said = asked_within limit (old.number + 1) w new.line (subst (λ n. n ≤ limit) next.number within) next.short ∙ passed in
-    let goes_on : (more : List (List ℕ)) → reply_first (out ++ reply shows w said) (play_from shows limit v (new.number + 1) more) ≡ reply_first out (play_from shows limit w (old.number + 1) (new.line ∷ more)) = λ more.
+    let asks : asked limit w (old.number + 1) new.line ≡ Ok said =
+        asked_within limit (old.number + 1) w new.line (subst (λ n. n ≤ limit) next.number within) next.short ∙ passed in
+    let goes_on : (more : List (List ℕ)) → reply_first (out ++ reply shows w said) (play_from shows limit v (new.number + 1) more) ≡ reply_first out
+        (play_from shows limit w (old.number + 1) (new.line ∷ more)) = λ more.
     ap (reply_first (out ++ reply shows w said)) (play_alike shows limit v (after w said) (new.number + 1) more alike)
     ∙ reply_twice out (reply shows w said) _
     ∙ ap (λ n. reply_first out (reply_first (reply shows w said) (play_from shows limit (after w said) (n + 1) more))) next.number
@@ -86,14 +91,16 @@ line_played shows limit given left now old new w v out longer said law feeds rea
     record {
       bytes = past_line bytes;
       coming = rest_is;
-      so_far = rw eo (goes_on (lines (past_line bytes) true) ∙ ap (λ ls. reply_first out (play_from shows limit w (old.number + 1) ls)) (sym first_is) ∙ reached.so_far);
+      so_far = rw eo (goes_on (lines (past_line bytes) true) ∙ ap (λ ls. reply_first out (play_from shows limit w (old.number + 1) ls)) (sym first_is)
+          ∙ reached.so_far);
       front = front ++ cut;
       split = reached.split ∙ ap (λ b. front ++ b) (sym (take-append-drop (length_ahead bytes + 1) bytes)) ∙ sym (append_assoc front cut (past_line bytes));
       ahead = λ goes more.
           let feed : has_feed bytes ≡ true = missing (has_feed bytes) new.over last_is goes in
           let ended : lines (cut ++ more) false ≡ new.line ∷ lines more false = law bytes more feed ∙ ap (λ l. l ∷ lines more false) (sym line_is) in
           rw eo (goes_on (lines more false) ∙ ap (λ ls. reply_first out (play_from shows limit w (old.number + 1) ls)) (sym ended)
-          ∙ reached.ahead (opposite old.over new.over next.stays goes) (cut ++ more) ∙ ap (λ b. played shows limit (lines b false)) (sym (append_assoc front cut more)));
+          ∙ reached.ahead (opposite old.over new.over next.stays goes) (cut ++ more)
+              ∙ ap (λ b. played shows limit (lines b false)) (sym (append_assoc front cut more)));
       feeds = omega (arith, was, one, joined, number);
     }
 

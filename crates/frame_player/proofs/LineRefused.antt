@@ -1,5 +1,6 @@
 -- A line that is refused ends the play with its report, and little more than it was read.
-use Rattle.std.proofs.Common.{◌≡◌, ℕ, ◌+◌, ◌-◌, ◌≤◌, ◌<◌, Bool, true, false, cond, List, [], ◌∷◌, ◌++◌, length, take, drop, Option, Some, IfSome, option_map, Err, refl, sym, ap, ◌∙◌, subst, arith, nat_eq, nat_lt, nat_le}
+use Rattle.std.proofs.Common.{◌≡◌, ℕ, ◌+◌, ◌-◌, ◌≤◌, ◌<◌, Bool, true, false, cond, List, [], ◌∷◌, ◌++◌, length}
+use Rattle.std.proofs.Common.{take, drop, Option, Some, IfSome, option_map, Err, refl, sym, ap, ◌∙◌, subst, arith, nat_eq, nat_lt, nat_le}
 use Rattle.std.specs.List.{count_by}
 use Rattle.std.specs.Io.KnownBytes.{prepend_known}
 use Rattle.std.proofs.lemmas.Bool.Decides.{nat_tests}
@@ -42,39 +43,46 @@ pub record IsLastAnswer (answer : Next) (limit : ℕ) (left now : Option (List �
   pub small : length new.held ≤ BUFFER_LEN
 
 -- the bytes taken before the last of them hold no more ends of lines than those before the line
-read_up_to : (n : ℕ) (given front behind : List ℕ) (now : Option (List ℕ)) → Some given ≡ prepend_known (front ++ behind) now → count_by is_feed front < n → length behind ≤ READ_AHEAD → IsReadUpTo n given now
+read_up_to : (n : ℕ) (given front behind : List ℕ) (now : Option (List ℕ)) → Some given ≡ prepend_known (front ++ behind) now → count_by is_feed front < n
+    → length behind ≤ READ_AHEAD → IsReadUpTo n given now
 read_up_to n given front behind now split few short =
     let len : length (front ++ behind) ≡ length front + length behind = length-append front behind in
     let some : length (front ++ behind) - READ_AHEAD ≤ length front = omega (arith, len, short) in
     let cut = length (front ++ behind) - READ_AHEAD in
     let same : take cut (front ++ behind) ≡ take cut front = take-append-le cut front behind some in
-    let parts : count_by is_feed (take cut front ++ drop cut front) ≡ count_by is_feed (take cut front) + count_by is_feed (drop cut front) = feeds_joined (take cut front) (drop cut front) in
+    let parts : count_by is_feed (take cut front ++ drop cut front) ≡ count_by is_feed (take cut front) + count_by is_feed (drop cut front) =
+        feeds_joined (take cut front) (drop cut front) in
     let whole : count_by is_feed (take cut front ++ drop cut front) ≡ count_by is_feed front = ap (count_by is_feed) (take-append-drop cut front) in
     let less : count_by is_feed (take cut front) < n = omega (arith, parts, whole, few) in
     record { taken = front ++ behind; split = split; few = subst (λ bytes. count_by is_feed bytes < n) (sym same) less }
 
 -- where nothing was handed out
-pub kept_up_to : (n : ℕ) (given front bytes held : List ℕ) (now : Option (List ℕ)) → InParts → given ≡ front ++ bytes → coming held now ≡ Some bytes → count_by is_feed front < n → length held ≤ BUFFER_LEN
+pub kept_up_to : (n : ℕ) (given front bytes held : List ℕ) (now : Option (List ℕ)) → InParts → given ≡ front ++ bytes → coming held now ≡ Some bytes
+    → count_by is_feed front < n → length held ≤ BUFFER_LEN
     → IsReadUpTo n given now
 kept_up_to n given front bytes held now parts split here few small =
     read_up_to n given front held now (sym (parts front held now ∙ ap (prepend_known front) here ∙ ap Some (sym split))) few (omega (arith, small))
 
 -- a play that ends with a last line
-pub ended_with : (shows : Bool) (limit : ℕ) (given : List ℕ) (out last : List ℕ) (status : Status) (passed : Bool) → reply_first out (record { replies = []; last = last; status = status; passed = passed }) ≡ played shows limit (lines given true)
+pub ended_with : (shows : Bool) (limit : ℕ) (given : List ℕ) (out last : List ℕ) (status : Status) (passed : Bool)
+    → reply_first out (record { replies = []; last = last; status = status; passed = passed }) ≡ played shows limit (lines given true)
     → ((played shows limit (lines given true)).status ≡ status) × (out ++ last ≡ report shows limit (lines given true))
 ended_with shows limit given out last status passed whole =
     (sym (ap (λ p. p.status) whole), ap (λ o. o ++ last) (sym (append-nil out)) ∙ ap (λ p. p.replies ++ p.last) whole)
 
 -- a line that is refused
 refused_next : (shows : Bool) (limit : ℕ) (given bytes line : List ℕ) (more : List (List ℕ)) (w : World) (n : ℕ) (c : Cause) (out : List ℕ)
-    → reply_first out (play_from shows limit w n (lines bytes true)) ≡ played shows limit (lines given true) → lines bytes true ≡ line ∷ more → asked limit w n line ≡ Err c
+    → reply_first out (play_from shows limit w n (lines bytes true)) ≡ played shows limit (lines given true) → lines bytes true ≡ line ∷ more
+        → asked limit w n line ≡ Err c
     → ((played shows limit (lines given true)).status ≡ Refused n c) × (out ++ refused_line n c ≡ report shows limit (lines given true))
 refused_next shows limit given bytes line more w n c out so_far first asks =
     ended_with shows limit given out (refused_line n c) (Refused n c) false
-    (ap (λ a. reply_first out (step shows w n a (λ next. play_from shows limit next (n + 1) more))) (sym asks) ∙ ap (λ ls. reply_first out (play_from shows limit w n ls)) (sym first) ∙ so_far)
+    (ap (λ a. reply_first out (step shows w n a (λ next. play_from shows limit next (n + 1) more))) (sym asks)
+        ∙ ap (λ ls. reply_first out (play_from shows limit w n ls)) (sym first) ∙ so_far)
 
 pub line_refused : (shows : Bool) (limit : ℕ) (given : List ℕ) (left now : Option (List ℕ)) (old new : Reading) (w : World) (c : Cause) (out : List ℕ)
-    → InParts → EndsNear → IsReached shows limit given left old.held old.over w (old.number + 1) out → IsNextLine left now old new → length new.held ≤ BUFFER_LEN → new.number ≤ limit
+    → InParts → EndsNear → IsReached shows limit given left old.held old.over w (old.number + 1) out → IsNextLine left now old new
+        → length new.held ≤ BUFFER_LEN → new.number ≤ limit
     → allowed w (command One new.line) ≡ Err c → IsTextOf shows limit given now (out ++ refused_line new.number c) (Refused new.number c)
 line_refused shows limit given left now old new w c out parts near reached next small within refused =
     let bytes = reached.bytes in
@@ -83,7 +91,8 @@ line_refused shows limit given left now old new w c out parts near reached next 
     let line_is : new.line ≡ line_ahead bytes = subst (λ o. IfSome o (λ b. new.line ≡ line_ahead b)) here next.line in
     let rest_is : coming new.held now ≡ Some (past_line bytes) = next.rest ∙ ap (option_map past_line) here in
     let first_is : lines bytes true ≡ new.line ∷ lines (past_line bytes) true =
-    subst (λ o. IfSome o (λ r. lines bytes true ≡ new.line ∷ lines r true)) rest_is (subst (λ o. IfSome o (λ b. IfSome (coming new.held now) (λ r. lines b true ≡ new.line ∷ lines r true))) here next.first) in
+    subst (λ o. IfSome o (λ r. lines bytes true ≡ new.line ∷ lines r true)) rest_is
+        (subst (λ o. IfSome o (λ b. IfSome (coming new.held now) (λ r. lines b true ≡ new.line ∷ lines r true))) here next.first) in
     let ends = refused_next shows limit given bytes new.line (lines (past_line bytes) true) w new.number c out
     (subst (λ n. reply_first out (play_from shows limit w n (lines bytes true)) ≡ played shows limit (lines given true)) (sym next.number) reached.so_far)
     first_is (asked_within limit new.number w new.line within next.short ∙ refused) in
@@ -131,7 +140,8 @@ at_least : (limit number : ℕ) → nat_le limit number ≡ true → limit < num
 at_least limit number h = grind (arith, nat_tests)
 
 pub long_refused : (shows : Bool) (limit : ℕ) (given : List ℕ) (left now : Option (List ℕ)) (old new : Reading) (w : World) (out : List ℕ)
-    → FirstLine → InParts → IsReached shows limit given left old.held old.over w (old.number + 1) out → IsLastAnswer Long limit left now old new → new.number ≡ old.number + 1
+    → FirstLine → InParts → IsReached shows limit given left old.held old.over w (old.number + 1) out → IsLastAnswer Long limit left now old new
+        → new.number ≡ old.number + 1
     → IsTextOf shows limit given now (out ++ refused_line new.number cause.Long) (Refused new.number cause.Long)
 long_refused shows limit given left now old new w out law parts reached last number =
     let bytes = reached.bytes in
@@ -141,10 +151,12 @@ long_refused shows limit given left now old new w out law parts reached last num
     (subst (λ k. reply_first out (play_from shows limit w k (lines bytes true)) ≡ played shows limit (lines given true)) (sym number) reached.so_far)
     (law bytes (some_bytes (length bytes) when.0))
     (asked_long limit new.number w (line_ahead bytes) (subst (λ k. k ≤ limit) (sym number) (above_all limit old.number when.1)) when.2) in
-    (ends.0, ends.1, kept_up_to new.number given reached.front bytes new.held now parts reached.split (last.kept ∙ reached.coming) (subst (λ k. count_by is_feed reached.front < k) (sym number) reached.feeds) last.small)
+    (ends.0, ends.1, kept_up_to new.number given reached.front bytes new.held now parts reached.split (last.kept
+        ∙ reached.coming) (subst (λ k. count_by is_feed reached.front < k) (sym number) reached.feeds) last.small)
 
 pub too_many_refused : (shows : Bool) (limit : ℕ) (given : List ℕ) (left now : Option (List ℕ)) (old new : Reading) (w : World) (out : List ℕ)
-    → FirstLine → InParts → IsReached shows limit given left old.held old.over w (old.number + 1) out → IsLastAnswer TooMany limit left now old new → new.number ≡ old.number + 1
+    → FirstLine → InParts → IsReached shows limit given left old.held old.over w (old.number + 1) out → IsLastAnswer TooMany limit left now old new
+        → new.number ≡ old.number + 1
     → IsTextOf shows limit given now (out ++ refused_line new.number cause.Lines) (Refused new.number cause.Lines)
 too_many_refused shows limit given left now old new w out law parts reached last number =
     let bytes = reached.bytes in
@@ -154,4 +166,5 @@ too_many_refused shows limit given left now old new w out law parts reached last
     (subst (λ k. reply_first out (play_from shows limit w k (lines bytes true)) ≡ played shows limit (lines given true)) (sym number) reached.so_far)
     (law bytes (some_bytes (length bytes) when.0))
     (asked_past limit new.number w (line_ahead bytes) (subst (λ k. limit < k) (sym number) (at_least limit old.number when.1))) in
-    (ends.0, ends.1, kept_up_to new.number given reached.front bytes new.held now parts reached.split (last.kept ∙ reached.coming) (subst (λ k. count_by is_feed reached.front < k) (sym number) reached.feeds) last.small)
+    (ends.0, ends.1, kept_up_to new.number given reached.front bytes new.held now parts reached.split (last.kept
+        ∙ reached.coming) (subst (λ k. count_by is_feed reached.front < k) (sym number) reached.feeds) last.small)

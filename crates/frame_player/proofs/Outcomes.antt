@@ -1,5 +1,6 @@
 -- What writing the text of a play comes to.
-use Rattle.std.proofs.Common.{Bool, ◌^◌, ◌-◌, ◌≡◌, ℕ, ◌<◌, true, false, List, [], length, Option, Some, None, IfSome, option_map, refl, sym, ap, ◌∙◌, subst, arith}
+use Rattle.std.proofs.Common.{Bool, ◌^◌, ◌-◌, ◌≡◌, ℕ, ◌<◌, true, false, List, [], length}
+use Rattle.std.proofs.Common.{Option, Some, None, IfSome, option_map, refl, sym, ap, ◌∙◌, subst, arith}
 use Rattle.std.specs.Io.KnownBytes.{append_known, prepend_known}
 use Rattle.std.proofs.lemmas.List.{append-nil}
 use Rattle.play_io.specs.Source.{CountsFault}
@@ -34,7 +35,8 @@ report_begun : (shows : Bool) (limit : ℕ) (before now : Ends) (text : List ℕ
     → Begins shows limit → IfSome before.left (λ given. IsTextOf shows limit given now.left text status) → IsBegun before.written now.written text
     → IsReportBegun (played shows limit) before now
 report_begun shows limit before now text status law is begun =
-    on_some before.left is (λ given of. begun_within before.written now.written text (report shows limit (lines given true)) begun (text_part shows limit given now.left text status law of))
+    on_some before.left is (λ given of. begun_within before.written now.written text (report shows limit (lines given true)) begun
+        (text_part shows limit given now.left text status law of))
 
 -- nothing is written
 pub none_written : (shows : Bool) (limit : ℕ) (before now : Ends) → now.written ≡ before.written → IsReportBegun (played shows limit) before now
@@ -42,7 +44,8 @@ none_written shows limit before now same = each before.left
   where
     each : (left : Option (List ℕ)) → IfSome left (λ given. IsBegun before.written now.written (report shows limit (lines given true)))
     each None = tt
-    each (Some given) = subst (λ w. IsBegun before.written w (report shows limit (lines given true))) (sym same) (record { part = []; prefix = (report shows limit (lines given true), refl); written = append_known-nil before.written })
+    each (Some given) = subst (λ w. IsBegun before.written w (report shows limit (lines given true))) (sym same) (record { part = [];
+        prefix = (report shows limit (lines given true), refl); written = append_known-nil before.written })
 
 -- all is written and settled
 pub all_written : (shows : Bool) (limit : ℕ) (before now : Ends) (text : List ℕ) (status : Status)
@@ -82,7 +85,8 @@ all_written shows limit before now text Status.NoMemory is count begun written s
 failed_there : (shows : Bool) (limit : ℕ) (before now : Ends) (text : List ℕ) (status : Status)
     → Begins shows limit → IfSome before.left (λ given. IsTextOf shows limit given now.left text status) → now.read_faults ≡ before.read_faults
     → IsBegun before.written now.written text → before.write_faults < now.write_faults → IsWriteFault (played shows limit) before now
-failed_there shows limit before now text status law is count begun rose = record { rose = rose; unread = count; begun = report_begun shows limit before now text status law is begun }
+failed_there shows limit before now text status law is count begun rose =
+    record { rose = rose; unread = count; begun = report_begun shows limit before now text status law is begun }
 
 pub sink_failed : (shows : Bool) (limit : ℕ) (before now : Ends) (text : List ℕ) (status : Status)
     → Begins shows limit → IfSome before.left (λ given. IsTextOf shows limit given now.left text status) → IsCountedAs before.read_faults now.read_faults status

@@ -45,16 +45,22 @@ all_found [] r = tt
 all_found (e ∷ es) r = (rw (same_slot (slot_of e)) refl, later_found e es es (first_so _ _ r) (all_found es (second_so _ _ r)))
 
 module _ (all : List Live) where
-  partners_touch : (a : Live) (later : List Live) → live_at (slot_of a) all ≡ Some a → AreFound all later → filter_map (touching all) (slot_partners (slot_of a) a.body (slots_with_bodies later)) ≡ partners a later
+  partners_touch : (a : Live) (later : List Live) → live_at (slot_of a) all ≡ Some a → AreFound all later
+      → filter_map (touching all) (slot_partners (slot_of a) a.body (slots_with_bodies later)) ≡ partners a later
   partners_touch a [] here found = refl
   partners_touch a (b ∷ later) here found =
-      let rest : filter_map (touching all) (slot_partners (slot_of a) a.body (slots_with_bodies later)) ≡ partners a later = partners_touch a later here found.1 in
+      let rest : filter_map (touching all) (slot_partners (slot_of a) a.body (slots_with_bodies later)) ≡ partners a later =
+          partners_touch a later here found.1 in
       let pair : touching all (record { a = slot_of a; b = slot_of b }) ≡ pair_of (Some a) (Some b) = rw (here, found.0) refl in
-      elim (meets a.body b.body) as (λ m. filter_map (touching all) (map (λ e. record { a = slot_of a; b = e.0 }) (cond m ((slot_of b, b.body) ∷ filter (λ e. meets a.body e.1) (slots_with_bodies later)) (filter (λ e. meets a.body e.1) (slots_with_bodies later))))
+      elim (meets a.body b.body) as
+          (λ m. filter_map (touching all) (map (λ e. record { a = slot_of a; b = e.0 })
+          (cond m ((slot_of b, b.body) ∷ filter (λ e. meets a.body e.1) (slots_with_bodies later))
+          (filter (λ e. meets a.body e.1) (slots_with_bodies later))))
       ≡ map (λ x. record { a = a.handle; b = x.handle }) (cond (m && may a.masks b.masks) (b ∷ filter (may_touch a) later) (filter (may_touch a) later))) [
         | false ↦ rest
         | true ↦ ap (λ o. cons_option o (filter_map (touching all) (slot_partners (slot_of a) a.body (slots_with_bodies later)))) pair
-            ∙ elim (may a.masks b.masks) as (λ t. cons_option (cond t (Some (record { a = a.handle; b = b.handle })) None) (filter_map (touching all) (slot_partners (slot_of a) a.body (slots_with_bodies later)))
+            ∙ elim (may a.masks b.masks) as (λ t. cons_option (cond t (Some (record { a = a.handle; b = b.handle })) None)
+                (filter_map (touching all) (slot_partners (slot_of a) a.body (slots_with_bodies later)))
             ≡ map (λ x. record { a = a.handle; b = x.handle }) (cond t (b ∷ filter (may_touch a) later) (filter (may_touch a) later))) [
               | true ↦ ap (λ ps. record { a = a.handle; b = b.handle } ∷ ps) rest
               | false ↦ rest
@@ -68,16 +74,22 @@ module _ (all : List Live) where
       ∙ ap (λ ps. ps ++ filter_map (touching all) (near_of (slots_with_bodies later))) (partners_touch a later found.0 found.1)
       ∙ ap (λ ps. partners a later ++ ps) (pairs_touch later found.1)
 
-  hits_listed : (query : Query) (mask : ℕ) (es : List Live) → AreFound all es → filter_map (listed all mask) (found_of (slots_with_bodies es) query) ≡ hits_of es query mask
+  hits_listed : (query : Query) (mask : ℕ) (es : List Live) → AreFound all es
+      → filter_map (listed all mask) (found_of (slots_with_bodies es) query) ≡ hits_of es query mask
   hits_listed query mask [] found = refl
   hits_listed query mask (e ∷ es) found =
       let rest : filter_map (listed all mask) (found_of (slots_with_bodies es) query) ≡ hits_of es query mask = hits_listed query mask es found.1 in
-      elim (query_meets query e.body) as (λ m. filter_map (listed all mask) (map (λ x. x.0) (cond m ((slot_of e, e.body) ∷ filter (λ x. query_meets query x.1) (slots_with_bodies es)) (filter (λ x. query_meets query x.1) (slots_with_bodies es))))
-      ≡ map (λ x. x.handle) (cond (m && is_asked_for mask e) (e ∷ filter (λ x. query_meets query x.body && is_asked_for mask x) es) (filter (λ x. query_meets query x.body && is_asked_for mask x) es))) [
+      elim (query_meets query e.body) as
+          (λ m. filter_map (listed all mask) (map (λ x. x.0) (cond m ((slot_of e, e.body) ∷ filter (λ x. query_meets query x.1) (slots_with_bodies es))
+          (filter (λ x. query_meets query x.1) (slots_with_bodies es))))
+      ≡ map (λ x. x.handle) (cond (m && is_asked_for mask e) (e ∷ filter (λ x. query_meets query x.body && is_asked_for mask x) es)
+          (filter (λ x. query_meets query x.body && is_asked_for mask x) es))) [
         | false ↦ rest
         | true ↦ ap (λ o. cons_option (listed_of mask o) (filter_map (listed all mask) (found_of (slots_with_bodies es) query))) found.0
-            ∙ elim (is_asked_for mask e) as (λ t. cons_option (cond t (Some e.handle) None) (filter_map (listed all mask) (found_of (slots_with_bodies es) query))
-            ≡ map (λ x. x.handle) (cond t (e ∷ filter (λ x. query_meets query x.body && is_asked_for mask x) es) (filter (λ x. query_meets query x.body && is_asked_for mask x) es))) [
+            ∙ elim (is_asked_for mask e) as (λ t. cons_option (cond t (Some e.handle) None)
+                (filter_map (listed all mask) (found_of (slots_with_bodies es) query))
+            ≡ map (λ x. x.handle) (cond t (e ∷ filter (λ x. query_meets query x.body && is_asked_for mask x) es)
+                (filter (λ x. query_meets query x.body && is_asked_for mask x) es))) [
               | true ↦ ap (λ hs. e.handle ∷ hs) rest
               | false ↦ rest
             ]
@@ -87,12 +99,15 @@ module _ (all : List Live) where
 pub touching-near : (es : List Live) → rises es ≡ true → filter_map (touching es) (near_of (slots_with_bodies es)) ≡ pairs_of es
 touching-near es r = pairs_touch es es (all_found es r)
 
-pub listed-found : (es : List Live) (query : Query) (mask : ℕ) → rises es ≡ true → filter_map (listed es mask) (found_of (slots_with_bodies es) query) ≡ hits_of es query mask
+pub listed-found : (es : List Live) (query : Query) (mask : ℕ) → rises es ≡ true
+    → filter_map (listed es mask) (found_of (slots_with_bodies es) query) ≡ hits_of es query mask
 listed-found es query mask r = hits_listed es query mask es (all_found es r)
 
 -- the same, of the index that has the live boxes
 pub pairs_from_near : (es : List Live) (pairs : List Pair) → rises es ≡ true → pairs ≡ near (bodies_of es) → filter_map (touching es) pairs ≡ pairs_of es
 pairs_from_near es pairs r e = ap (filter_map (touching es)) (e ∙ ap near_of (entries-bodies_of es r)) ∙ touching-near es r
 
-pub hits_from_found : (es : List Live) (slots : List ℕ) (query : Query) (mask : ℕ) → rises es ≡ true → slots ≡ found (bodies_of es) query → filter_map (listed es mask) slots ≡ hits_of es query mask
-hits_from_found es slots query mask r e = ap (filter_map (listed es mask)) (e ∙ ap (λ xs. found_of xs query) (entries-bodies_of es r)) ∙ listed-found es query mask r
+pub hits_from_found : (es : List Live) (slots : List ℕ) (query : Query) (mask : ℕ) → rises es ≡ true → slots ≡ found (bodies_of es) query
+    → filter_map (listed es mask) slots ≡ hits_of es query mask
+hits_from_found es slots query mask r e = ap (filter_map (listed es mask)) (e ∙ ap (λ xs. found_of xs query) (entries-bodies_of es r))
+    ∙ listed-found es query mask r

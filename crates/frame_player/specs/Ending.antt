@@ -22,7 +22,8 @@ status_of last.ReadFault = ReadFault
 
 -- the text of the bytes that were given, as the play ends, where these are left
 abbrev pub IsTextOf : Bool → ℕ → List ℕ → Option (List ℕ) → List ℕ → Status → Type 0
-IsTextOf shows limit given left text Done = ((played shows limit (lines given true)).status ≡ Done) × (text ≡ report shows limit (lines given true)) × (left ≡ Some [])
+IsTextOf shows limit given left text Done =
+    ((played shows limit (lines given true)).status ≡ Done) × (text ≡ report shows limit (lines given true)) × (left ≡ Some [])
 IsTextOf shows limit given left text (Refused n c) =
     ((played shows limit (lines given true)).status ≡ Refused n c) × (text ≡ report shows limit (lines given true)) × IsReadUpTo n given left
 IsTextOf shows limit given left text ReadFault = IsReplyTo (played shows limit) given left text

@@ -18,7 +18,8 @@ pub record Ends : Type 0 where
   pub write_faults : ℕ
 
 abbrev pub ends : Option (List ℕ) → ℕ → Option (List ℕ) → Option ℕ → ℕ → Ends
-ends left read_faults written settled write_faults = record { left = left; read_faults = read_faults; written = written; settled = settled; write_faults = write_faults }
+ends left read_faults written settled write_faults =
+    record { left = left; read_faults = read_faults; written = written; settled = settled; write_faults = write_faults }
 
 -- what a source's bytes come to, by what their lines do
 abbrev pub of_bytes : (List (List ℕ) → Played) → List ℕ → Played

@@ -46,7 +46,8 @@ pub record CountsOn {B : Type 0} (counts : Bool) (exchanges : B → ℕ) (old ne
   pub frames : new.frames ≤ old.frames + 1
 
 -- What obeying a command makes of the player: the world after it, and an index that has the live boxes.
-pub record IsObeyed {B : Type 0} (bodies : B → FinMap nat_cmp Bounds) (spent : B → Bool) (counts : Bool) (exchanges : B → ℕ) (command : Command) (old new : Player B) : Type 0 where
+pub record IsObeyed {B : Type 0} (bodies : B → FinMap nat_cmp Bounds) (spent : B → Bool) (counts : Bool) (exchanges : B
+    → ℕ) (command : Command) (old new : Player B) : Type 0 where
   pub world : IsAlike counts (world_in exchanges new) (after (world_in exchanges old) command)
   pub playing : IsPlaying bodies spent new
   pub few : CountsOn counts exchanges old new

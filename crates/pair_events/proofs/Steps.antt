@@ -64,47 +64,56 @@ not_of_theirs p [] now h = refl
 not_of_theirs p (o ∷ os) now h =
     let no : same_pair o p ≡ false = apart_before o p (first_so (precedes p o) (list_all (precedes p) os) h) in
     let rest : ended os (p ∷ now) ≡ ended os now = not_of_theirs p os now (second_so (precedes p o) (list_all (precedes p) os) h) in
-    rw no (elim (has now o) as (λ t. map over (cond (not t) (o ∷ filter (λ q. not (has (p ∷ now) q)) os) (filter (λ q. not (has (p ∷ now) q)) os)) ≡ map over (cond (not t) (o ∷ filter (λ q. not (has now q)) os) (filter (λ q. not (has now q)) os))) [
+    rw no (elim (has now o) as (λ t. map over (cond (not t) (o ∷ filter (λ q. not (has (p ∷ now) q)) os) (filter (λ q. not (has (p ∷ now) q)) os)) ≡ map
+        over (cond (not t) (o ∷ filter (λ q. not (has now q)) os) (filter (λ q. not (has now q)) os))) [
       | true ↦ rest
       | false ↦ ap (λ told. over o ∷ told) rest
     ])
 
 -- a former pair that stands before the present ones
-pub passed_kept : (o : HPair) (os : List HPair) (p : HPair) (more : List HPair) → precedes o p ≡ true → rises (p ∷ more) ≡ true → kept_or_begun (o ∷ os) (p ∷ more) ≡ kept_or_begun os (p ∷ more)
+pub passed_kept : (o : HPair) (os : List HPair) (p : HPair) (more : List HPair) → precedes o p ≡ true → rises (p ∷ more) ≡ true
+    → kept_or_begun (o ∷ os) (p ∷ more) ≡ kept_or_begun os (p ∷ more)
 passed_kept o os p more h r = not_again o os (p ∷ more) (both_true h (all_after o p more h (first_so (list_all (precedes p) more) (rises more) r)))
 
-pub passed_ended : (o : HPair) (os : List HPair) (p : HPair) (more : List HPair) → precedes o p ≡ true → rises (p ∷ more) ≡ true → ended (o ∷ os) (p ∷ more) ≡ record { event = Over; pair = o } ∷ ended os (p ∷ more)
+pub passed_ended : (o : HPair) (os : List HPair) (p : HPair) (more : List HPair) → precedes o p ≡ true → rises (p ∷ more) ≡ true
+    → ended (o ∷ os) (p ∷ more) ≡ record { event = Over; pair = o } ∷ ended os (p ∷ more)
 passed_ended o os p more h r =
     let none : has (p ∷ more) o ≡ false = none_after o (p ∷ more) (both_true h (all_after o p more h (first_so (list_all (precedes p) more) (rises more) r))) in
     rw none refl
 
 -- a present pair that stands before the former ones
-pub new_kept : (o : HPair) (os : List HPair) (p : HPair) (more : List HPair) → precedes p o ≡ true → rises (o ∷ os) ≡ true → kept_or_begun (o ∷ os) (p ∷ more) ≡ record { event = Begin; pair = p } ∷ kept_or_begun (o ∷ os) more
+pub new_kept : (o : HPair) (os : List HPair) (p : HPair) (more : List HPair) → precedes p o ≡ true → rises (o ∷ os) ≡ true
+    → kept_or_begun (o ∷ os) (p ∷ more) ≡ record { event = Begin; pair = p } ∷ kept_or_begun (o ∷ os) more
 new_kept o os p more h r =
     let none : has (o ∷ os) p ≡ false = none_after p (o ∷ os) (both_true h (all_after p o os h (first_so (list_all (precedes o) os) (rises os) r))) in
     rw none refl
 
-pub new_ended : (o : HPair) (os : List HPair) (p : HPair) (more : List HPair) → precedes p o ≡ true → rises (o ∷ os) ≡ true → ended (o ∷ os) (p ∷ more) ≡ ended (o ∷ os) more
+pub new_ended : (o : HPair) (os : List HPair) (p : HPair) (more : List HPair) → precedes p o ≡ true → rises (o ∷ os) ≡ true
+    → ended (o ∷ os) (p ∷ more) ≡ ended (o ∷ os) more
 new_ended o os p more h r = not_of_theirs p (o ∷ os) more (both_true h (all_after p o os h (first_so (list_all (precedes o) os) (rises os) r)))
 
 -- a former pair of the same slots: the same pair, or one of other handles
-pub same_kept : (o : HPair) (os : List HPair) (p : HPair) (more : List HPair) → precedes p o ≡ false → precedes o p ≡ false → same_pair p o ≡ true → rises (p ∷ more) ≡ true
+pub same_kept : (o : HPair) (os : List HPair) (p : HPair) (more : List HPair) → precedes p o ≡ false → precedes o p ≡ false → same_pair p o ≡ true
+    → rises (p ∷ more) ≡ true
     → kept_or_begun (o ∷ os) (p ∷ more) ≡ record { event = Stay; pair = p } ∷ kept_or_begun os more
 same_kept o os p more h k same r = rw (same, not_again o os more (all_level o p more k h (first_so (list_all (precedes p) more) (rises more) r))) refl
 
-pub same_ended : (o : HPair) (os : List HPair) (p : HPair) (more : List HPair) → precedes p o ≡ false → precedes o p ≡ false → same_pair p o ≡ true → rises (o ∷ os) ≡ true
+pub same_ended : (o : HPair) (os : List HPair) (p : HPair) (more : List HPair) → precedes p o ≡ false → precedes o p ≡ false → same_pair p o ≡ true
+    → rises (o ∷ os) ≡ true
     → ended (o ∷ os) (p ∷ more) ≡ ended os more
 same_ended o os p more h k same r =
     let there : same_pair o p ≡ true = same_pair_sym o p ∙ same in
     rw there (not_of_theirs p os more (all_level p o os h k (first_so (list_all (precedes o) os) (rises os) r)))
 
-pub renewed_kept : (o : HPair) (os : List HPair) (p : HPair) (more : List HPair) → precedes p o ≡ false → precedes o p ≡ false → same_pair p o ≡ false → rises (o ∷ os) ≡ true → rises (p ∷ more) ≡ true
+pub renewed_kept : (o : HPair) (os : List HPair) (p : HPair) (more : List HPair) → precedes p o ≡ false → precedes o p ≡ false → same_pair p o ≡ false
+    → rises (o ∷ os) ≡ true → rises (p ∷ more) ≡ true
     → kept_or_begun (o ∷ os) (p ∷ more) ≡ record { event = Begin; pair = p } ∷ kept_or_begun os more
 renewed_kept o os p more h k differs s r =
     let none : has os p ≡ false = none_after p os (all_level p o os h k (first_so (list_all (precedes o) os) (rises os) s)) in
     rw (differs, none, not_again o os more (all_level o p more k h (first_so (list_all (precedes p) more) (rises more) r))) refl
 
-pub renewed_ended : (o : HPair) (os : List HPair) (p : HPair) (more : List HPair) → precedes p o ≡ false → precedes o p ≡ false → same_pair p o ≡ false → rises (o ∷ os) ≡ true → rises (p ∷ more) ≡ true
+pub renewed_ended : (o : HPair) (os : List HPair) (p : HPair) (more : List HPair) → precedes p o ≡ false → precedes o p ≡ false → same_pair p o ≡ false
+    → rises (o ∷ os) ≡ true → rises (p ∷ more) ≡ true
     → ended (o ∷ os) (p ∷ more) ≡ record { event = Over; pair = o } ∷ ended os more
 renewed_ended o os p more h k differs s r =
     let apart : same_pair o p ≡ false = same_pair_sym o p ∙ differs in

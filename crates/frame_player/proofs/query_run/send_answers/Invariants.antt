@@ -10,7 +10,8 @@ abbrev pub invariant-answers : goal.invariant-answers
 invariant-answers g l = record {
   same : length l.seen ≡ length l.asked;
   lists : map (λ v. v.items) l.found ≡ map (found (bodies_of l.table.entries)) l.asked;
-  handed : IsHanded (outlet (g.K.Sink.written l.fn.sink) (g.K.Sink.faults l.fn.sink) (g.K.Sink.since l.fn.sink)) (outlet (g.K.Sink.written l.sink) (g.K.Sink.faults l.sink) (g.K.Sink.since l.sink))
+  handed : IsHanded (outlet (g.K.Sink.written l.fn.sink) (g.K.Sink.faults l.fn.sink) (g.K.Sink.since l.fn.sink))
+      (outlet (g.K.Sink.written l.sink) (g.K.Sink.faults l.sink) (g.K.Sink.since l.sink))
       (l.fn.text.items ++ answers l.table.entries l.queries l.masks) (l.text.items ++ answers l.table.entries l.asked l.seen);
 }
 

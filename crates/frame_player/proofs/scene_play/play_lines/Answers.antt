@@ -38,14 +38,16 @@ lines-init g c =
     let frames : player.frames ≡ 0 = ap (λ w. w.frames) opens in
     let gives : sum player.table.gives ≡ 0 = ap (λ w. sum w.table.gives) opens in
     let exchanged : g.B.BroadPhase.exchanges player.index ≡ 0 = ap (λ w. w.exchanges) opens in
-    let none : c.args.text.now.items ++ answers player.table.entries run.queries.items run.masks.items ≡ [] = rw (c.requires.nothing, c.requires.queries) refl in
+    let none : c.args.text.now.items ++ answers player.table.entries run.queries.items run.masks.items ≡ [] =
+        rw (c.requires.nothing, c.requires.queries) refl in
     record {
       said = record {
         done = [];
         written = append_known-nil (g.K.Sink.written c.args.sink.now);
         unfailed = refl;
         uncalled = λ _. refl;
-        whole = opened c.args.options.exchanges c.args.limit (g.S.Source.left c.args.source.now) reader (world_in g.B.BroadPhase.exchanges player) (c.args.text.now.items ++ owed player.table.entries run) made opens none;
+        whole = opened c.args.options.exchanges c.args.limit (g.S.Source.left c.args.source.now) reader (world_in g.B.BroadPhase.exchanges player)
+            (c.args.text.now.items ++ owed player.table.entries run) made opens none;
       };
       playing = c.requires.playing;
       run = record { same = rw (c.requires.queries, c.requires.masks) refl; few = rw c.requires.queries (omega arith) };
@@ -80,16 +82,19 @@ lines-preserved g c =
     let within = next.within in
     let within_limit : new.number ≤ limit = omega (arith, limit_is, limit_stays, within) in
     let handed : IsNextLine was now old new =
-    record { line = next.line; rest = next.rest; first = next.first; last = next.last_at_end; stays = next.over_stays; number = next.number; short = next.short } in
+    record { line = next.line; rest = next.rest; first = next.first; last = next.last_at_end; stays = next.over_stays; number = next.number;
+        short = next.short } in
     let said = c.in-Ok.command in
     let obey = c.in_ok-obey-in-Ok.ensures in
     let later = world_in g.B.BroadPhase.exchanges c.obey.new.player in
     let number = next.number in
     record {
-      said = said_on (λ all. IfSome left (λ given. P given all)) (λ all. IfSome left (λ given. IsReached shows limit given now new.held new.over later (new.number + 1) all))
+      said = said_on (λ all. IfSome left (λ given. P given all)) (λ all. IfSome left (λ given. IsReached shows limit given now new.held new.over later
+          (new.number + 1) all))
           before here (outlet (g.K.Sink.written c.obey.new.sink) (g.K.Sink.faults c.obey.new.sink) (g.K.Sink.since c.obey.new.sink)) held (reply shows w said)
           (c.obey.new.text.items ++ owed c.obey.new.player.table.entries c.obey.new.run) inv.said obey.sent (λ all ok. on_some left ok (λ given reached.
-          line_played shows limit given was now old new w later all (all ++ reply shows w said) said c.line_laws.ensures.ended c.line_laws.ensures.one_feed reached handed within_limit
+          line_played shows limit given was now old new w later all (all ++ reply shows w said) said c.line_laws.ensures.ended c.line_laws.ensures.one_feed
+              reached handed within_limit
           (ap (λ l. allowed w (command One l)) (sym c.line.ensures.value) ∙ sym c.in-Ok.ensures.read)
           (alike_shown g.B.BroadPhase.COUNTS shows later (after w said) c.requires.shown obey.obeyed.world) refl));
       playing = obey.obeyed.playing;
@@ -109,7 +114,9 @@ returns-in_err-reader-clause-stopped g c =
     let known = g.K.Sink.written c.args.sink.now in
     let left = g.S.Source.left c.args.source.now in
     let text : List ℕ → List ℕ = λ given. report c.args.options.exchanges c.args.limit (lines given true) in
-    on_fault (λ fault. IsCutShort (outlet (g.K.Sink.written c.args.sink.now) (g.K.Sink.faults c.args.sink.now) (g.K.Sink.since c.args.sink.now)) (outlet (g.K.Sink.written c.args.sink.now) (g.K.Sink.faults c.args.sink.now) (g.K.Sink.since c.args.sink.now)) fault (IfSome left (λ given. IsBegun known known (text given))))
+    on_fault (λ fault. IsCutShort (outlet (g.K.Sink.written c.args.sink.now) (g.K.Sink.faults c.args.sink.now) (g.K.Sink.since c.args.sink.now))
+        (outlet (g.K.Sink.written c.args.sink.now) (g.K.Sink.faults c.args.sink.now) (g.K.Sink.since c.args.sink.now)) fault
+        (IfSome left (λ given. IsBegun known known (text given))))
     c.from_residual.result why.NoMemory c.from_residual.ensures.1
     (record { part = nothing_begun left known text; count = refl; uncalled = λ _. refl })
 
@@ -134,17 +141,23 @@ returns-in_err-obey-in-Ok-clause-stopped g c =
     let within = next.within in
     let within_limit : new.number ≤ limit = omega (arith, limit_is, limit_stays, within) in
     let handed : IsNextLine was now old new =
-    record { line = next.line; rest = next.rest; first = next.first; last = next.last_at_end; stays = next.over_stays; number = next.number; short = next.short } in
+    record { line = next.line; rest = next.rest; first = next.first; last = next.last_at_end; stays = next.over_stays; number = next.number;
+        short = next.short } in
     let said = c.in-Ok.command in
-    let stop = said_stopped (λ all. IfSome left (λ given. P given all)) before here (outlet (g.K.Sink.written c.obey.new.sink) (g.K.Sink.faults c.obey.new.sink) (g.K.Sink.since c.obey.new.sink)) held (reply shows w said) c.in_err-obey-in-Ok.field-0.0 inv.said c.in_err-obey-in-Ok.ensures.sent in
-    on_fault (λ fault. IsCutShort before (outlet (g.K.Sink.written c.obey.new.sink) (g.K.Sink.faults c.obey.new.sink) (g.K.Sink.since c.obey.new.sink)) fault (IfSome left (λ given.
+    let stop = said_stopped (λ all. IfSome left (λ given. P given all)) before here (outlet (g.K.Sink.written c.obey.new.sink)
+        (g.K.Sink.faults c.obey.new.sink) (g.K.Sink.since c.obey.new.sink)) held (reply shows w said) c.in_err-obey-in-Ok.field-0.0 inv.said
+        c.in_err-obey-in-Ok.ensures.sent in
+    on_fault (λ fault. IsCutShort before (outlet (g.K.Sink.written c.obey.new.sink) (g.K.Sink.faults c.obey.new.sink) (g.K.Sink.since c.obey.new.sink))
+        fault (IfSome left (λ given.
     IsBegun (g.K.Sink.written c.args.sink.now) (g.K.Sink.written c.obey.new.sink) (report shows limit (lines given true)))))
     c.from_residual-in_err-obey-in-Ok.result c.in_err-obey-in-Ok.field-0.0 c.from_residual-in_err-obey-in-Ok.ensures.1
     (record {
       part = on_some left inv.said.whole (λ given reached.
-          begun_within (g.K.Sink.written c.args.sink.now) (g.K.Sink.written c.obey.new.sink) ((inv.said.done ++ held) ++ reply shows w said) (report shows limit (lines given true)) stop.begun
+          begun_within (g.K.Sink.written c.args.sink.now) (g.K.Sink.written c.obey.new.sink) ((inv.said.done ++ held) ++ reply shows w said)
+              (report shows limit (lines given true)) stop.begun
           (replied_within shows limit given now new.held new.over (after w said) (new.number + 1) ((inv.said.done ++ held) ++ reply shows w said)
-          (line_played shows limit given was now old new w (after w said) (inv.said.done ++ held) ((inv.said.done ++ held) ++ reply shows w said) said c.line_laws.ensures.ended c.line_laws.ensures.one_feed reached handed within_limit
+          (line_played shows limit given was now old new w (after w said) (inv.said.done ++ held) ((inv.said.done ++ held) ++ reply shows w said) said
+              c.line_laws.ensures.ended c.line_laws.ensures.one_feed reached handed within_limit
           (ap (λ l. allowed w (command One l)) (sym c.line.ensures.value) ∙ sym c.in-Ok.ensures.read) (alike_itself shows (after w said)) refl)));
       count = stop.count;
       uncalled = stop.uncalled;
@@ -171,9 +184,11 @@ returns-in-Err-clause-said g c =
     let within = next.within in
     let within_limit : new.number ≤ limit = omega (arith, limit_is, limit_stays, within) in
     let handed : IsNextLine was now old new =
-    record { line = next.line; rest = next.rest; first = next.first; last = next.last_at_end; stays = next.over_stays; number = next.number; short = next.short } in
+    record { line = next.line; rest = next.rest; first = next.first; last = next.last_at_end; stays = next.over_stays; number = next.number;
+        short = next.short } in
     let why = c.in-Err.cause in
-    said_map (λ all. IfSome left (λ given. P given all)) (λ all. IfSome left (λ given. IsTextOf shows limit given now (all ++ refused_line c.number.result why) (Refused c.number.result why)))
+    said_map (λ all. IfSome left (λ given. P given all))
+        (λ all. IfSome left (λ given. IsTextOf shows limit given now (all ++ refused_line c.number.result why) (Refused c.number.result why)))
     before here held inv.said (λ all ok. on_some left ok (λ given reached.
     subst (λ n. IsTextOf shows limit given now (all ++ refused_line n why) (Refused n why)) (sym c.number.ensures.value)
     (line_refused shows limit given was now old new w why all c.line_laws.ensures.in_parts c.line_laws.ensures.near reached handed next.small within_limit
@@ -200,7 +215,9 @@ returns-in-Long-clause-said g c =
       kept = next.kept;
       small = next.small;
     } in
-    said_map (λ all. IfSome left (λ given. P given all)) (λ all. IfSome left (λ given. IsTextOf shows limit given now (all ++ refused_line c.number-in-Long.result cause.Long) (Refused c.number-in-Long.result cause.Long)))
+    said_map (λ all. IfSome left (λ given. P given all))
+        (λ all. IfSome left (λ given. IsTextOf shows limit given now (all ++ refused_line c.number-in-Long.result cause.Long)
+        (Refused c.number-in-Long.result cause.Long)))
     before here held inv.said (λ all ok. on_some left ok (λ given reached.
     subst (λ n. IsTextOf shows limit given now (all ++ refused_line n cause.Long) (Refused n cause.Long)) (sym c.number-in-Long.ensures.value)
     (long_refused shows limit given was now old new w all c.line_laws.ensures.first c.line_laws.ensures.in_parts reached last next.number)))
@@ -226,7 +243,9 @@ returns-in-TooMany-clause-said g c =
       kept = next.kept;
       small = next.small;
     } in
-    said_map (λ all. IfSome left (λ given. P given all)) (λ all. IfSome left (λ given. IsTextOf shows limit given now (all ++ refused_line c.number-in-TooMany.result cause.Lines) (Refused c.number-in-TooMany.result cause.Lines)))
+    said_map (λ all. IfSome left (λ given. P given all))
+        (λ all. IfSome left (λ given. IsTextOf shows limit given now (all ++ refused_line c.number-in-TooMany.result cause.Lines)
+        (Refused c.number-in-TooMany.result cause.Lines)))
     before here held inv.said (λ all ok. on_some left ok (λ given reached.
     subst (λ n. IsTextOf shows limit given now (all ++ refused_line n cause.Lines) (Refused n cause.Lines)) (sym c.number-in-TooMany.ensures.value)
     (too_many_refused shows limit given was now old new w all c.line_laws.ensures.first c.line_laws.ensures.in_parts reached last next.number)))
@@ -252,9 +271,12 @@ returns-then-not-player-clause-said g c =
       kept = next.kept;
       small = next.small;
     } in
-    said_map (λ all. IfSome left (λ given. P given all)) (λ all. IfSome left (λ given. IsTextOf shows limit given now (all ++ refused_line (c.number-then-not-player.result + 1) cause.Header) (Refused (c.number-then-not-player.result + 1) cause.Header)))
+    said_map (λ all. IfSome left (λ given. P given all))
+        (λ all. IfSome left (λ given. IsTextOf shows limit given now (all ++ refused_line (c.number-then-not-player.result + 1) cause.Header)
+        (Refused (c.number-then-not-player.result + 1) cause.Header)))
     before here held inv.said (λ all ok. on_some left ok (λ given reached.
-    subst (λ n. IsTextOf shows limit given now (all ++ refused_line (n + 1) cause.Header) (Refused (n + 1) cause.Header)) (sym c.number-then-not-player.ensures.value)
+    subst (λ n. IsTextOf shows limit given now (all ++ refused_line (n + 1) cause.Header) (Refused (n + 1) cause.Header))
+        (sym c.number-then-not-player.ensures.value)
     (end_refused shows limit given was now old new w all c.line_laws.ensures.in_parts reached last next.number c.if-not-player.true)))
 
 pub returns-in-End-clause-said : goal.returns-in-End-clause-said
@@ -280,7 +302,8 @@ returns-in-End-clause-said g c =
     } in
     let live = c.len.result in
     let frames = c.lines.player.frames in
-    said_map (λ all. IfSome left (λ given. P given all)) (λ all. IfSome left (λ given. IsTextOf shows limit given now (all ++ end_line c.number-in-End.result frames live) Done))
+    said_map (λ all. IfSome left (λ given. P given all))
+        (λ all. IfSome left (λ given. IsTextOf shows limit given now (all ++ end_line c.number-in-End.result frames live) Done))
     before here held inv.said (λ all ok. on_some left ok (λ given reached.
     subst (λ n. IsTextOf shows limit given now (all ++ end_line n frames live) Done) (sym c.number-in-End.ensures.value)
     (subst (λ k. IsTextOf shows limit given now (all ++ end_line new.number frames k) Done) (sym c.len.ensures.len)

@@ -15,14 +15,16 @@ shift-requires-clause-small g c = lives_small c.args.handle c.args.self.now.tabl
 pub shift-requires-clause-present : goal.shift-requires-clause-present
 shift-requires-clause-present g c _ =
     let playing = c.requires.playing in
-    ap (λ b. contains_key b c.args.handle.slot) playing.boxes ∙ indexed_present c.args.handle c.args.self.now.table.entries playing.table.rising (sym c.in-Ok.ensures.known)
+    ap (λ b. contains_key b c.args.handle.slot) playing.boxes
+        ∙ indexed_present c.args.handle c.args.self.now.table.entries playing.table.rising (sym c.in-Ok.ensures.known)
 
 pub returns-in-Ok-clause-obeyed : goal.returns-in-Ok-clause-obeyed
 returns-in-Ok-clause-obeyed g c =
     let playing = c.requires.playing in
     let moved = c.in-Ok.ensures in
     let bodies = g.B.BroadPhase.bodies c.args.self.now.index in
-    let few = shifted_few bodies c.args.handle.slot c.args.body (few_bodies bodies c.args.self.now.table.entries playing.boxes playing.table.rising playing.table.few) in
+    let few = shifted_few bodies c.args.handle.slot c.args.body (few_bodies bodies c.args.self.now.table.entries playing.boxes playing.table.rising
+        playing.table.few) in
     let exchanges = g.B.BroadPhase.exchanges c.args.self.now.index in
     let live = c.args.self.now.table.entries in
     on_shifted c.shift.result c.shift.ensures.sound c.shift.ensures.ok c.shift.ensures.counted (λ sound put passed. record {
@@ -33,12 +35,15 @@ returns-in-Ok-clause-obeyed g c =
         frames = refl;
         exchanges = λ on.
             passed on ∙ ap (λ b. exchanges + passed_from (get b c.args.handle.slot) (entries b) c.args.handle.slot c.args.body) playing.boxes
-            ∙ ap (λ es. exchanges + passed_from (get (bodies_of live) c.args.handle.slot) es c.args.handle.slot c.args.body) (entries-bodies_of live playing.table.rising)
-            ∙ ap (λ o. exchanges + passed_from o (slots_with_bodies live) c.args.handle.slot c.args.body) (found_body c.args.handle live playing.table.rising (sym moved.known));
+            ∙ ap (λ es. exchanges + passed_from (get (bodies_of live) c.args.handle.slot) es c.args.handle.slot c.args.body)
+                (entries-bodies_of live playing.table.rising)
+            ∙ ap (λ o. exchanges + passed_from o (slots_with_bodies live) c.args.handle.slot c.args.body)
+                (found_body c.args.handle live playing.table.rising (sym moved.known));
       };
       playing = record {
         sound = sound;
-        boxes = moved_boxes _ _ c.args.self.now.table c.set_box.new.self c.args.handle c.args.body playing.boxes put moved.after playing.table moved.table moved.known;
+        boxes = moved_boxes _ _ c.args.self.now.table c.set_box.new.self c.args.handle c.args.body playing.boxes put moved.after playing.table moved.table
+            moved.known;
         table = moved.table;
       };
       few = record {
