@@ -38,9 +38,10 @@ pub fn print_command(command: &Command, out: &mut Vec<u8>) -> Result<(), NoMemor
     Ok(out.extend_from_slice(line.bytes())?)
 }
 
-/// A law for proofs, with nothing to run, over commands that need not be at hand, as those of a made scene: what is
-/// printed of a command reads back as that command, has no byte below the space, so neither LF nor CR, and at most 104
-/// bytes. It stands on `words`: a line of words with a space between each two has these words.
+/// A law for proofs, with nothing to run, over commands that need not be at hand: what the drill says of the whole scene
+/// that it makes stands on it. What is printed of a command reads back as that command, has no byte below the space, so
+/// neither LF nor CR, and at most 104 bytes. `words` says why: a line of words with a space between each two has these
+/// words.
 pub fn printed_reads_back()
     ensures back { (c : Command) → IsInRange c → scene.command One (printed c) ≡ Ok c }
     ensures visible { (c : Command) → IsInRange c → All (λ b. 32 ≤ b) (printed c) }
