@@ -6,6 +6,7 @@ use Rattle.std.specs.Char.{is_ascii_digit, digit_value}
 use Rattle.std.specs.Str.{all_ascii_digits}
 use Rattle.std.specs.Str.Parse.{digits_value}
 use Rattle.std.proofs.lemmas.Bool.{and_parts}
+use Rattle.std.proofs.lemmas.List.{length-append}
 use Rattle.std.proofs.lemmas.List.Elements.{All-nil, All-cons, All-append}
 use Rattle.std.proofs.lemmas.Bool.Decides.{nat_tests}
 use Rattle.std.proofs.lemmas.Int.{ints}
@@ -20,7 +21,7 @@ use Rattle.fixed_box.specs.Fix.{show_magnitude, last_digits, hundred_thousandths
 use Rattle.fixed_box.proofs.DigitRuns.{split_digits, split_alone}
 use Rattle.fixed_box.proofs.Magnitude.{number_of-digits}
 use Rattle.fixed_box.proofs.Rounding.{nearest_negative}
-use Rattle.fixed_box.proofs.Shown.{length-last_digits}
+use Rattle.fixed_box.proofs.Shown.{length-last_digits, length_units}
 
 digits_push : (ds : List ℕ) (d : ℕ) → all_ascii_digits ds ≡ true → is_ascii_digit d ≡ true → all_ascii_digits (ds ++ d ∷ []) ≡ true
 digits_push [] d h last = ap (λ t. t && true) last
@@ -142,3 +143,18 @@ shown_bytes (pos a) low high = let size : a ≤ 2147483647 = omega (arith, ints)
 shown_bytes (negsuc a) low high =
     let size : a ≤ 2147483647 = omega (arith, ints) in
     All-cons IsPlain 45 (show_magnitude (hundred_thousandths (suc a))) (omega arith, omega arith) (plain_magnitude (hundred_thousandths (suc a)) (omega arith))
+
+-- a magnitude of 32 bits is printed in at most five digits, the point and five digits more
+magnitude_short : (a : ℕ) → a ≤ 2 ^ 31 → length (show_magnitude (hundred_thousandths a)) ≤ 11
+magnitude_short a small =
+    omega (
+      arith,
+      length-append (decimal (hundred_thousandths a / 100000)) (46 ∷ last_digits 5 (hundred_thousandths a % 100000)),
+      length_units a small,
+      length-last_digits 5 (hundred_thousandths a % 100000),
+    )
+
+-- a printed number is short
+pub shown_short : (r : ℤ) → negsuc 2147483647 ≤ℤ r → r ≤ℤ pos 2147483647 → length (show r) ≤ 12
+shown_short (pos a) low high = let size : a ≤ 2147483647 = omega (arith, ints) in omega (arith, magnitude_short a (omega arith))
+shown_short (negsuc a) low high = let size : a ≤ 2147483647 = omega (arith, ints) in omega (arith, magnitude_short (suc a) (omega arith))

@@ -66,12 +66,13 @@ fn put_byte(byte: u8, at: usize, into: &mut [u8; 16]) -> usize
     at + 1
 }
 
-/// A law for proofs, with nothing to run: what `print_fix` puts reads back as the number that was printed, and each of
-/// its bytes lies from `-` to `9`, so that no white space or `#` cuts it.
+/// A law for proofs, with nothing to run: what `print_fix` puts reads back as the number that was printed, each of its
+/// bytes lies from `-` to `9`, so that no white space or `#` cuts it, and there are at most 12.
 pub fn printed_reads_back()
     ensures reads_back { (r : ℤ) → negsuc 2147483647 ≤ℤ r → r ≤ℤ pos 2147483647 → fix (show r) ≡ Ok r }
     ensures bytes { (r : ℤ) → negsuc 2147483647 ≤ℤ r → r ≤ℤ pos 2147483647
         → All (λ b. (45 ≤ b) × (b ≤ 57)) (show r) }
+    ensures short { (r : ℤ) → negsuc 2147483647 ≤ℤ r → r ≤ℤ pos 2147483647 → length (show r) ≤ 12 }
 {}
 
 // Texts of a few raw numbers, computed from the definition.

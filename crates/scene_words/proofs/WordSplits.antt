@@ -24,7 +24,7 @@ onto_front_nothing [] parts = refl
 onto_front_nothing (b ∷ bs) parts = ap (onto_first b) (onto_front_nothing bs parts)
 
 -- neither blank nor hash
-plain : (x y : Bool) → not (x || y) ≡ true → (x ≡ false) × (y ≡ false)
+pub plain : (x y : Bool) → not (x || y) ≡ true → (x ≡ false) × (y ≡ false)
 plain true y h = cc
 plain false true h = cc
 plain false false h = (refl, refl)
@@ -67,18 +67,19 @@ stops (b ∷ bs) h =
           ] refl)
     ] refl
 
+-- a piece between blanks that isn't empty is a word
+pub word_kept : (word : List ℕ) (parts : List (List ℕ)) → 0 < length word → filter is_word (word ∷ parts) ≡ word ∷ filter is_word parts
+word_kept [] parts h = absurd (omega arith)
+word_kept (b ∷ bs) parts h = refl
+
 -- the word at the front of a line, and those after it
 pub words_ahead : (line : List ℕ) → 0 < prefix_len in_word line → words line ≡ take (prefix_len in_word line) line ∷ words (drop (prefix_len in_word line) line)
 words_ahead line some =
     let rest = stops (drop (prefix_len in_word line) line) (past_word line) in
     ap (filter is_word) (word_ahead line ∙ ap (onto_front (take (prefix_len in_word line) line)) rest.1
     ∙ onto_front_nothing (take (prefix_len in_word line) line) rest.0)
-    ∙ kept (take (prefix_len in_word line) line) rest.0 (omega (arith, length-prefix_len in_word line))
+    ∙ word_kept (take (prefix_len in_word line) line) rest.0 (omega (arith, length-prefix_len in_word line))
     ∙ ap (λ more. take (prefix_len in_word line) line ∷ more) (sym (ap (filter is_word) rest.1))
-  where
-    kept : (word : List ℕ) (parts : List (List ℕ)) → 0 < length word → filter is_word (word ∷ parts) ≡ word ∷ filter is_word parts
-    kept [] parts h = absurd (omega arith)
-    kept (b ∷ bs) parts h = refl
 
 -- where the line neither begins with a blank nor with a word, no word is left
 pub words_none : (line : List ℕ) → prefix_len is_blank line ≡ 0 → prefix_len in_word line ≡ 0 → words line ≡ []

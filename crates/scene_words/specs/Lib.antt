@@ -1,4 +1,7 @@
 pub mod Examples
+pub mod Printed
+pub mod PrintedParts
+pub mod Ranges
 pub mod Reads
 pub mod SceneWords
 pub mod Values

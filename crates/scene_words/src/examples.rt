@@ -1,9 +1,10 @@
 ghost use Rattle.std.specs.Prelude.{◌≡◌, [], ◌∷◌, codes};
-ghost use Rattle.scene_words.specs.declared.command.Command.TheVariants.{Add, Move, SegQ};
+ghost use Rattle.scene_words.specs.declared.command.Command.TheVariants.{Blank, Add, Move, SegQ};
 ghost use Rattle.scene_words.specs.declared.line_fault.LineFault.TheVariants as fault;
 ghost use Rattle.scene_words.specs.declared.version.Version.TheVariants.{One};
 ghost use Rattle.scene_words.specs.SceneWords.{words, command};
 ghost use Rattle.scene_words.specs.Examples.{unit_box, one_group, diagonal};
+ghost use Rattle.scene_words.specs.Printed.{printed};
 
 // Words and commands, computed from the definitions.
 #[tactic(auto, unfolding(crate::specs::SceneWords::command_of, crate::specs::SceneWords::add_of, crate::specs::SceneWords::move_of, crate::specs::SceneWords::seg_of, crate::specs::SceneWords::point_at))]
@@ -29,4 +30,12 @@ fn worked_faults()
     ensures mask { command One (codes "mask 0:0 g 1") ≡ Err fault.Mask }
     ensures nine_digits { command One (codes "add 1 0 0 0 1 1 123456789") ≡ Err fault.Mask }
     ensures inverted { command One (codes "move 0:0 1 0 0 0 1 1") ≡ Err fault.Inverted }
+{}
+
+// Printed commands, in which no word is left out.
+fn worked_prints()
+    ensures blank { printed Blank ≡ [] }
+    ensures default_masks { printed (Add unit_box (one_group 1))
+        ≡ codes "add 0.00000 0.00000 0.00000 1.00000 1.00000 1.00000 1 ffffffff" }
+    ensures group { printed (SegQ diagonal 171) ≡ codes "seg 0.00000 0.00000 0.00000 1.00000 1.00000 1.00000 ab" }
 {}

@@ -1,4 +1,4 @@
-//! One line of a scene, read as a command: its words, and what they stand for.
+//! One line of a scene, read as a command, and a command printed as a line: its words, and what they stand for.
 #![tactic(auto)]
 
 mod command;
@@ -6,6 +6,8 @@ mod examples;
 mod line_commands;
 mod line_fault;
 mod line_words;
+mod printed_line;
+mod printing;
 mod values;
 mod verb;
 mod version;
@@ -13,6 +15,7 @@ mod version;
 pub use command::Command;
 pub use line_commands::read_command;
 pub use line_fault::LineFault;
+pub use printing::{print_command, printed_reads_back};
 pub use version::Version;
 
 #[cfg(test)]

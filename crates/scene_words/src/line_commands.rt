@@ -1,7 +1,8 @@
-ghost use Rattle.std.specs.Prelude.{◌≡◌};
+ghost use Rattle.std.specs.Prelude.{◌≡◌, length, IfOk};
 ghost use Rattle.scene_words.specs.Verbs.{version_word};
 ghost use Rattle.scene_words.specs.SceneWords.{words, command, further_of, header_of, number_at, point_at, handle_at, mask_at, mask_or, box_between};
 ghost use Rattle.scene_words.specs.SceneWords.{add_of, move_of, mask_of, remove_of, box_of, point_of, ray_of, seg_of};
+ghost use Rattle.scene_words.specs.Ranges.{IsPrintable};
 ghost use Rattle.scene_words.specs.Reads.{Reads};
 
 use crate::line_words::{count_words, next_word};
@@ -25,7 +26,8 @@ const FIRST_GROUP: u32 = 1;
 /// is in the first group alone.
 #[tactic(auto, unfolding(crate::specs::SceneWords::command_of))]
 pub fn read_command(version: Version, line: &[u8]) -> Result<Command, LineFault>
-    ensures { result ≡ command version line.now }
+    ensures command { result ≡ command version line.now }
+    ensures printable { IfOk result IsPrintable }
 {
     let Some((word, further)) = next_word(line) else {
         return Ok(Command::Blank);
@@ -42,7 +44,8 @@ pub fn read_command(version: Version, line: &[u8]) -> Result<Command, LineFault>
 
 // Reads what follows the first word.
 fn read_further(version: Version, verb: Verb, further: &[u8]) -> Result<Command, LineFault>
-    ensures { result ≡ further_of version verb (words further.now) }
+    ensures command { result ≡ further_of version verb (words further.now) }
+    ensures printable { IfOk result IsPrintable }
 {
     match verb {
         Verb::Scene => read_header(version, further),
@@ -60,7 +63,8 @@ fn read_further(version: Version, verb: Verb, further: &[u8]) -> Result<Command,
 
 // Reads what follows `scene`: the version's word, alone.
 fn read_header(version: Version, further: &[u8]) -> Result<Command, LineFault>
-    ensures { result ≡ header_of version (words further.now) }
+    ensures command { result ≡ header_of version (words further.now) }
+    ensures printable { IfOk result IsPrintable }
 {
     let Some((word, rest)) = next_word(further) else {
         return Err(LineFault::Header);
@@ -73,8 +77,9 @@ fn read_header(version: Version, further: &[u8]) -> Result<Command, LineFault>
 }
 
 // The word that names a version.
-fn version_word(version: Version) -> &'static [u8]
-    ensures { result.now ≡ version_word version }
+pub(crate) fn version_word(version: Version) -> &'static [u8]
+    ensures word { result.now ≡ version_word version }
+    ensures short { length result.now ≡ 1 }
 {
     match version {
         Version::One => b"1".as_slice(),
@@ -84,7 +89,8 @@ fn version_word(version: Version) -> &'static [u8]
 // Reads what follows `add`: the corners, and the masks.
 #[tactic(auto, unfolding(crate::specs::SceneWords::add_of))]
 fn read_add(further: &[u8]) -> Result<Command, LineFault>
-    ensures { result ≡ add_of (words further.now) }
+    ensures command { result ≡ add_of (words further.now) }
+    ensures printable { IfOk result IsPrintable }
 {
     let (lo, rest) = read_point(further)?;
     let (hi, rest) = read_point(rest)?;
@@ -100,7 +106,8 @@ fn read_add(further: &[u8]) -> Result<Command, LineFault>
 // Reads what follows `move`: the handle, and the new corners.
 #[tactic(auto, unfolding(crate::specs::SceneWords::move_of))]
 fn read_move(further: &[u8]) -> Result<Command, LineFault>
-    ensures { result ≡ move_of (words further.now) }
+    ensures command { result ≡ move_of (words further.now) }
+    ensures printable { IfOk result IsPrintable }
 {
     let (handle, rest) = read_handle(further)?;
     let (lo, rest) = read_point(rest)?;
@@ -112,7 +119,8 @@ fn read_move(further: &[u8]) -> Result<Command, LineFault>
 // Reads what follows `mask`: the handle, and the new masks.
 #[tactic(auto, unfolding(crate::specs::SceneWords::mask_of))]
 fn read_new_masks(further: &[u8]) -> Result<Command, LineFault>
-    ensures { result ≡ mask_of (words further.now) }
+    ensures command { result ≡ mask_of (words further.now) }
+    ensures printable { IfOk result IsPrintable }
 {
     let (handle, rest) = read_handle(further)?;
     let (is, rest) = read_mask(rest)?;
@@ -125,7 +133,8 @@ fn read_new_masks(further: &[u8]) -> Result<Command, LineFault>
 
 // Reads what follows `remove`: the handle.
 fn read_remove(further: &[u8]) -> Result<Command, LineFault>
-    ensures { result ≡ remove_of (words further.now) }
+    ensures command { result ≡ remove_of (words further.now) }
+    ensures printable { IfOk result IsPrintable }
 {
     let (handle, _) = read_handle(further)?;
     Ok(Command::Remove { handle })
@@ -134,7 +143,8 @@ fn read_remove(further: &[u8]) -> Result<Command, LineFault>
 // Reads what follows `box`: the corners, and the groups.
 #[tactic(auto, unfolding(crate::specs::SceneWords::box_of))]
 fn read_box(further: &[u8]) -> Result<Command, LineFault>
-    ensures { result ≡ box_of (words further.now) }
+    ensures command { result ≡ box_of (words further.now) }
+    ensures printable { IfOk result IsPrintable }
 {
     let (lo, rest) = read_point(further)?;
     let (hi, rest) = read_point(rest)?;
@@ -146,7 +156,8 @@ fn read_box(further: &[u8]) -> Result<Command, LineFault>
 // Reads what follows `point`: the point, and the groups.
 #[tactic(auto, unfolding(crate::specs::SceneWords::point_of))]
 fn read_point_query(further: &[u8]) -> Result<Command, LineFault>
-    ensures { result ≡ point_of (words further.now) }
+    ensures command { result ≡ point_of (words further.now) }
+    ensures printable { IfOk result IsPrintable }
 {
     let (at, rest) = read_point(further)?;
     let (mask, _) = read_mask_or(EVERY_GROUP, rest)?;
@@ -156,7 +167,8 @@ fn read_point_query(further: &[u8]) -> Result<Command, LineFault>
 // Reads what follows `ray`: the start, the direction, and the groups.
 #[tactic(auto, unfolding(crate::specs::SceneWords::ray_of))]
 fn read_ray(further: &[u8]) -> Result<Command, LineFault>
-    ensures { result ≡ ray_of (words further.now) }
+    ensures command { result ≡ ray_of (words further.now) }
+    ensures printable { IfOk result IsPrintable }
 {
     let (from, rest) = read_point(further)?;
     let (dir, rest) = read_point(rest)?;
@@ -171,7 +183,8 @@ fn read_ray(further: &[u8]) -> Result<Command, LineFault>
 // Reads what follows `seg`: the two ends, and the groups.
 #[tactic(auto, unfolding(crate::specs::SceneWords::seg_of))]
 fn read_seg(further: &[u8]) -> Result<Command, LineFault>
-    ensures { result ≡ seg_of (words further.now) }
+    ensures command { result ≡ seg_of (words further.now) }
+    ensures printable { IfOk result IsPrintable }
 {
     let (a, rest) = read_point(further)?;
     let (b, rest) = read_point(rest)?;

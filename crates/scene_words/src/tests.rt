@@ -248,3 +248,72 @@ fn numbers_of_a_box_are_read_to_the_nearest_raw_number(rt: HostRuntime) -> Resul
     }
     Ok(())
 }
+
+#[test]
+fn commands_print_as_lines(rt: HostRuntime) -> Result<(), Fail> {
+    let body = FBox::new(at(0, 0, 0), at(ONE, ONE, ONE)).ok_or("the corners are inverted")?;
+    let mut out = Vec::new(rt.alloc());
+    let added = Command::Add {
+        body,
+        masks: masks(1, EVERY_GROUP),
+    };
+    print_command(&added, &mut out)?;
+    print_command(&Command::Blank, &mut out)?;
+    print_command(&Command::Frame, &mut out)?;
+    let text = b"add 0.00000 0.00000 0.00000 1.00000 1.00000 1.00000 1 ffffffff\n\nframe\n";
+    assert_eq!(rt; out.as_slice(), text.as_slice());
+    Ok(())
+}
+
+#[test]
+fn lines_are_printed_with_all_their_words(rt: HostRuntime) -> Result<(), Fail> {
+    let cases: [(&[u8], &[u8]); 14] = [
+        (b"", b"\n"),
+        (b" \t # a comment", b"\n"),
+        (b"scene\t1", b"scene 1\n"),
+        (
+            b"add 0 0 0 1 1 1",
+            b"add 0.00000 0.00000 0.00000 1.00000 1.00000 1.00000 1 ffffffff\n",
+        ),
+        (
+            b"add -1 -2.5 -3 1 1 1 00AB",
+            b"add -1.00000 -2.50000 -3.00000 1.00000 1.00000 1.00000 ab ffffffff\n",
+        ),
+        (
+            b"move 007:00 0 0 0 1 1 1",
+            b"move 7:0 0.00000 0.00000 0.00000 1.00000 1.00000 1.00000\n",
+        ),
+        (
+            b"move 4294967295:4294967295 -32768 -32768 -32768 -32768 -32768 -32768",
+            b"move 4294967295:4294967295 -32768.00000 -32768.00000 -32768.00000 -32768.00000 -32768.00000 -32768.00000\n",
+        ),
+        (b"mask 7:1 10 0", b"mask 7:1 10 0\n"),
+        (b"remove 8191:4294967295", b"remove 8191:4294967295\n"),
+        (b"frame # the first", b"frame\n"),
+        (
+            b"box 0 0 0 1 1 1 F",
+            b"box 0.00000 0.00000 0.00000 1.00000 1.00000 1.00000 f\n",
+        ),
+        (
+            b"point 0.00001 -0.00001 32767.99999",
+            b"point 0.00002 -0.00002 32767.99998 ffffffff\n",
+        ),
+        (
+            b"ray 0 0 0 1 2 3 FEDCBA98",
+            b"ray 0.00000 0.00000 0.00000 1.00000 2.00000 3.00000 fedcba98\n",
+        ),
+        (
+            b"seg 1 2 3 0 0 0 80000000",
+            b"seg 1.00000 2.00000 3.00000 0.00000 0.00000 0.00000 80000000\n",
+        ),
+    ];
+    for (line, printed) in cases {
+        let Ok(command) = read_command(Version::One, line) else {
+            return Err("the line is no command".into());
+        };
+        let mut out = Vec::new(rt.alloc());
+        print_command(&command, &mut out)?;
+        assert_eq!(rt; out.as_slice(), printed);
+    }
+    Ok(())
+}

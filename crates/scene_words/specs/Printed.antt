@@ -1,0 +1,51 @@
+-- What is printed of a command.
+use Rattle.std.specs.Prelude.{◌≡◌, ℕ, true, false, ◌||◌, not, ◌<◌, List, [], ◌∷◌, ◌++◌, length, codes, decimal}
+use Rattle.std.specs.Fmt.{digits}
+use Rattle.std.specs.List.{All, join_with_byte}
+use Rattle.fixed_box.specs.Bounds.{Bounds}
+use Rattle.fixed_box.specs.Fix.{show}
+use Rattle.live_table.specs.declared.handle.Handle.{Handle}
+use Rattle.ray_slabs.specs.Vector.{Vector, widened}
+use Rattle.scene_words.specs.declared.command.Command.{Command}
+use Rattle.scene_words.specs.declared.command.Command.TheVariants.{Blank, Header, Add, Move, Mask, Remove, Frame, BoxQ, PointQ, RayQ, SegQ}
+use Rattle.scene_words.specs.SceneWords.{is_blank, is_hash}
+use Rattle.scene_words.specs.Verbs.{version_word}
+
+-- A word of a line: some bytes, of which none is a blank or begins a comment.
+pub record IsWord (word : List ℕ) : Type 0 where
+  pub some : 0 < length word
+  pub plain : All (λ b. not (is_blank b || is_hash b) ≡ true) word
+
+-- a slot and a generation, with a colon between them
+abbrev pub handle_text : Handle → List ℕ
+handle_text handle = decimal handle.slot ++ 58 ∷ decimal handle.generation
+
+-- in hexadecimal, of lower case, without leading zeros
+abbrev pub mask_text : ℕ → List ℕ
+mask_text mask = digits 16 false mask
+
+-- the three numbers of a point, before further words
+abbrev pub point_words : Vector → List (List ℕ) → List (List ℕ)
+point_words v more = show v.x ∷ show v.y ∷ show v.z ∷ more
+
+-- the two corners of a box, the lower one first, before further words
+abbrev pub box_words : Bounds → List (List ℕ) → List (List ℕ)
+box_words b more = point_words (widened b.lo) (point_words (widened b.hi) more)
+
+-- The words of a command. None is left out.
+abbrev pub command_words : Command → List (List ℕ)
+command_words Blank = []
+command_words (Header version) = codes "scene" ∷ version_word version ∷ []
+command_words (Add body masks) = codes "add" ∷ box_words body (mask_text masks.is ∷ mask_text masks.sees ∷ [])
+command_words (Move handle body) = codes "move" ∷ handle_text handle ∷ box_words body []
+command_words (Mask handle masks) = codes "mask" ∷ handle_text handle ∷ mask_text masks.is ∷ mask_text masks.sees ∷ []
+command_words (Remove handle) = codes "remove" ∷ handle_text handle ∷ []
+command_words Frame = codes "frame" ∷ []
+command_words (BoxQ body mask) = codes "box" ∷ box_words body (mask_text mask ∷ [])
+command_words (PointQ at mask) = codes "point" ∷ point_words (widened at) (mask_text mask ∷ [])
+command_words (RayQ ray mask) = codes "ray" ∷ point_words ray.from (point_words ray.dir (mask_text mask ∷ []))
+command_words (SegQ seg mask) = codes "seg" ∷ point_words seg.a (point_words seg.b (mask_text mask ∷ []))
+
+-- Its words, with a space between each two.
+abbrev pub printed : Command → List ℕ
+printed command = join_with_byte 32 (command_words command)
