@@ -458,7 +458,7 @@ fn each_write_that_fails_ends_a_play(rt: HostRuntime) -> Result<(), Fail> {
         assert_eq!(rt; answer, Status::WriteFault);
         assert_eq!(rt; sink.calls(), u64::from(k) + 1);
     }
-    Err("a play without a fault")?
+    Err("a play without a fault".into())
 }
 
 #[test]
