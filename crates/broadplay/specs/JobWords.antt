@@ -57,8 +57,14 @@ no_choices = record { structure = None; workers = None }
 
 -- What is left out is the plain list and one worker.
 abbrev pub job_of : Choices → Job
-job_of choices = record { task = Play; structure = unwrap_or choices.structure Plain; options = record { workers = unwrap_or choices.workers 1;
-    exchanges = false } }
+job_of choices = record {
+  task = Play;
+  structure = unwrap_or choices.structure Plain;
+  options = record {
+    workers = unwrap_or choices.workers 1;
+    exchanges = false;
+  };
+}
 
 -- The word `play` and its options are the job to play a scene. No other list of words has a meaning.
 abbrev pub job : List (List ℕ) → Option Job

@@ -392,10 +392,15 @@ fn a_slot_that_is_free_again_takes_the_next_box(rt: HostRuntime) -> Result<(), F
 }
 
 // A level with a floor, two crates and a player, and what is reported of it.
-const LEVEL: &[u8] = b"scene 1\n# floor, two crates, a player\nadd -100 -1 -100 100 0 100 1 6\nadd 2 0 2 3 1 3 2 7\nadd 2.5 1 2.5 3.5 2 3.5 2 7\nadd 10 0.5 10 10.8 2.3 10.8 4 3\nframe\nmove 3:0 3 0.5 3 3.8 2.3 3.8\nray 0 1.5 3 1 0 0 4\nframe\nremove 2:0\nframe\n";
+const LEVEL: &[u8] =
+    b"scene 1\n# floor, two crates, a player\nadd -100 -1 -100 100 0 100 1 6\nadd 2 0 2 3 1 3 2 7\nadd 2.5 1 2.5 3.5 2 3.5 2 7\nadd 10 0.5 10 10.8 2.3 10.8 4 3\nframe\nmove 3:0 3 0.5 3 3.8 2.3 3.8\nray 0 1.5 3 1 0 0 4\nframe\nremove 2:0\nframe\n";
 
 // What is written of a scene that is read to its end.
-fn report_of<R: Threads + Sync + Abort>(rt: &R, alloc: Global, scene: &[u8]) -> Result<Vec<u8>, Fail> {
+fn report_of<R: Threads + Sync + Abort>(
+    rt: &R,
+    alloc: Global,
+    scene: &[u8],
+) -> Result<Vec<u8>, Fail> {
     let mut list = Vec::new(alloc);
     list.push(String::from_str(alloc, "play")?)?;
     let mut source = HonestSource::new(alloc, scene, 1024)?;
@@ -480,7 +485,10 @@ fn a_read_fault_stays_the_answer(rt: HostRuntime) -> Result<(), Fail> {
     let scene = b"scene 1\nadd 0 0 0 1 1 1\npoint 0 0 0\nbox 0 0 0 1 1 1\n".as_slice();
     let end = [scene.len() as u32];
     let rows = [
-        ([].as_slice(), b"add 0:0\npoint 1 0:0\nbox 1 0:0\n".as_slice()),
+        (
+            [].as_slice(),
+            b"add 0:0\npoint 1 0:0\nbox 1 0:0\n".as_slice(),
+        ),
         ([0].as_slice(), b""),
         ([9].as_slice(), b"add 0:0\np"),
     ];
@@ -504,7 +512,10 @@ fn many_lines_pass_through_short_reads(rt: HostRuntime) -> Result<(), Fail> {
     let mut sink = HonestSink::new(alloc, 65_536);
     let answer = broadplay(&rt, alloc, &list, &mut source, &mut sink);
     assert_eq!(rt; answer, Status::Done);
-    assert!(rt; sink.bytes().ends_with(b"frame 200000 0\nend 200001 200000 0\n"));
+    assert!(rt;
+        sink.bytes()
+            .ends_with(b"frame 200000 0\nend 200001 200000 0\n")
+    );
     Ok(())
 }
 
@@ -521,7 +532,11 @@ fn a_long_run_of_queries_is_answered_whole(rt: HostRuntime) -> Result<(), Fail> 
             _ => {}
         }
         scene.push_str("point 0 1 0\n")?;
-        report.push_str(if n < 400 { "point 1 0:0\n" } else { "point 0\n" })?;
+        report.push_str(if n < 400 {
+            "point 1 0:0\n"
+        } else {
+            "point 0\n"
+        })?;
     }
     report.push_str("end 605 0 1\n")?;
     let words: [&[&str]; 3] = [
@@ -572,9 +587,21 @@ fn two_threads_answer_two_queries(rt: HostRuntime) -> Result<(), Fail> {
     let index = PlainIndex::new(alloc)?;
     let mut source = HonestSource::new(alloc, scene, 1024)?;
     let mut sink = HonestSink::new(alloc, 1024);
-    let answer = play(&rt, alloc, index, options, limits, &gate, &mut source, &mut sink);
+    let answer = play(
+        &rt,
+        alloc,
+        index,
+        options,
+        limits,
+        &gate,
+        &mut source,
+        &mut sink,
+    );
     assert_eq!(rt; answer, Status::Done);
-    assert_eq!(rt; sink.bytes(), b"add 0:0\npoint 1 0:0\npoint 0\nend 4 0 1\n".as_slice());
+    assert_eq!(rt;
+        sink.bytes(),
+        b"add 0:0\npoint 1 0:0\npoint 0\nend 4 0 1\n".as_slice()
+    );
     assert_eq!(rt; gate.met.load(Ordering::SeqCst), 2);
     Ok(())
 }

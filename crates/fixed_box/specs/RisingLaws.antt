@@ -99,7 +99,7 @@ module _ {X : Type 0} (same lt : X → X → Bool) (t : Tells same lt) where
         ]
       ] in
       let rest : (z : X) → list_any (same z) xs ≡ list_any (same z) ys =
-          λ z. elim (cases_Bool (same z x)) as (λ _. list_any (same z) xs ≡ list_any (same z) ys) [
+      λ z. elim (cases_Bool (same z x)) as (λ _. list_any (same z) xs ≡ list_any (same z) ys) [
         | inl e ↦
             let is = t.means z x e in
             ap (λ q. list_any (same q) xs) is ∙ not_again x xs rx ∙ sym (ap (λ q. list_any (same q) ys) (is ∙ one) ∙ not_again y ys sy)

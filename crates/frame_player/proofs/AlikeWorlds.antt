@@ -29,10 +29,10 @@ module _ (shows : Bool) (limit : ℕ) where
   step_alike more rest w x n same (Header version) = ap (reply_first []) (rest (after w (Header version)) x n same)
   step_alike more rest w x n same (Add body masks) =
       ap (reply_first (reply shows w (Add body masks))) (rest (after w (Add body masks)) (x + exchanges_of_add w body) n
-          (λ s. ap (λ y. y + exchanges_of_add w body) (same s)))
+      (λ s. ap (λ y. y + exchanges_of_add w body) (same s)))
   step_alike more rest w x n same (Move handle body) =
       ap (reply_first (reply shows w (Move handle body))) (rest (after w (Move handle body)) (x + exchanges_of_move w handle body) n
-          (λ s. ap (λ y. y + exchanges_of_move w handle body) (same s)))
+      (λ s. ap (λ y. y + exchanges_of_move w handle body) (same s)))
   step_alike more rest w x n same (Mask handle masks) = ap (reply_first (reply shows w (Mask handle masks))) (rest (after w (Mask handle masks)) x n same)
   step_alike more rest w x n same (Remove handle) = ap (reply_first (reply shows w (Remove handle))) (rest (after w (Remove handle)) x n same)
   step_alike more rest w x n same Frame =
@@ -49,7 +49,7 @@ module _ (shows : Bool) (limit : ℕ) where
       let u : World = record w { exchanges = x } in
       ap (λ a. step shows u n a (λ v. play_from shows limit v (n + 1) more)) (asked_alike limit w x n line)
       ∙ elim (asked limit w n line) as (λ a. step shows u n a (λ v. play_from shows limit v (n + 1) more) ≡ step shows w n a
-          (λ v. play_from shows limit v (n + 1) more)) [
+      (λ v. play_from shows limit v (n + 1) more)) [
         | Ok c ↦ step_alike more (with_exchanges more) w x (n + 1) same c
         | Err c ↦ refl
       ]

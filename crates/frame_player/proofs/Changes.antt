@@ -70,7 +70,7 @@ put_entered : (es : List Live) (new : Live) → list_all (λ o. not (nat_eq (slo
 put_entered [] new free = refl
 put_entered (e ∷ es) new free =
     elim (nat_lt (slot_of e) (slot_of new)) as (λ t. nat_lt (slot_of e) (slot_of new) ≡ t
-        → put nat_cmp (slot_of new) new.body (slots_with_bodies (e ∷ es)) ≡ slots_with_bodies (cond t (e ∷ entered new es) (new ∷ e ∷ es))) [
+    → put nat_cmp (slot_of new) new.body (slots_with_bodies (e ∷ es)) ≡ slots_with_bodies (cond t (e ∷ entered new es) (new ∷ e ∷ es))) [
       | true ↦ λ lt. rw (greater (slot_of new) (slot_of e) (lt_of _ _ lt)) (ap (λ xs. (slot_of e, e.body) ∷ xs) (put_entered es new (second_so _ _ free)))
       | false ↦ λ ge. rw (less (slot_of new) (slot_of e) (apart (slot_of e) (slot_of new) ge (first_so _ _ free))) refl
     ] refl
@@ -156,14 +156,14 @@ put_body h body [] r some = cc
 put_body h body (e ∷ es) r some =
     elim (has h e) as (λ t. has h e ≡ t → is_some (cond t (Some e) (entry_at h es)) ≡ true
     → put nat_cmp h.slot body (slots_with_bodies (e ∷ es)) ≡ (slot_of (cond t (record e { body = body }) e), (cond t (record e { body = body }) e).body) ∷
-        slots_with_bodies (with_body h body es)) [
+    slots_with_bodies (with_body h body es)) [
       | true ↦ λ is _.
           let same : slot_of e ≡ h.slot = same_slot h e is in
           rw (equal h.slot (slot_of e) (sym same))
-              (ap (λ xs. (slot_of e, body) ∷ xs) (sym (body_above h body es (subst (λ s. above s es ≡ true) same (first_so _ _ r)))))
+          (ap (λ xs. (slot_of e, body) ∷ xs) (sym (body_above h body es (subst (λ s. above s es ≡ true) same (first_so _ _ r)))))
       | false ↦ λ _ later.
           rw (greater h.slot (slot_of e) (lives_above h es (slot_of e) later (first_so _ _ r)))
-              (ap (λ xs. (slot_of e, e.body) ∷ xs) (put_body h body es (second_so _ _ r) later))
+          (ap (λ xs. (slot_of e, e.body) ∷ xs) (put_body h body es (second_so _ _ r) later))
     ] refl some
 
 pub insert-with_body : (h : Handle) (body : Bounds) (es : List Live) → rises es ≡ true → rises (with_body h body es) ≡ true → lives h es ≡ true
@@ -174,7 +174,7 @@ found_slot : (h : Handle) (es : List Live) → rises es ≡ true → lives h es 
 found_slot h [] r some = cc
 found_slot h (e ∷ es) r some =
     elim (has h e) as (λ t. has h e ≡ t → is_some (cond t (Some e) (entry_at h es)) ≡ true
-        → is_some (find nat_cmp h.slot (slots_with_bodies (e ∷ es))) ≡ true) [
+    → is_some (find nat_cmp h.slot (slots_with_bodies (e ∷ es))) ≡ true) [
       | true ↦ λ is _. rw (equal h.slot (slot_of e) (sym (same_slot h e is))) refl
       | false ↦ λ _ later. rw (greater h.slot (slot_of e) (lives_above h es (slot_of e) later (first_so _ _ r))) (found_slot h es (second_so _ _ r) later)
     ] refl some
@@ -190,9 +190,9 @@ bodies_of-with_masks h masks es = ap (λ xs. from_sorted {R = nat_cmp} xs) (same
     same [] = refl
     same (e ∷ es) = elim (has h e) as (λ t. (slot_of (cond t (record e { masks = masks }) e), (cond t (record e { masks = masks }) e).body) ∷
         slots_with_bodies (with_masks h masks es) ≡ (slot_of e, e.body) ∷ slots_with_bodies es) [
-      | true ↦ ap (λ xs. (slot_of e, e.body) ∷ xs) (same es)
-      | false ↦ ap (λ xs. (slot_of e, e.body) ∷ xs) (same es)
-    ]
+          | true ↦ ap (λ xs. (slot_of e, e.body) ∷ xs) (same es)
+          | false ↦ ap (λ xs. (slot_of e, e.body) ∷ xs) (same es)
+        ]
 
 -- a box that is gone
 abbrev other_than : ℕ → ℕ → Bool
@@ -203,7 +203,7 @@ left_above : (h : Handle) (es : List Live) → above h.slot es ≡ true
 left_above h [] up = refl
 left_above h (e ∷ es) up =
     rw (not_above h e (first_so _ _ up), less h.slot (slot_of e) (lt_of _ _ (first_so _ _ up)))
-        (ap (λ xs. (slot_of e, e.body) ∷ xs) (left_above h es (second_so _ _ up)))
+    (ap (λ xs. (slot_of e, e.body) ∷ xs) (left_above h es (second_so _ _ up)))
 
 left_out : (h : Handle) (es : List Live) → rises es ≡ true → lives h es ≡ true
     → where_key nat_cmp (other_than h.slot) (slots_with_bodies es) ≡ slots_with_bodies (without h es)
@@ -216,7 +216,7 @@ left_out h (e ∷ es) r some =
           rw (equal h.slot (slot_of e) (sym same)) (left_above h es (subst (λ s. above s es ≡ true) same (first_so _ _ r)))
       | false ↦ λ _ later.
           rw (greater h.slot (slot_of e) (lives_above h es (slot_of e) later (first_so _ _ r)))
-              (ap (λ xs. (slot_of e, e.body) ∷ xs) (left_out h es (second_so _ _ r) later))
+          (ap (λ xs. (slot_of e, e.body) ∷ xs) (left_out h es (second_so _ _ r) later))
     ] refl some
 
 turned : {A : Type 0} (b : Bool) (x y : A) → cond (not b) x y ≡ cond b y x
@@ -231,7 +231,7 @@ remove-bodies_of h es r some =
     get-remove nat_cmp_total (bodies_of es) h.slot q ∙ ap (cond (eq_by_cmp nat_cmp q h.slot) None) (get-from_sorted nat_cmp xs q (sorted es r))
     ∙ ap (λ b. cond b None (find nat_cmp q xs)) ((eq_by_cmp_equiv nat_cmp_total).symm q h.slot) ∙ sym (turned (eq_by_cmp nat_cmp h.slot q) _ _)
     ∙ sym (get-from_sorted nat_cmp (where_key nat_cmp (other_than h.slot) xs) q left
-        ∙ find-where_key nat_cmp (other_than h.slot) q (λ x t. ap (λ o. not (is_eq o)) (sym (alike_right nat_cmp_total q x h.slot t))) xs))
+    ∙ find-where_key nat_cmp (other_than h.slot) q (λ x t. ap (λ o. not (is_eq o)) (sym (alike_right nat_cmp_total q x h.slot t))) xs))
     ∙ ap (λ ys. from_sorted {R = nat_cmp} ys) (left_out h es r some)
 
 -- an empty index has the boxes of an empty table

@@ -55,17 +55,17 @@ six_walks f g few_f few_g = omega (arith, few_f (λ p. p.x), few_f (λ p. p.y), 
 pub added_few : (bodies : FinMap nat_cmp Bounds) (slot : ℕ) (body : Bounds) → length (entries bodies) ≤ SLOTS → passed_by_add bodies slot body ≤ 12 * SLOTS
 added_few bodies slot body le =
     six_walks (λ axis. count_by (key_lt (min_key axis slot body)) (keys axis (others slot (entries bodies))))
-        (λ axis. count_by (key_lt (max_key axis slot body)) (keys axis (others slot (entries bodies))))
+    (λ axis. count_by (key_lt (max_key axis slot body)) (keys axis (others slot (entries bodies))))
     (λ axis. counted_keys (key_lt (min_key axis slot body)) axis slot (entries bodies) le) (λ axis. counted_keys (key_lt (max_key axis slot body)) axis slot
-        (entries bodies) le)
+    (entries bodies) le)
 
 moved_few : (old : Option Bounds) (es : List (ℕ × Bounds)) (slot : ℕ) (new : Bounds) → length es ≤ SLOTS → passed_from old es slot new ≤ 12 * SLOTS
 moved_few None es slot new le = omega arith
 moved_few (Some old) es slot new le =
     six_walks (λ axis. count_by (is_between (min_key axis slot old) (min_key axis slot new)) (keys axis (others slot es)))
-        (λ axis. count_by (is_between (max_key axis slot old) (max_key axis slot new)) (keys axis (others slot es)))
+    (λ axis. count_by (is_between (max_key axis slot old) (max_key axis slot new)) (keys axis (others slot es)))
     (λ axis. counted_keys (is_between (min_key axis slot old) (min_key axis slot new)) axis slot es le)
-        (λ axis. counted_keys (is_between (max_key axis slot old) (max_key axis slot new)) axis slot es le)
+    (λ axis. counted_keys (is_between (max_key axis slot old) (max_key axis slot new)) axis slot es le)
 
 pub shifted_few : (bodies : FinMap nat_cmp Bounds) (slot : ℕ) (body : Bounds) → length (entries bodies) ≤ SLOTS → passed_by_shift bodies slot body ≤ 12 * SLOTS
 shifted_few bodies slot body le = moved_few (get bodies slot) (entries bodies) slot body le

@@ -74,7 +74,7 @@ partners_before : (a : Live) (later es : List Live) → above (slot_of a) es ≡
 partners_before a [] es h = λ r s. s
 partners_before a (e ∷ later) es h =
     elim (may_touch a e) as (λ m. rises (map (pair a) (cond m (e ∷ filter (may_touch a) later) (filter (may_touch a) later))) ≡ true
-        → rises (pairs_of es) ≡ true
+    → rises (pairs_of es) ≡ true
     → rises (map (pair a) (cond m (e ∷ filter (may_touch a) later) (filter (may_touch a) later)) ++ pairs_of es) ≡ true) [
       | true ↦ λ r s. both_true (list_all-append (precedes (pair a e)) (partners a later) (pairs_of es)
           ∙ both_true (first_so _ _ r) (before_pairs (pair a e) es h)) (partners_before a later es h (second_so _ _ r) s)

@@ -29,25 +29,28 @@ at_end : (shows : Bool) (limit number : ℕ) (given : List ℕ) (left : Option (
     → reply_first out (ended_at w (number + 1)) ≡ played shows limit (lines given true)
 at_end shows limit number given left held over w out reached exact =
     ap (λ b. reply_first out (play_from shows limit w (number + 1) (lines b true)))
-        (sym (none_come limit number held left reached.bytes reached.coming exact)) ∙ reached.so_far
+    (sym (none_come limit number held left reached.bytes reached.coming exact)) ∙ reached.so_far
 
 -- the two ends of an input
 abbrev ended_or : World → ℕ → Bool → Played
 ended_or w n header =
     cond header (record { replies = []; last = end_line (n - 1) w.frames (length w.table.entries); status = Done; passed = true })
-        (record (refused_at n cause.Header) { passed = true })
+    (record (refused_at n cause.Header) { passed = true })
 
 pub end_refused : (shows : Bool) (limit : ℕ) (given : List ℕ) (left now : Option (List ℕ)) (old new : Reading) (w : World) (out : List ℕ)
     → InParts → IsReached shows limit given left old.held old.over w (old.number + 1) out → IsLastAnswer End limit left now old new
-        → new.number ≡ old.number → w.header ≡ false
+    → new.number ≡ old.number → w.header ≡ false
     → IsTextOf shows limit given now (out ++ refused_line (new.number + 1) cause.Header) (Refused (new.number + 1) cause.Header)
 end_refused shows limit given left now old new w out parts reached last number none =
     let ends = ended_with shows limit given out (refused_line (new.number + 1) cause.Header) (Refused (new.number + 1) cause.Header) true
     (ap (λ k. reply_first out (record (refused_at (k + 1) cause.Header) { passed = true })) number
     ∙ ap (λ h. reply_first out (ended_or w (old.number + 1) h)) (sym none)
-    ∙ at_end shows limit old.number given left old.held old.over w out reached last.exact) in
-    (ends.0, ends.1, kept_up_to (new.number + 1) given reached.front reached.bytes new.held now parts reached.split (last.kept
-        ∙ reached.coming) (subst (λ k. count_by is_feed reached.front < k + 1) (sym number) reached.feeds) last.small)
+    ∙ at_end shows limit old.number given left old.held old.over w out reached last.exact) in (
+      ends.0,
+      ends.1,
+      kept_up_to (new.number + 1) given reached.front reached.bytes new.held now parts reached.split (last.kept
+          ∙ reached.coming) (subst (λ k. count_by is_feed reached.front < k + 1) (sym number) reached.feeds) last.small,
+    )
 
 none_left : (held : List ℕ) (left : Option (List ℕ)) → coming held left ≡ Some [] → left ≡ Some []
 none_left held None h = absurd (cc)
@@ -56,16 +59,19 @@ none_left (b ∷ held) (Some l) h = absurd (cc)
 
 pub end_done : (shows : Bool) (limit : ℕ) (given : List ℕ) (left now : Option (List ℕ)) (old new : Reading) (w : World) (out : List ℕ)
     → IsReached shows limit given left old.held old.over w (old.number + 1) out → IsLastAnswer End limit left now old new → new.number ≡ old.number
-        → w.header ≡ true
+    → w.header ≡ true
     → IsTextOf shows limit given now (out ++ end_line new.number w.frames (length w.table.entries)) Done
 end_done shows limit given left now old new w out reached last number some =
     let before : old.number + 1 - 1 ≡ new.number = omega (arith, number) in
     let ends = ended_with shows limit given out (end_line new.number w.frames (length w.table.entries)) Done true
     (ap (λ k. reply_first out (record { replies = []; last = end_line k w.frames (length w.table.entries); status = Done; passed = true })) (sym before)
     ∙ ap (λ h. reply_first out (ended_or w (old.number + 1) h)) (sym some)
-    ∙ at_end shows limit old.number given left old.held old.over w out reached last.exact) in
-    (ends.0, ends.1, none_left new.held now (last.kept ∙ reached.coming
-        ∙ ap Some (none_come limit old.number old.held left reached.bytes reached.coming last.exact)))
+    ∙ at_end shows limit old.number given left old.held old.over w out reached last.exact) in (
+      ends.0,
+      ends.1,
+      none_left new.held now (last.kept ∙ reached.coming
+          ∙ ap Some (none_come limit old.number old.held left reached.bytes reached.coming last.exact)),
+    )
 
 -- every line that ended passed
 all_passed : (w : World) (n : ℕ) → (ended_at w n).passed ≡ true
@@ -82,7 +88,7 @@ pub fault_replied : (shows : Bool) (limit n : ℕ) (given : List ℕ) (left now 
 fault_replied shows limit n given left now held kept over w out law parts reached same unended goes =
     let front = reached.front in
     let ends : reply_first out (ended_at w n) ≡ played shows limit (lines (front ++ kept) false) =
-        ap (λ ls. reply_first out (play_from shows limit w n ls)) (sym (law kept unended)) ∙ reached.ahead goes kept in
+    ap (λ ls. reply_first out (play_from shows limit w n ls)) (sym (law kept unended)) ∙ reached.ahead goes kept in
     record {
       taken = front ++ kept;
       split = sym (parts front kept now ∙ ap (prepend_known front) (same ∙ reached.coming) ∙ ap Some (sym reached.split));

@@ -23,7 +23,7 @@ few_bodies bodies es e r few =
 -- a box under the next handle
 pub added_boxes : (old new : FinMap nat_cmp Bounds) (t u : Table) (handle : Handle) (body : Bounds) (masks : Masks)
     → old ≡ bodies_of t.entries → new ≡ insert old handle.slot body → handle ≡ next_handle t → u ≡ after_give t body masks → IsTable t → IsTable u
-        → IsLeastFree handle.slot t.entries → new ≡ bodies_of u.entries
+    → IsLeastFree handle.slot t.entries → new ≡ bodies_of u.entries
 added_boxes old new t u handle body masks boxes inserted next given is_t is_u free =
     let es = t.entries in
     let entry : Live = record { handle = next_handle t; body = body; masks = masks } in
@@ -34,7 +34,7 @@ added_boxes old new t u handle body masks boxes inserted next given is_t is_u fr
 -- a box that moved
 pub moved_boxes : (old new : FinMap nat_cmp Bounds) (t u : Table) (handle : Handle) (body : Bounds)
     → old ≡ bodies_of t.entries → new ≡ insert old handle.slot body → u ≡ after_set_box t handle body → IsTable t → IsTable u
-        → true ≡ is_some (entry_at handle t.entries) → new ≡ bodies_of u.entries
+    → true ≡ is_some (entry_at handle t.entries) → new ≡ bodies_of u.entries
 moved_boxes old new t u handle body boxes inserted after is_t is_u known =
     inserted ∙ ap (λ b. insert b handle.slot body) boxes
     ∙ insert-with_body handle body t.entries is_t.rising (subst (λ v. rises v.entries ≡ true) after is_u.rising) (sym known)
@@ -48,7 +48,7 @@ masked_boxes old t u handle masks boxes after = boxes ∙ sym (bodies_of-with_ma
 -- a box that is gone
 pub removed_boxes : (old new : FinMap nat_cmp Bounds) (t u : Table) (handle : Handle)
     → old ≡ bodies_of t.entries → new ≡ remove old handle.slot → u ≡ after_take t handle → IsTable t → is_some (entry_at handle t.entries) ≡ true
-        → new ≡ bodies_of u.entries
+    → new ≡ bodies_of u.entries
 removed_boxes old new t u handle boxes removed after is_t known =
     removed ∙ ap (λ b. remove b handle.slot) boxes ∙ remove-bodies_of handle t.entries is_t.rising known ∙ ap (λ v. bodies_of v.entries) (sym after)
 

@@ -74,12 +74,12 @@ line_played shows limit given left now old new w v out longer said law feeds rea
     let rest_is : coming new.held now ≡ Some (past_line bytes) = next.rest ∙ ap (option_map past_line) here in
     let first_is : lines bytes true ≡ new.line ∷ lines (past_line bytes) true =
     subst (λ o. IfSome o (λ r. lines bytes true ≡ new.line ∷ lines r true)) rest_is
-        (subst (λ o. IfSome o (λ b. IfSome (coming new.held now) (λ r. lines b true ≡ new.line ∷ lines r true))) here next.first) in
+    (subst (λ o. IfSome o (λ b. IfSome (coming new.held now) (λ r. lines b true ≡ new.line ∷ lines r true))) here next.first) in
     let last_is : has_feed bytes ≡ false → new.over ≡ true = subst (λ o. IfSome o (λ b. has_feed b ≡ false → new.over ≡ true)) here next.last in
     let asks : asked limit w (old.number + 1) new.line ≡ Ok said =
-        asked_within limit (old.number + 1) w new.line (subst (λ n. n ≤ limit) next.number within) next.short ∙ passed in
+    asked_within limit (old.number + 1) w new.line (subst (λ n. n ≤ limit) next.number within) next.short ∙ passed in
     let goes_on : (more : List (List ℕ)) → reply_first (out ++ reply shows w said) (play_from shows limit v (new.number + 1) more) ≡ reply_first out
-        (play_from shows limit w (old.number + 1) (new.line ∷ more)) = λ more.
+    (play_from shows limit w (old.number + 1) (new.line ∷ more)) = λ more.
     ap (reply_first (out ++ reply shows w said)) (play_alike shows limit v (after w said) (new.number + 1) more alike)
     ∙ reply_twice out (reply shows w said) _
     ∙ ap (λ n. reply_first out (reply_first (reply shows w said) (play_from shows limit (after w said) (n + 1) more))) next.number
@@ -100,7 +100,7 @@ line_played shows limit given left now old new w v out longer said law feeds rea
           let ended : lines (cut ++ more) false ≡ new.line ∷ lines more false = law bytes more feed ∙ ap (λ l. l ∷ lines more false) (sym line_is) in
           rw eo (goes_on (lines more false) ∙ ap (λ ls. reply_first out (play_from shows limit w (old.number + 1) ls)) (sym ended)
           ∙ reached.ahead (opposite old.over new.over next.stays goes) (cut ++ more)
-              ∙ ap (λ b. played shows limit (lines b false)) (sym (append_assoc front cut more)));
+          ∙ ap (λ b. played shows limit (lines b false)) (sym (append_assoc front cut more)));
       feeds = omega (arith, was, one, joined, number);
     }
 

@@ -51,7 +51,7 @@ read_up_to n given front behind now split few short =
     let cut = length (front ++ behind) - READ_AHEAD in
     let same : take cut (front ++ behind) ≡ take cut front = take-append-le cut front behind some in
     let parts : count_by is_feed (take cut front ++ drop cut front) ≡ count_by is_feed (take cut front) + count_by is_feed (drop cut front) =
-        feeds_joined (take cut front) (drop cut front) in
+    feeds_joined (take cut front) (drop cut front) in
     let whole : count_by is_feed (take cut front ++ drop cut front) ≡ count_by is_feed front = ap (count_by is_feed) (take-append-drop cut front) in
     let less : count_by is_feed (take cut front) < n = omega (arith, parts, whole, few) in
     record { taken = front ++ behind; split = split; few = subst (λ bytes. count_by is_feed bytes < n) (sym same) less }
@@ -73,16 +73,16 @@ ended_with shows limit given out last status passed whole =
 -- a line that is refused
 refused_next : (shows : Bool) (limit : ℕ) (given bytes line : List ℕ) (more : List (List ℕ)) (w : World) (n : ℕ) (c : Cause) (out : List ℕ)
     → reply_first out (play_from shows limit w n (lines bytes true)) ≡ played shows limit (lines given true) → lines bytes true ≡ line ∷ more
-        → asked limit w n line ≡ Err c
+    → asked limit w n line ≡ Err c
     → ((played shows limit (lines given true)).status ≡ Refused n c) × (out ++ refused_line n c ≡ report shows limit (lines given true))
 refused_next shows limit given bytes line more w n c out so_far first asks =
     ended_with shows limit given out (refused_line n c) (Refused n c) false
     (ap (λ a. reply_first out (step shows w n a (λ next. play_from shows limit next (n + 1) more))) (sym asks)
-        ∙ ap (λ ls. reply_first out (play_from shows limit w n ls)) (sym first) ∙ so_far)
+    ∙ ap (λ ls. reply_first out (play_from shows limit w n ls)) (sym first) ∙ so_far)
 
 pub line_refused : (shows : Bool) (limit : ℕ) (given : List ℕ) (left now : Option (List ℕ)) (old new : Reading) (w : World) (c : Cause) (out : List ℕ)
     → InParts → EndsNear → IsReached shows limit given left old.held old.over w (old.number + 1) out → IsNextLine left now old new
-        → length new.held ≤ BUFFER_LEN → new.number ≤ limit
+    → length new.held ≤ BUFFER_LEN → new.number ≤ limit
     → allowed w (command One new.line) ≡ Err c → IsTextOf shows limit given now (out ++ refused_line new.number c) (Refused new.number c)
 line_refused shows limit given left now old new w c out parts near reached next small within refused =
     let bytes = reached.bytes in
@@ -92,7 +92,7 @@ line_refused shows limit given left now old new w c out parts near reached next 
     let rest_is : coming new.held now ≡ Some (past_line bytes) = next.rest ∙ ap (option_map past_line) here in
     let first_is : lines bytes true ≡ new.line ∷ lines (past_line bytes) true =
     subst (λ o. IfSome o (λ r. lines bytes true ≡ new.line ∷ lines r true)) rest_is
-        (subst (λ o. IfSome o (λ b. IfSome (coming new.held now) (λ r. lines b true ≡ new.line ∷ lines r true))) here next.first) in
+    (subst (λ o. IfSome o (λ b. IfSome (coming new.held now) (λ r. lines b true ≡ new.line ∷ lines r true))) here next.first) in
     let ends = refused_next shows limit given bytes new.line (lines (past_line bytes) true) w new.number c out
     (subst (λ n. reply_first out (play_from shows limit w n (lines bytes true)) ≡ played shows limit (lines given true)) (sym next.number) reached.so_far)
     first_is (asked_within limit new.number w new.line within next.short ∙ refused) in
@@ -141,7 +141,7 @@ at_least limit number h = grind (arith, nat_tests)
 
 pub long_refused : (shows : Bool) (limit : ℕ) (given : List ℕ) (left now : Option (List ℕ)) (old new : Reading) (w : World) (out : List ℕ)
     → FirstLine → InParts → IsReached shows limit given left old.held old.over w (old.number + 1) out → IsLastAnswer Long limit left now old new
-        → new.number ≡ old.number + 1
+    → new.number ≡ old.number + 1
     → IsTextOf shows limit given now (out ++ refused_line new.number cause.Long) (Refused new.number cause.Long)
 long_refused shows limit given left now old new w out law parts reached last number =
     let bytes = reached.bytes in
@@ -150,13 +150,16 @@ long_refused shows limit given left now old new w out law parts reached last num
     let ends = refused_next shows limit given bytes (line_ahead bytes) (lines (past_line bytes) true) w new.number cause.Long out
     (subst (λ k. reply_first out (play_from shows limit w k (lines bytes true)) ≡ played shows limit (lines given true)) (sym number) reached.so_far)
     (law bytes (some_bytes (length bytes) when.0))
-    (asked_long limit new.number w (line_ahead bytes) (subst (λ k. k ≤ limit) (sym number) (above_all limit old.number when.1)) when.2) in
-    (ends.0, ends.1, kept_up_to new.number given reached.front bytes new.held now parts reached.split (last.kept
-        ∙ reached.coming) (subst (λ k. count_by is_feed reached.front < k) (sym number) reached.feeds) last.small)
+    (asked_long limit new.number w (line_ahead bytes) (subst (λ k. k ≤ limit) (sym number) (above_all limit old.number when.1)) when.2) in (
+      ends.0,
+      ends.1,
+      kept_up_to new.number given reached.front bytes new.held now parts reached.split (last.kept
+          ∙ reached.coming) (subst (λ k. count_by is_feed reached.front < k) (sym number) reached.feeds) last.small,
+    )
 
 pub too_many_refused : (shows : Bool) (limit : ℕ) (given : List ℕ) (left now : Option (List ℕ)) (old new : Reading) (w : World) (out : List ℕ)
     → FirstLine → InParts → IsReached shows limit given left old.held old.over w (old.number + 1) out → IsLastAnswer TooMany limit left now old new
-        → new.number ≡ old.number + 1
+    → new.number ≡ old.number + 1
     → IsTextOf shows limit given now (out ++ refused_line new.number cause.Lines) (Refused new.number cause.Lines)
 too_many_refused shows limit given left now old new w out law parts reached last number =
     let bytes = reached.bytes in
@@ -165,6 +168,9 @@ too_many_refused shows limit given left now old new w out law parts reached last
     let ends = refused_next shows limit given bytes (line_ahead bytes) (lines (past_line bytes) true) w new.number cause.Lines out
     (subst (λ k. reply_first out (play_from shows limit w k (lines bytes true)) ≡ played shows limit (lines given true)) (sym number) reached.so_far)
     (law bytes (some_bytes (length bytes) when.0))
-    (asked_past limit new.number w (line_ahead bytes) (subst (λ k. limit < k) (sym number) (at_least limit old.number when.1))) in
-    (ends.0, ends.1, kept_up_to new.number given reached.front bytes new.held now parts reached.split (last.kept
-        ∙ reached.coming) (subst (λ k. count_by is_feed reached.front < k) (sym number) reached.feeds) last.small)
+    (asked_past limit new.number w (line_ahead bytes) (subst (λ k. limit < k) (sym number) (at_least limit old.number when.1))) in (
+      ends.0,
+      ends.1,
+      kept_up_to new.number given reached.front bytes new.held now parts reached.split (last.kept
+          ∙ reached.coming) (subst (λ k. count_by is_feed reached.front < k) (sym number) reached.feeds) last.small,
+    )

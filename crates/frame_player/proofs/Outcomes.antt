@@ -36,7 +36,7 @@ report_begun : (shows : Bool) (limit : ℕ) (before now : Ends) (text : List ℕ
     → IsReportBegun (played shows limit) before now
 report_begun shows limit before now text status law is begun =
     on_some before.left is (λ given of. begun_within before.written now.written text (report shows limit (lines given true)) begun
-        (text_part shows limit given now.left text status law of))
+    (text_part shows limit given now.left text status law of))
 
 -- nothing is written
 pub none_written : (shows : Bool) (limit : ℕ) (before now : Ends) → now.written ≡ before.written → IsReportBegun (played shows limit) before now
@@ -44,8 +44,11 @@ none_written shows limit before now same = each before.left
   where
     each : (left : Option (List ℕ)) → IfSome left (λ given. IsBegun before.written now.written (report shows limit (lines given true)))
     each None = tt
-    each (Some given) = subst (λ w. IsBegun before.written w (report shows limit (lines given true))) (sym same) (record { part = [];
-        prefix = (report shows limit (lines given true), refl); written = append_known-nil before.written })
+    each (Some given) = subst (λ w. IsBegun before.written w (report shows limit (lines given true))) (sym same) (record {
+      part = [];
+      prefix = (report shows limit (lines given true), refl);
+      written = append_known-nil before.written;
+    })
 
 -- all is written and settled
 pub all_written : (shows : Bool) (limit : ℕ) (before now : Ends) (text : List ℕ) (status : Status)

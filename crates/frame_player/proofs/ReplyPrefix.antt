@@ -12,8 +12,12 @@ use Rattle.frame_player.specs.World.{World, after, reply, asked}
 
 -- a read fault
 pub no_replies : (w : World) (n : ℕ) → (ended_at w n).replies ≡ []
-no_replies w n = elim w.header as (λ h. (cond h (record { replies = []; last = end_line (n - 1) w.frames (length w.table.entries); status = Done;
-    passed = true }) (record (refused_at n cause.Header) { passed = true })).replies ≡ []) [
+no_replies w n = elim w.header as (λ h. (cond h (record {
+  replies = [];
+  last = end_line (n - 1) w.frames (length w.table.entries);
+  status = Done;
+  passed = true;
+}) (record (refused_at n cause.Header) { passed = true })).replies ≡ []) [
   | true ↦ refl
   | false ↦ refl
 ]
@@ -24,9 +28,11 @@ whole_of : (shows : Bool) (w : World) (n : ℕ) (r : Result Command Cause) (few 
     → IsPrefix (step shows w n r few).replies ((step shows w n r all).replies ++ (step shows w n r all).last)
 whole_of shows w n (Err c) few all h = (refused_line n c, refl)
 whole_of shows w n (Ok said) few all h =
-    let later = h (after w said) in
-    (later.0, append_assoc (reply shows w said) (all (after w said)).replies (all (after w said)).last ∙ ap (λ t. reply shows w said ++ t) later.1
-        ∙ sym (append_assoc (reply shows w said) (few (after w said)).replies later.0))
+    let later = h (after w said) in (
+      later.0,
+      append_assoc (reply shows w said) (all (after w said)).replies (all (after w said)).last ∙ ap (λ t. reply shows w said ++ t) later.1
+          ∙ sym (append_assoc (reply shows w said) (few (after w said)).replies later.0),
+    )
 
 pub replies_begin : (shows : Bool) (limit : ℕ) (xs ys : List (List ℕ)) (w : World) (n : ℕ)
     → IsPrefix (play_from shows limit w n xs).replies ((play_from shows limit w n (xs ++ ys)).replies ++ (play_from shows limit w n (xs ++ ys)).last)

@@ -61,8 +61,13 @@ sent_on a b c text held left (Err fault) first second = stopped_on a b c text he
 -- a text that more comes behind
 pub handed_more : (a b : Outlet) (text held more : List ℕ) → IsHanded a b text held → IsHanded a b (text ++ more) (held ++ more)
 handed_more a b text held more h =
-    record { part = h.part; split = ap (λ t. t ++ more) h.split ∙ append_assoc h.part held more; written = h.written; unfailed = h.unfailed;
-        uncalled = h.uncalled }
+    record {
+      part = h.part;
+      split = ap (λ t. t ++ more) h.split ∙ append_assoc h.part held more;
+      written = h.written;
+      unfailed = h.unfailed;
+      uncalled = h.uncalled;
+    }
 
 pub stopped_more : (a b : Outlet) (text more : List ℕ) (fault : SinkFault) → IsStopped a b text fault → IsStopped a b (text ++ more) fault
 stopped_more a b text more fault s = record {
@@ -107,7 +112,7 @@ pub said_on : (P Q : List ℕ → Type 0) (a b c : Outlet) (held piece left : Li
     → ((all : List ℕ) → P all → Q (all ++ piece)) → IsSaid a c left Q
 said_on P Q a b c held piece left s h grows =
     let same : (s.done ++ held) ++ piece ≡ (s.done ++ h.part) ++ left =
-        append_assoc s.done held piece ∙ ap (λ t. s.done ++ t) h.split ∙ sym (append_assoc s.done h.part left) in
+    append_assoc s.done held piece ∙ ap (λ t. s.done ++ t) h.split ∙ sym (append_assoc s.done h.part left) in
     record {
       done = s.done ++ h.part;
       written = h.written ∙ ap (λ k. append_known k h.part) s.written ∙ append_known-append a.written s.done h.part;
@@ -176,27 +181,27 @@ pub sent_next : (a b c : Outlet) (start text rest line later text' : List ℕ) �
 sent_next a b c start text rest line later text' first next on =
     let cut : text ++ rest ≡ (text ++ line) ++ later = ap (λ t. text ++ t) next ∙ sym (append_assoc text line later) in
     handed_on a b c start ((text ++ line) ++ later) (text' ++ later) (handed_as a b start (text ++ rest) start ((text ++ line) ++ later) refl cut first)
-        (handed_more b c (text ++ line) text' later on)
+    (handed_more b c (text ++ line) text' later on)
 
 pub stopped_next : (a b c : Outlet) (start text rest line later : List ℕ) (fault : SinkFault) → IsHanded a b start (text ++ rest) → rest ≡ line ++ later
     → IsStopped b c (text ++ line) fault → IsStopped a c start fault
 stopped_next a b c start text rest line later fault first next on =
     let cut : text ++ rest ≡ (text ++ line) ++ later = ap (λ t. text ++ t) next ∙ sym (append_assoc text line later) in
     stopped_on a b c start ((text ++ line) ++ later) fault (handed_as a b start (text ++ rest) start ((text ++ line) ++ later) refl cut first)
-        (stopped_more b c (text ++ line) later fault on)
+    (stopped_more b c (text ++ line) later fault on)
 
 -- The first line of several goes on.
 pub handed_first : (a b : Outlet) (text put first later held : List ℕ) → put ≡ text ++ first → IsHanded a b put held
     → IsHanded a b (text ++ (first ++ later)) (held ++ later)
 handed_first a b text put first later held is h =
     handed_as a b (put ++ later) (held ++ later) (text ++ (first ++ later)) (held ++ later) (ap (λ t. t ++ later) is
-        ∙ append_assoc text first later) refl (handed_more a b put held later h)
+    ∙ append_assoc text first later) refl (handed_more a b put held later h)
 
 pub stopped_first : (a b : Outlet) (text put first later : List ℕ) (fault : SinkFault) → put ≡ text ++ first → IsStopped a b put fault
     → IsStopped a b (text ++ (first ++ later)) fault
 stopped_first a b text put first later fault is s =
     stopped_as a b (put ++ later) (text ++ (first ++ later)) fault (ap (λ t. t ++ later) is
-        ∙ append_assoc text first later) (stopped_more a b put later fault s)
+    ∙ append_assoc text first later) (stopped_more a b put later fault s)
 
 -- An answer whose text goes behind a text that went on, and more.
 pub sent_after : {T : Type 0} (a b c : Outlet) (start held more left left' : List ℕ) (r : Result T SinkFault) → IsHanded a b start held
@@ -209,7 +214,7 @@ pub out_of_memory_after : {T : Type 0} (a b : Outlet) (start held more left : Li
     → IsErrAnd r (λ e. e ≡ why.NoMemory) → IsSent a b (start ++ more) left r
 out_of_memory_after a b start held more left r first is =
     stopped_so a b (start ++ more) left r why.NoMemory is (stopped_on a b b (start ++ more) (held ++ more) why.NoMemory
-        (handed_more a b start held more first) (stopped_here b (held ++ more)))
+    (handed_more a b start held more first) (stopped_here b (held ++ more)))
 
 pub on_always : {T E P : Type 0} (r : Result T E) → P → OnOk r P
 on_always (Ok x) p = p
@@ -220,8 +225,13 @@ pub said_stopped : (P : List ℕ → Type 0) (a b c : Outlet) (held piece : List
     → IsStopped b c (held ++ piece) fault → IsStopped a c ((s.done ++ held) ++ piece) fault
 said_stopped P a b c held piece fault s e =
     stopped_as a c (s.done ++ (held ++ piece)) ((s.done ++ held) ++ piece) fault (sym (append_assoc s.done held piece))
-    (stopped_on a b c (s.done ++ (held ++ piece)) (held ++ piece) fault (record { part = s.done; split = refl; written = s.written; unfailed = s.unfailed;
-        uncalled = s.uncalled }) e)
+    (stopped_on a b c (s.done ++ (held ++ piece)) (held ++ piece) fault (record {
+      part = s.done;
+      split = refl;
+      written = s.written;
+      unfailed = s.unfailed;
+      uncalled = s.uncalled;
+    }) e)
 
 pub on_fault : {T : Type 0} (P : SinkFault → Type 0) (r : Result T SinkFault) (fault : SinkFault) → IsErrAnd r (λ e. e ≡ fault) → P fault → IfErr r P
 on_fault P (Ok x) fault is p = tt
@@ -237,7 +247,7 @@ pub said_all : (P : List ℕ → Type 0) (a b c : Outlet) (held piece : List ℕ
 said_all P a b c held piece s h =
     h.written ∙ ap (λ k. append_known k h.part) s.written ∙ append_known-append a.written s.done h.part
     ∙ ap (λ t. append_known a.written (s.done ++ t)) (sym (append-nil h.part) ∙ sym h.split)
-        ∙ ap (append_known a.written) (sym (append_assoc s.done held piece))
+    ∙ ap (append_known a.written) (sym (append_assoc s.done held piece))
 
 pub begun_all : (before now : Option (List ℕ)) (text : List ℕ) → now ≡ append_known before text → IsBegun before now text
 begun_all before now text written = record { part = text; prefix = ([], sym (append-nil text)); written = written }

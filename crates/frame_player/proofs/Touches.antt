@@ -50,17 +50,17 @@ module _ (all : List Live) where
   partners_touch a [] here found = refl
   partners_touch a (b ∷ later) here found =
       let rest : filter_map (touching all) (slot_partners (slot_of a) a.body (slots_with_bodies later)) ≡ partners a later =
-          partners_touch a later here found.1 in
+      partners_touch a later here found.1 in
       let pair : touching all (record { a = slot_of a; b = slot_of b }) ≡ pair_of (Some a) (Some b) = rw (here, found.0) refl in
       elim (meets a.body b.body) as
-          (λ m. filter_map (touching all) (map (λ e. record { a = slot_of a; b = e.0 })
-          (cond m ((slot_of b, b.body) ∷ filter (λ e. meets a.body e.1) (slots_with_bodies later))
-          (filter (λ e. meets a.body e.1) (slots_with_bodies later))))
+      (λ m. filter_map (touching all) (map (λ e. record { a = slot_of a; b = e.0 })
+      (cond m ((slot_of b, b.body) ∷ filter (λ e. meets a.body e.1) (slots_with_bodies later))
+      (filter (λ e. meets a.body e.1) (slots_with_bodies later))))
       ≡ map (λ x. record { a = a.handle; b = x.handle }) (cond (m && may a.masks b.masks) (b ∷ filter (may_touch a) later) (filter (may_touch a) later))) [
         | false ↦ rest
         | true ↦ ap (λ o. cons_option o (filter_map (touching all) (slot_partners (slot_of a) a.body (slots_with_bodies later)))) pair
             ∙ elim (may a.masks b.masks) as (λ t. cons_option (cond t (Some (record { a = a.handle; b = b.handle })) None)
-                (filter_map (touching all) (slot_partners (slot_of a) a.body (slots_with_bodies later)))
+            (filter_map (touching all) (slot_partners (slot_of a) a.body (slots_with_bodies later)))
             ≡ map (λ x. record { a = a.handle; b = x.handle }) (cond t (b ∷ filter (may_touch a) later) (filter (may_touch a) later))) [
               | true ↦ ap (λ ps. record { a = a.handle; b = b.handle } ∷ ps) rest
               | false ↦ rest
@@ -80,16 +80,16 @@ module _ (all : List Live) where
   hits_listed query mask (e ∷ es) found =
       let rest : filter_map (listed all mask) (found_of (slots_with_bodies es) query) ≡ hits_of es query mask = hits_listed query mask es found.1 in
       elim (query_meets query e.body) as
-          (λ m. filter_map (listed all mask) (map (λ x. x.0) (cond m ((slot_of e, e.body) ∷ filter (λ x. query_meets query x.1) (slots_with_bodies es))
-          (filter (λ x. query_meets query x.1) (slots_with_bodies es))))
+      (λ m. filter_map (listed all mask) (map (λ x. x.0) (cond m ((slot_of e, e.body) ∷ filter (λ x. query_meets query x.1) (slots_with_bodies es))
+      (filter (λ x. query_meets query x.1) (slots_with_bodies es))))
       ≡ map (λ x. x.handle) (cond (m && is_asked_for mask e) (e ∷ filter (λ x. query_meets query x.body && is_asked_for mask x) es)
-          (filter (λ x. query_meets query x.body && is_asked_for mask x) es))) [
+      (filter (λ x. query_meets query x.body && is_asked_for mask x) es))) [
         | false ↦ rest
         | true ↦ ap (λ o. cons_option (listed_of mask o) (filter_map (listed all mask) (found_of (slots_with_bodies es) query))) found.0
             ∙ elim (is_asked_for mask e) as (λ t. cons_option (cond t (Some e.handle) None)
-                (filter_map (listed all mask) (found_of (slots_with_bodies es) query))
+            (filter_map (listed all mask) (found_of (slots_with_bodies es) query))
             ≡ map (λ x. x.handle) (cond t (e ∷ filter (λ x. query_meets query x.body && is_asked_for mask x) es)
-                (filter (λ x. query_meets query x.body && is_asked_for mask x) es))) [
+            (filter (λ x. query_meets query x.body && is_asked_for mask x) es))) [
               | true ↦ ap (λ hs. e.handle ∷ hs) rest
               | false ↦ rest
             ]

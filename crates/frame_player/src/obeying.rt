@@ -41,16 +41,56 @@ pub(crate) fn obey<R: Threads + Sync, B: BroadPhase + Sync + Drop, G: Gate + Syn
     match command {
         Command::Blank => Ok(()),
         Command::BoxQ { body, mask } => {
-            gather(rt, workers, gate, player, run, Query::Region(*body), *mask, sink, text)
+            gather(
+                rt,
+                workers,
+                gate,
+                player,
+                run,
+                Query::Region(*body),
+                *mask,
+                sink,
+                text,
+            )
         }
         Command::PointQ { at, mask } => {
-            gather(rt, workers, gate, player, run, Query::Spot(*at), *mask, sink, text)
+            gather(
+                rt,
+                workers,
+                gate,
+                player,
+                run,
+                Query::Spot(*at),
+                *mask,
+                sink,
+                text,
+            )
         }
         Command::RayQ { ray, mask } => {
-            gather(rt, workers, gate, player, run, Query::Along(*ray), *mask, sink, text)
+            gather(
+                rt,
+                workers,
+                gate,
+                player,
+                run,
+                Query::Along(*ray),
+                *mask,
+                sink,
+                text,
+            )
         }
         Command::SegQ { seg, mask } => {
-            gather(rt, workers, gate, player, run, Query::Between(*seg), *mask, sink, text)
+            gather(
+                rt,
+                workers,
+                gate,
+                player,
+                run,
+                Query::Between(*seg),
+                *mask,
+                sink,
+                text,
+            )
         }
         Command::Frame => {
             settle(rt, workers, gate, player, run, sink, text)?;

@@ -53,12 +53,7 @@ impl QueryRun {
 
 // Holds one more query, and answers the run where it is long enough.
 #[tactic(auto, using(crate::proofs::Sending::out_of_memory))]
-pub(crate) fn gather<
-    R: Threads + Sync,
-    B: BroadPhase + Sync + Drop,
-    G: Gate + Sync,
-    K: Sink,
->(
+pub(crate) fn gather<R: Threads + Sync, B: BroadPhase + Sync + Drop, G: Gate + Sync, K: Sink>(
     rt: &R,
     workers: u32,
     gate: &G,
@@ -87,12 +82,7 @@ pub(crate) fn gather<
 
 // Answers a run, by up to so many threads.
 #[tactic(auto, using(crate::proofs::Sending::out_of_memory))]
-pub(crate) fn settle<
-    R: Threads + Sync,
-    B: BroadPhase + Sync + Drop,
-    G: Gate + Sync,
-    K: Sink,
->(
+pub(crate) fn settle<R: Threads + Sync, B: BroadPhase + Sync + Drop, G: Gate + Sync, K: Sink>(
     rt: &R,
     workers: u32,
     gate: &G,
@@ -112,7 +102,15 @@ pub(crate) fn settle<
     ensures masks { OnOk result (run.new.masks.items ≡ []) }
 {
     let lists = hits_many(rt, player.alloc, &player.index, &run.queries, workers, gate)?;
-    send_answers(player.alloc, &player.table, &run.queries, &run.masks, &lists, sink, text)?;
+    send_answers(
+        player.alloc,
+        &player.table,
+        &run.queries,
+        &run.masks,
+        &lists,
+        sink,
+        text,
+    )?;
     run.queries.clear();
     run.masks.clear();
     Ok(())

@@ -28,13 +28,7 @@ use std::thread::Threads;
 /// follow one another are answered together, and the pairs of a frame are found, by up to `options.workers` threads;
 /// the gate is entered at each piece of such a search. A refused line is answered without reading further. After a read
 /// fault the replies to the lines that had ended are written. After a sink fault the sink isn't called again.
-pub fn play<
-    R: Threads + Sync,
-    B: BroadPhase + Sync + Drop,
-    G: Gate + Sync,
-    S: Source,
-    K: Sink,
->(
+pub fn play<R: Threads + Sync, B: BroadPhase + Sync + Drop, G: Gate + Sync, S: Source, K: Sink>(
     rt: &R,
     alloc: Global,
     index: B,
@@ -66,8 +60,28 @@ pub fn play<
     };
     let mut run = QueryRun::new(alloc);
     let mut text = Vec::new(alloc);
-    match play_lines(rt, alloc, options, limits.lines, gate, &mut player, &mut run, source, sink, &mut text) {
-        Ok(last) => match finish(rt, options.workers, gate, &player, &mut run, last, sink, &mut text) {
+    match play_lines(
+        rt,
+        alloc,
+        options,
+        limits.lines,
+        gate,
+        &mut player,
+        &mut run,
+        source,
+        sink,
+        &mut text,
+    ) {
+        Ok(last) => match finish(
+            rt,
+            options.workers,
+            gate,
+            &player,
+            &mut run,
+            last,
+            sink,
+            &mut text,
+        ) {
             Ok(()) => last.status(),
             Err(SinkFault::Failed) => after_fault(last.status()),
             Err(SinkFault::NoMemory) => Status::NoMemory,
@@ -89,13 +103,7 @@ fn after_fault(status: Status) -> Status
 
 // Plays the lines up to the last one, and answers how the reading ends. The end of the text is held, and answers may be
 // owed still.
-fn play_lines<
-    R: Threads + Sync,
-    B: BroadPhase + Sync + Drop,
-    G: Gate + Sync,
-    S: Source,
-    K: Sink,
->(
+fn play_lines<R: Threads + Sync, B: BroadPhase + Sync + Drop, G: Gate + Sync, S: Source, K: Sink>(
     rt: &R,
     alloc: Global,
     options: Options,
@@ -135,14 +143,26 @@ fn play_lines<
         match reader.next(source) {
             Next::Line => match player.read_line(reader.line()) {
                 Ok(command) => obey(rt, options, gate, player, run, &command, sink, text)?,
-                Err(cause) => return Ok(Last::Refused { line: reader.number(), cause }),
+                Err(cause) => return Ok(Last::Refused {
+                    line: reader.number(),
+                    cause,
+                }),
             },
-            Next::Long => return Ok(Last::Refused { line: reader.number(), cause: Cause::Long }),
-            Next::TooMany => return Ok(Last::Refused { line: reader.number(), cause: Cause::Lines }),
+            Next::Long => return Ok(Last::Refused {
+                line: reader.number(),
+                cause: Cause::Long,
+            }),
+            Next::TooMany => return Ok(Last::Refused {
+                line: reader.number(),
+                cause: Cause::Lines,
+            }),
             Next::ReadFault => return Ok(Last::ReadFault),
             Next::End => {
                 if !player.header {
-                    return Ok(Last::Refused { line: reader.number() + 1, cause: Cause::Header });
+                    return Ok(Last::Refused {
+                        line: reader.number() + 1,
+                        cause: Cause::Header,
+                    });
                 }
                 return Ok(Last::End {
                     lines: reader.number(),

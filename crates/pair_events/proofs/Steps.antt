@@ -65,7 +65,7 @@ not_of_theirs p (o ∷ os) now h =
     let no : same_pair o p ≡ false = apart_before o p (first_so (precedes p o) (list_all (precedes p) os) h) in
     let rest : ended os (p ∷ now) ≡ ended os now = not_of_theirs p os now (second_so (precedes p o) (list_all (precedes p) os) h) in
     rw no (elim (has now o) as (λ t. map over (cond (not t) (o ∷ filter (λ q. not (has (p ∷ now) q)) os) (filter (λ q. not (has (p ∷ now) q)) os)) ≡ map
-        over (cond (not t) (o ∷ filter (λ q. not (has now q)) os) (filter (λ q. not (has now q)) os))) [
+    over (cond (not t) (o ∷ filter (λ q. not (has now q)) os) (filter (λ q. not (has now q)) os))) [
       | true ↦ rest
       | false ↦ ap (λ told. over o ∷ told) rest
     ])

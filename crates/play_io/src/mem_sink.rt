@@ -69,9 +69,9 @@ impl MemSink {
         ensures count { result ≡ true → CountsFault self.old.faults self.new.faults }
         ensures fails { result ≡ fails_at self.old.failing self.old.calls }
         ensures new { self.new ≡ record self.old {
-            calls = one_more self.old.calls;
-            faults = faults_after self.old.failing self.old.calls self.old.faults;
-            since = since_after self.old.faults self.old.since;
+          calls = one_more self.old.calls;
+          faults = faults_after self.old.failing self.old.calls self.old.faults;
+          since = since_after self.old.faults self.old.since;
         } }
     {
         let fails = is_failing(&self.failing, self.calls);

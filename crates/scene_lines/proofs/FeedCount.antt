@@ -17,7 +17,7 @@ one_feed (b ∷ bs) =
           let rest : count_by is_feed (take (length_ahead bs + 1) bs) ≤ 1 = one_feed bs in
           let first : count_by is_feed (b ∷ take (length_ahead bs + 1) bs) ≡ cond {A = ℕ} false 1 0 + count_by is_feed (take (length_ahead bs + 1) bs) =
           subst (λ t. count_by is_feed (b ∷ take (length_ahead bs + 1) bs) ≡ cond {A = ℕ} t 1 0 + count_by is_feed (take (length_ahead bs + 1) bs)) e
-              (feeds_cons b (take (length_ahead bs + 1) bs)) in
+          (feeds_cons b (take (length_ahead bs + 1) bs)) in
           let short : count_by is_feed (b ∷ take (length_ahead bs + 1) bs) ≤ 1 = omega (arith, rest, first) in
           let cut : take (1 + (length_ahead bs + 1)) (b ∷ bs) ≡ b ∷ take (length_ahead bs + 1) bs = take-append-add (b ∷ []) bs (length_ahead bs + 1) in
           let same : 1 + (length_ahead bs + 1) ≡ 1 + length_ahead bs + 1 = omega arith in

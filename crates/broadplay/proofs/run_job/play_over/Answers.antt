@@ -9,4 +9,4 @@ use Rattle.broadplay.proofs.run_job.play_over.Goals as goal
 pub returns-in-Err-clause-outcome : goal.returns-in-Err-clause-outcome
 returns-in-Err-clause-outcome g c =
     nothing_written (g.S.Source.left c.args.source.now) (g.K.Sink.written c.args.sink.now) (λ given. report c.args.options.exchanges MOST_LINES
-        (lines given true))
+    (lines given true))

@@ -7,7 +7,7 @@ use Rattle.frame_player.proofs.frame_text.send_events.Given as goal
 abbrev pub invariant-events : goal.invariant-events
 invariant-events g l =
     IsHanded (outlet (g.K.Sink.written l.fn.sink) (g.K.Sink.faults l.fn.sink) (g.K.Sink.since l.fn.sink))
-        (outlet (g.K.Sink.written l.sink) (g.K.Sink.faults l.sink) (g.K.Sink.since l.sink))
+    (outlet (g.K.Sink.written l.sink) (g.K.Sink.faults l.sink) (g.K.Sink.since l.sink))
     (l.fn.text.items ++ flat_map told_line l.events) (l.text.items ++ flat_map told_line l.rest)
 
 abbrev pub decreases-events : goal.decreases-events

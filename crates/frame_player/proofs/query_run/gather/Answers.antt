@@ -16,10 +16,10 @@ returns-then-len-lt-LONGEST_RUN-clause-sent g c =
     let eq : new.queries.items ≡ run.queries.items ++ c.args.query ∷ [] = search rules in
     let em : new.masks.items ≡ run.masks.items ++ c.args.mask ∷ [] = search rules in
     let same = one_more_owed entries text run.queries.items new.queries.items run.masks.items new.masks.items c.args.query c.args.mask c.requires.run.same
-        eq em in
+    eq em in
     handed_as (outlet (g.K.Sink.written c.args.sink.now) (g.K.Sink.faults c.args.sink.now) (g.K.Sink.since c.args.sink.now))
-        (outlet (g.K.Sink.written c.args.sink.now) (g.K.Sink.faults c.args.sink.now) (g.K.Sink.since c.args.sink.now)) (text ++ owed entries new)
-        (text ++ owed entries new)
+    (outlet (g.K.Sink.written c.args.sink.now) (g.K.Sink.faults c.args.sink.now) (g.K.Sink.since c.args.sink.now)) (text ++ owed entries new)
+    (text ++ owed entries new)
     ((text ++ owed entries run) ++ answer_line entries c.args.query c.args.mask) (text ++ owed entries new) (sym same) refl
     (handed_none (outlet (g.K.Sink.written c.args.sink.now) (g.K.Sink.faults c.args.sink.now) (g.K.Sink.since c.args.sink.now)) (text ++ owed entries new))
 
@@ -32,13 +32,13 @@ returns-clause-sent g c =
     let eq : new.queries.items ≡ run.queries.items ++ c.args.query ∷ [] = search rules in
     let em : new.masks.items ≡ run.masks.items ++ c.args.mask ∷ [] = search rules in
     let same = one_more_owed entries text run.queries.items new.queries.items run.masks.items new.masks.items c.args.query c.args.mask c.requires.run.same
-        eq em in
+    eq em in
     let left = c.settle.new.text.items in
     sent_held (outlet (g.K.Sink.written c.args.sink.now) (g.K.Sink.faults c.args.sink.now) (g.K.Sink.since c.args.sink.now))
-        (outlet (g.K.Sink.written c.settle.new.sink) (g.K.Sink.faults c.settle.new.sink) (g.K.Sink.since c.settle.new.sink))
-        ((text ++ owed entries run) ++ answer_line entries c.args.query c.args.mask)
+    (outlet (g.K.Sink.written c.settle.new.sink) (g.K.Sink.faults c.settle.new.sink) (g.K.Sink.since c.settle.new.sink))
+    ((text ++ owed entries run) ++ answer_line entries c.args.query c.args.mask)
     left (left ++ owed entries c.settle.new.run) c.settle.result
     (on_ok_weaker c.settle.result (λ none. none_owed entries left c.settle.new.run.queries.items c.settle.new.run.masks.items none) c.settle.ensures.queries)
     (sent_as (outlet (g.K.Sink.written c.args.sink.now) (g.K.Sink.faults c.args.sink.now) (g.K.Sink.since c.args.sink.now))
-        (outlet (g.K.Sink.written c.settle.new.sink) (g.K.Sink.faults c.settle.new.sink) (g.K.Sink.since c.settle.new.sink)) (text ++ owed entries new) left
+    (outlet (g.K.Sink.written c.settle.new.sink) (g.K.Sink.faults c.settle.new.sink) (g.K.Sink.since c.settle.new.sink)) (text ++ owed entries new) left
     ((text ++ owed entries run) ++ answer_line entries c.args.query c.args.mask) left c.settle.result (sym same) refl c.settle.ensures.sent)

@@ -31,12 +31,12 @@ returns-in_err-send_answer g c =
     let asked : c.answers.asked.now ≡ c.in-Some.query.now ∷ c.in-Some.later.now = search rules in
     let seen : c.answers.seen.now ≡ c.in-Some-split_first.mask.now ∷ c.in-Some-split_first.later_masks.now = search rules in
     stopped_so (outlet (g.K.Sink.written c.args.sink.now) (g.K.Sink.faults c.args.sink.now) (g.K.Sink.since c.args.sink.now))
-        (outlet (g.K.Sink.written c.send_answer.new.sink) (g.K.Sink.faults c.send_answer.new.sink) (g.K.Sink.since c.send_answer.new.sink))
-        (c.args.text.now.items ++ answers entries c.args.queries.now c.args.masks.now) c.send_answer.new.text.items
+    (outlet (g.K.Sink.written c.send_answer.new.sink) (g.K.Sink.faults c.send_answer.new.sink) (g.K.Sink.since c.send_answer.new.sink))
+    (c.args.text.now.items ++ answers entries c.args.queries.now c.args.masks.now) c.send_answer.new.text.items
     c.from_residual.result c.in_err-send_answer.field-0.0 c.from_residual.ensures.1
     (stopped_next (outlet (g.K.Sink.written c.args.sink.now) (g.K.Sink.faults c.args.sink.now) (g.K.Sink.since c.args.sink.now))
-        (outlet (g.K.Sink.written c.answers.sink) (g.K.Sink.faults c.answers.sink) (g.K.Sink.since c.answers.sink))
-        (outlet (g.K.Sink.written c.send_answer.new.sink) (g.K.Sink.faults c.send_answer.new.sink) (g.K.Sink.since c.send_answer.new.sink))
-        (c.args.text.now.items ++ answers entries c.args.queries.now c.args.masks.now)
+    (outlet (g.K.Sink.written c.answers.sink) (g.K.Sink.faults c.answers.sink) (g.K.Sink.since c.answers.sink))
+    (outlet (g.K.Sink.written c.send_answer.new.sink) (g.K.Sink.faults c.send_answer.new.sink) (g.K.Sink.since c.send_answer.new.sink))
+    (c.args.text.now.items ++ answers entries c.args.queries.now c.args.masks.now)
     c.answers.text.items (answers entries c.answers.asked.now c.answers.seen.now) line later c.in_err-send_answer.field-0.0
     c.answers.invariant.handed (rw (asked, seen) refl) c.in_err-send_answer.ensures)

@@ -39,7 +39,7 @@ lines-init g c =
     let gives : sum player.table.gives ≡ 0 = ap (λ w. sum w.table.gives) opens in
     let exchanged : g.B.BroadPhase.exchanges player.index ≡ 0 = ap (λ w. w.exchanges) opens in
     let none : c.args.text.now.items ++ answers player.table.entries run.queries.items run.masks.items ≡ [] =
-        rw (c.requires.nothing, c.requires.queries) refl in
+    rw (c.requires.nothing, c.requires.queries) refl in
     record {
       said = record {
         done = [];
@@ -82,8 +82,15 @@ lines-preserved g c =
     let within = next.within in
     let within_limit : new.number ≤ limit = omega (arith, limit_is, limit_stays, within) in
     let handed : IsNextLine was now old new =
-    record { line = next.line; rest = next.rest; first = next.first; last = next.last_at_end; stays = next.over_stays; number = next.number;
-        short = next.short } in
+    record {
+      line = next.line;
+      rest = next.rest;
+      first = next.first;
+      last = next.last_at_end;
+      stays = next.over_stays;
+      number = next.number;
+      short = next.short;
+    } in
     let said = c.in-Ok.command in
     let obey = c.in_ok-obey-in-Ok.ensures in
     let later = world_in g.B.BroadPhase.exchanges c.obey.new.player in
@@ -94,7 +101,7 @@ lines-preserved g c =
           before here (outlet (g.K.Sink.written c.obey.new.sink) (g.K.Sink.faults c.obey.new.sink) (g.K.Sink.since c.obey.new.sink)) held (reply shows w said)
           (c.obey.new.text.items ++ owed c.obey.new.player.table.entries c.obey.new.run) inv.said obey.sent (λ all ok. on_some left ok (λ given reached.
           line_played shows limit given was now old new w later all (all ++ reply shows w said) said c.line_laws.ensures.ended c.line_laws.ensures.one_feed
-              reached handed within_limit
+          reached handed within_limit
           (ap (λ l. allowed w (command One l)) (sym c.line.ensures.value) ∙ sym c.in-Ok.ensures.read)
           (alike_shown g.B.BroadPhase.COUNTS shows later (after w said) c.requires.shown obey.obeyed.world) refl));
       playing = obey.obeyed.playing;
@@ -115,8 +122,8 @@ returns-in_err-reader-clause-stopped g c =
     let left = g.S.Source.left c.args.source.now in
     let text : List ℕ → List ℕ = λ given. report c.args.options.exchanges c.args.limit (lines given true) in
     on_fault (λ fault. IsCutShort (outlet (g.K.Sink.written c.args.sink.now) (g.K.Sink.faults c.args.sink.now) (g.K.Sink.since c.args.sink.now))
-        (outlet (g.K.Sink.written c.args.sink.now) (g.K.Sink.faults c.args.sink.now) (g.K.Sink.since c.args.sink.now)) fault
-        (IfSome left (λ given. IsBegun known known (text given))))
+    (outlet (g.K.Sink.written c.args.sink.now) (g.K.Sink.faults c.args.sink.now) (g.K.Sink.since c.args.sink.now)) fault
+    (IfSome left (λ given. IsBegun known known (text given))))
     c.from_residual.result why.NoMemory c.from_residual.ensures.1
     (record { part = nothing_begun left known text; count = refl; uncalled = λ _. refl })
 
@@ -141,23 +148,30 @@ returns-in_err-obey-in-Ok-clause-stopped g c =
     let within = next.within in
     let within_limit : new.number ≤ limit = omega (arith, limit_is, limit_stays, within) in
     let handed : IsNextLine was now old new =
-    record { line = next.line; rest = next.rest; first = next.first; last = next.last_at_end; stays = next.over_stays; number = next.number;
-        short = next.short } in
+    record {
+      line = next.line;
+      rest = next.rest;
+      first = next.first;
+      last = next.last_at_end;
+      stays = next.over_stays;
+      number = next.number;
+      short = next.short;
+    } in
     let said = c.in-Ok.command in
     let stop = said_stopped (λ all. IfSome left (λ given. P given all)) before here (outlet (g.K.Sink.written c.obey.new.sink)
-        (g.K.Sink.faults c.obey.new.sink) (g.K.Sink.since c.obey.new.sink)) held (reply shows w said) c.in_err-obey-in-Ok.field-0.0 inv.said
-        c.in_err-obey-in-Ok.ensures.sent in
+    (g.K.Sink.faults c.obey.new.sink) (g.K.Sink.since c.obey.new.sink)) held (reply shows w said) c.in_err-obey-in-Ok.field-0.0 inv.said
+    c.in_err-obey-in-Ok.ensures.sent in
     on_fault (λ fault. IsCutShort before (outlet (g.K.Sink.written c.obey.new.sink) (g.K.Sink.faults c.obey.new.sink) (g.K.Sink.since c.obey.new.sink))
-        fault (IfSome left (λ given.
+    fault (IfSome left (λ given.
     IsBegun (g.K.Sink.written c.args.sink.now) (g.K.Sink.written c.obey.new.sink) (report shows limit (lines given true)))))
     c.from_residual-in_err-obey-in-Ok.result c.in_err-obey-in-Ok.field-0.0 c.from_residual-in_err-obey-in-Ok.ensures.1
     (record {
       part = on_some left inv.said.whole (λ given reached.
           begun_within (g.K.Sink.written c.args.sink.now) (g.K.Sink.written c.obey.new.sink) ((inv.said.done ++ held) ++ reply shows w said)
-              (report shows limit (lines given true)) stop.begun
+          (report shows limit (lines given true)) stop.begun
           (replied_within shows limit given now new.held new.over (after w said) (new.number + 1) ((inv.said.done ++ held) ++ reply shows w said)
           (line_played shows limit given was now old new w (after w said) (inv.said.done ++ held) ((inv.said.done ++ held) ++ reply shows w said) said
-              c.line_laws.ensures.ended c.line_laws.ensures.one_feed reached handed within_limit
+          c.line_laws.ensures.ended c.line_laws.ensures.one_feed reached handed within_limit
           (ap (λ l. allowed w (command One l)) (sym c.line.ensures.value) ∙ sym c.in-Ok.ensures.read) (alike_itself shows (after w said)) refl)));
       count = stop.count;
       uncalled = stop.uncalled;
@@ -184,11 +198,18 @@ returns-in-Err-clause-said g c =
     let within = next.within in
     let within_limit : new.number ≤ limit = omega (arith, limit_is, limit_stays, within) in
     let handed : IsNextLine was now old new =
-    record { line = next.line; rest = next.rest; first = next.first; last = next.last_at_end; stays = next.over_stays; number = next.number;
-        short = next.short } in
+    record {
+      line = next.line;
+      rest = next.rest;
+      first = next.first;
+      last = next.last_at_end;
+      stays = next.over_stays;
+      number = next.number;
+      short = next.short;
+    } in
     let why = c.in-Err.cause in
     said_map (λ all. IfSome left (λ given. P given all))
-        (λ all. IfSome left (λ given. IsTextOf shows limit given now (all ++ refused_line c.number.result why) (Refused c.number.result why)))
+    (λ all. IfSome left (λ given. IsTextOf shows limit given now (all ++ refused_line c.number.result why) (Refused c.number.result why)))
     before here held inv.said (λ all ok. on_some left ok (λ given reached.
     subst (λ n. IsTextOf shows limit given now (all ++ refused_line n why) (Refused n why)) (sym c.number.ensures.value)
     (line_refused shows limit given was now old new w why all c.line_laws.ensures.in_parts c.line_laws.ensures.near reached handed next.small within_limit
@@ -216,8 +237,8 @@ returns-in-Long-clause-said g c =
       small = next.small;
     } in
     said_map (λ all. IfSome left (λ given. P given all))
-        (λ all. IfSome left (λ given. IsTextOf shows limit given now (all ++ refused_line c.number-in-Long.result cause.Long)
-        (Refused c.number-in-Long.result cause.Long)))
+    (λ all. IfSome left (λ given. IsTextOf shows limit given now (all ++ refused_line c.number-in-Long.result cause.Long)
+    (Refused c.number-in-Long.result cause.Long)))
     before here held inv.said (λ all ok. on_some left ok (λ given reached.
     subst (λ n. IsTextOf shows limit given now (all ++ refused_line n cause.Long) (Refused n cause.Long)) (sym c.number-in-Long.ensures.value)
     (long_refused shows limit given was now old new w all c.line_laws.ensures.first c.line_laws.ensures.in_parts reached last next.number)))
@@ -244,8 +265,8 @@ returns-in-TooMany-clause-said g c =
       small = next.small;
     } in
     said_map (λ all. IfSome left (λ given. P given all))
-        (λ all. IfSome left (λ given. IsTextOf shows limit given now (all ++ refused_line c.number-in-TooMany.result cause.Lines)
-        (Refused c.number-in-TooMany.result cause.Lines)))
+    (λ all. IfSome left (λ given. IsTextOf shows limit given now (all ++ refused_line c.number-in-TooMany.result cause.Lines)
+    (Refused c.number-in-TooMany.result cause.Lines)))
     before here held inv.said (λ all ok. on_some left ok (λ given reached.
     subst (λ n. IsTextOf shows limit given now (all ++ refused_line n cause.Lines) (Refused n cause.Lines)) (sym c.number-in-TooMany.ensures.value)
     (too_many_refused shows limit given was now old new w all c.line_laws.ensures.first c.line_laws.ensures.in_parts reached last next.number)))
@@ -272,11 +293,11 @@ returns-then-not-player-clause-said g c =
       small = next.small;
     } in
     said_map (λ all. IfSome left (λ given. P given all))
-        (λ all. IfSome left (λ given. IsTextOf shows limit given now (all ++ refused_line (c.number-then-not-player.result + 1) cause.Header)
-        (Refused (c.number-then-not-player.result + 1) cause.Header)))
+    (λ all. IfSome left (λ given. IsTextOf shows limit given now (all ++ refused_line (c.number-then-not-player.result + 1) cause.Header)
+    (Refused (c.number-then-not-player.result + 1) cause.Header)))
     before here held inv.said (λ all ok. on_some left ok (λ given reached.
     subst (λ n. IsTextOf shows limit given now (all ++ refused_line (n + 1) cause.Header) (Refused (n + 1) cause.Header))
-        (sym c.number-then-not-player.ensures.value)
+    (sym c.number-then-not-player.ensures.value)
     (end_refused shows limit given was now old new w all c.line_laws.ensures.in_parts reached last next.number c.if-not-player.true)))
 
 pub returns-in-End-clause-said : goal.returns-in-End-clause-said
@@ -303,7 +324,7 @@ returns-in-End-clause-said g c =
     let live = c.len.result in
     let frames = c.lines.player.frames in
     said_map (λ all. IfSome left (λ given. P given all))
-        (λ all. IfSome left (λ given. IsTextOf shows limit given now (all ++ end_line c.number-in-End.result frames live) Done))
+    (λ all. IfSome left (λ given. IsTextOf shows limit given now (all ++ end_line c.number-in-End.result frames live) Done))
     before here held inv.said (λ all ok. on_some left ok (λ given reached.
     subst (λ n. IsTextOf shows limit given now (all ++ end_line n frames live) Done) (sym c.number-in-End.ensures.value)
     (subst (λ k. IsTextOf shows limit given now (all ++ end_line new.number frames k) Done) (sym c.len.ensures.len)

@@ -15,7 +15,7 @@ invariant-lines g l = record {
       (l.text.items ++ owed l.player.table.entries l.run)
       (λ all. IfSome (g.S.Source.left l.fn.source) (λ given.
       IsReached l.options.exchanges l.limit given (g.S.Source.left l.source) l.reader.held l.reader.over (world_in g.B.BroadPhase.exchanges l.player)
-          (l.reader.number + 1) all));
+      (l.reader.number + 1) all));
   playing : IsPlaying g.B.BroadPhase.bodies g.B.BroadPhase.spent l.player;
   run : IsRun l.run;
   going_on : l.reader.ended ≡ false;

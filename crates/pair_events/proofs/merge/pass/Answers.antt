@@ -17,9 +17,9 @@ passed-preserved c =
           ∙ c.passed.invariant.kept more r;
       ended = λ more r.
           pushed c.push.new.self.items c.passed.over.items (record { event = Over; pair = c.in-Some.first.now })
-              (ended c.in-Some.later.now (c.args.pair.now ∷ more)) (ended c.passed.rest.now (c.args.pair.now ∷ more))
+          (ended c.in-Some.later.now (c.args.pair.now ∷ more)) (ended c.passed.rest.now (c.args.pair.now ∷ more))
           (c.in_ok-push.ensures.items ∙ ap (λ told. c.passed.over.items ++ told ∷ []) c.over_of.ensures)
           (ap (λ os. ended os (c.args.pair.now ∷ more)) is
-              ∙ passed_ended c.in-Some.first.now c.in-Some.later.now c.args.pair.now more (sym c.precedes.ensures ∙ c.if-not-precedes.false) r)
+          ∙ passed_ended c.in-Some.first.now c.in-Some.later.now c.args.pair.now more (sym c.precedes.ensures ∙ c.if-not-precedes.false) r)
           ∙ c.passed.invariant.ended more r;
     }

@@ -24,14 +24,14 @@ index_mut-requires c = omega (arith, c.self.inside.keys.ok.0, present_within c.s
 pub index_mut-requires-2 : goal.index_mut-requires-2
 index_mut-requires-2 c =
     let p = present _ _ _ _ c.args.self.now c.args.slot c.index.result.now c.in-Some.key c.self.invariant c.self.view_is c.requires c.index.ensures
-        c.in-Some.is in
+    c.in-Some.is in
     omega (arith, p.low, c.self.invariant.levels_len, c.self.inside.levels.ok.0)
 
 pub overflow_sub-index_mut : goal.overflow_sub-index_mut
 overflow_sub-index_mut c =
     let s = c.self.inside in
     let p = present _ _ _ _ c.args.self.now c.args.slot c.index.result.now c.in-Some.key c.self.invariant c.self.view_is c.requires c.index.ensures
-        c.in-Some.is in
+    c.in-Some.is in
     let low : c.in-Some.key.level < LEVELS = p.low in
     let read =
     get_or_read s.levels.items c.in-Some.key.level c.index_mut-2.result.now (omega (arith, c.self.invariant.levels_len)) c.index_mut-2.ensures.value 0 in
@@ -44,18 +44,18 @@ unlink-requires-clause-slot c =
 pub unlink-requires-clause-before : goal.unlink-requires-clause-before
 unlink-requires-clause-before c =
     (present _ _ _ _ c.args.self.now c.args.slot c.index.result.now c.in-Some.key c.self.invariant c.self.view_is c.requires c.index.ensures
-        c.in-Some.is).beside.before
+    c.in-Some.is).beside.before
 
 pub unlink-requires-clause-after : goal.unlink-requires-clause-after
 unlink-requires-clause-after c =
     (present _ _ _ _ c.args.self.now c.args.slot c.index.result.now c.in-Some.key c.self.invariant c.self.view_is c.requires c.index.ensures
-        c.in-Some.is).beside.after
+    c.in-Some.is).beside.after
 
 pub invariant_of-self : goal.invariant_of-self
 invariant_of-self c =
     let s = c.self.inside in
     let p = present _ _ _ _ c.args.self.now c.args.slot c.index.result.now c.in-Some.key c.self.invariant c.self.view_is c.requires c.index.ensures
-        c.in-Some.is in
+    c.in-Some.is in
     let low : c.in-Some.key.level < LEVELS = p.low in
     let read =
     get_or_read s.levels.items c.in-Some.key.level c.index_mut-2.result.now (omega (arith, c.self.invariant.levels_len)) c.index_mut-2.ensures.value 0 in

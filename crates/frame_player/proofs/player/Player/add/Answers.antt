@@ -13,7 +13,7 @@ pub add-requires-clause-absent : goal.add-requires-clause-absent
 add-requires-clause-absent g c _ =
     let playing = c.requires.playing in
     ap (λ b. contains_key b c.in-Ok.handle.slot) playing.boxes
-        ∙ indexed_absent c.args.self.now.table.entries c.in-Ok.handle.slot playing.table.rising c.in-Ok.ensures.free
+    ∙ indexed_absent c.args.self.now.table.entries c.in-Ok.handle.slot playing.table.rising c.in-Ok.ensures.free
 
 pub returns-clause-obeyed : goal.returns-clause-obeyed
 returns-clause-obeyed g c =
@@ -22,7 +22,7 @@ returns-clause-obeyed g c =
     let added = c.in_ok-add-in-Ok.ensures in
     let bodies = g.B.BroadPhase.bodies c.args.self.now.index in
     let few = added_few bodies c.in-Ok.handle.slot c.args.body (few_bodies bodies c.args.self.now.table.entries playing.boxes playing.table.rising
-        playing.table.few) in
+    playing.table.few) in
     let exchanges = g.B.BroadPhase.exchanges c.args.self.now.index in
     let live = c.args.self.now.table.entries in
     on_ok_weaker c.put_add.result (λ _. record {
@@ -34,7 +34,7 @@ returns-clause-obeyed g c =
         exchanges = λ on.
             added.counted on
             ∙ ap (λ es. exchanges + passed_from_above es c.in-Ok.handle.slot c.args.body) (ap entries playing.boxes
-                ∙ entries-bodies_of live playing.table.rising)
+            ∙ entries-bodies_of live playing.table.rising)
             ∙ ap (λ h. exchanges + passed_from_above (slots_with_bodies live) h.slot c.args.body) given.handle;
       };
       playing = record {

@@ -20,10 +20,10 @@ returns-clause-sent g c =
     let shows = c.args.options.exchanges in
     let same : frame_line number c.in_ok-pairs.pairs ++ (flat_map told_line told ++ shown_number exchanges) ≡ reply shows w Frame =
     frame_reply shows w number c.in_ok-pairs.pairs told exchanges (ap (λ n. n + 1) found.same.2) found.count (c.deref.ensures.value
-        ∙ found.events) (c.shown_exchanges-exchanges.ensures ∙ ap (shown shows) found.exchanges) in
+    ∙ found.events) (c.shown_exchanges-exchanges.ensures ∙ ap (shown shows) found.exchanges) in
     let text = c.args.text.now.items in
     handed_as (outlet (g.K.Sink.written c.args.sink.now) (g.K.Sink.faults c.args.sink.now) (g.K.Sink.since c.args.sink.now))
-        (outlet (g.K.Sink.written c.send_frame.new.sink) (g.K.Sink.faults c.send_frame.new.sink) (g.K.Sink.since c.send_frame.new.sink))
+    (outlet (g.K.Sink.written c.send_frame.new.sink) (g.K.Sink.faults c.send_frame.new.sink) (g.K.Sink.since c.send_frame.new.sink))
     (text ++ (frame_line number c.in_ok-pairs.pairs ++ (flat_map told_line told ++ shown_number exchanges))) c.send_frame.new.text.items
     (text ++ reply shows w Frame) c.send_frame.new.text.items (ap (λ t. text ++ t) same) refl c.in_ok-send_frame.ensures
 
@@ -37,13 +37,13 @@ returns-in_err-send_frame-clause-sent g c =
     let shows = c.args.options.exchanges in
     let same : frame_line number c.in_ok-pairs.pairs ++ (flat_map told_line told ++ shown_number exchanges) ≡ reply shows w Frame =
     frame_reply shows w number c.in_ok-pairs.pairs told exchanges (ap (λ n. n + 1) found.same.2) found.count (c.deref.ensures.value
-        ∙ found.events) (c.shown_exchanges-exchanges.ensures ∙ ap (shown shows) found.exchanges) in
+    ∙ found.events) (c.shown_exchanges-exchanges.ensures ∙ ap (shown shows) found.exchanges) in
     let text = c.args.text.now.items in
     stopped_so (outlet (g.K.Sink.written c.args.sink.now) (g.K.Sink.faults c.args.sink.now) (g.K.Sink.since c.args.sink.now))
-        (outlet (g.K.Sink.written c.send_frame.new.sink) (g.K.Sink.faults c.send_frame.new.sink) (g.K.Sink.since c.send_frame.new.sink))
+    (outlet (g.K.Sink.written c.send_frame.new.sink) (g.K.Sink.faults c.send_frame.new.sink) (g.K.Sink.since c.send_frame.new.sink))
     (text ++ reply shows w Frame) c.send_frame.new.text.items c.from_residual-in_err-send_frame.result c.in_err-send_frame.field-0.0
-        c.from_residual-in_err-send_frame.ensures.1
+    c.from_residual-in_err-send_frame.ensures.1
     (stopped_as (outlet (g.K.Sink.written c.args.sink.now) (g.K.Sink.faults c.args.sink.now) (g.K.Sink.since c.args.sink.now))
-        (outlet (g.K.Sink.written c.send_frame.new.sink) (g.K.Sink.faults c.send_frame.new.sink) (g.K.Sink.since c.send_frame.new.sink))
+    (outlet (g.K.Sink.written c.send_frame.new.sink) (g.K.Sink.faults c.send_frame.new.sink) (g.K.Sink.since c.send_frame.new.sink))
     (text ++ (frame_line number c.in_ok-pairs.pairs ++ (flat_map told_line told ++ shown_number exchanges))) (text ++ reply shows w Frame)
-        c.in_err-send_frame.field-0.0 (ap (λ t. text ++ t) same) c.in_err-send_frame.ensures)
+    c.in_err-send_frame.field-0.0 (ap (λ t. text ++ t) same) c.in_err-send_frame.ensures)

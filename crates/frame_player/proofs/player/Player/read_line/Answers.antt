@@ -5,6 +5,11 @@ use Rattle.frame_player.proofs.player.Player.read_line.Goals as goal
 
 pub returns-then-self-clause-allowed : goal.returns-then-self-clause-allowed
 returns-then-self-clause-allowed g c =
-    let w : World = record { header = true; table = c.args.self.now.table; last = c.args.self.now.pair_table; frames = c.args.self.now.frames;
-        exchanges = g.B.BroadPhase.exchanges c.args.self.now.index } in
+    let w : World = record {
+      header = true;
+      table = c.args.self.now.table;
+      last = c.args.self.now.pair_table;
+      frames = c.args.self.now.frames;
+      exchanges = g.B.BroadPhase.exchanges c.args.self.now.index;
+    } in
     rw c.if-self.true (c.allow_later.ensures.again w c.len.ensures.len)

@@ -9,9 +9,11 @@ use Rattle.frame_player.proofs.player.Player.remove.Goals as goal
 pub leave-requires : goal.leave-requires
 leave-requires g c =
     let playing = c.requires.playing in
-    record { small = lives_small c.args.handle c.args.self.now.table.entries playing.table.small (ap is_some (sym c.in-Ok.ensures.found));
-        present = λ _. ap (λ b. contains_key b c.args.handle.slot) playing.boxes
-        ∙ indexed_present c.args.handle c.args.self.now.table.entries playing.table.rising (ap is_some (sym c.in-Ok.ensures.found)) }
+    record {
+      small = lives_small c.args.handle c.args.self.now.table.entries playing.table.small (ap is_some (sym c.in-Ok.ensures.found));
+      present = λ _. ap (λ b. contains_key b c.args.handle.slot) playing.boxes
+          ∙ indexed_present c.args.handle c.args.self.now.table.entries playing.table.rising (ap is_some (sym c.in-Ok.ensures.found));
+    }
 
 pub returns-in-Ok-clause-obeyed : goal.returns-in-Ok-clause-obeyed
 returns-in-Ok-clause-obeyed g c =

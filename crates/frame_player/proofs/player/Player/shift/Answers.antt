@@ -16,7 +16,7 @@ pub shift-requires-clause-present : goal.shift-requires-clause-present
 shift-requires-clause-present g c _ =
     let playing = c.requires.playing in
     ap (λ b. contains_key b c.args.handle.slot) playing.boxes
-        ∙ indexed_present c.args.handle c.args.self.now.table.entries playing.table.rising (sym c.in-Ok.ensures.known)
+    ∙ indexed_present c.args.handle c.args.self.now.table.entries playing.table.rising (sym c.in-Ok.ensures.known)
 
 pub returns-in-Ok-clause-obeyed : goal.returns-in-Ok-clause-obeyed
 returns-in-Ok-clause-obeyed g c =
@@ -24,7 +24,7 @@ returns-in-Ok-clause-obeyed g c =
     let moved = c.in-Ok.ensures in
     let bodies = g.B.BroadPhase.bodies c.args.self.now.index in
     let few = shifted_few bodies c.args.handle.slot c.args.body (few_bodies bodies c.args.self.now.table.entries playing.boxes playing.table.rising
-        playing.table.few) in
+    playing.table.few) in
     let exchanges = g.B.BroadPhase.exchanges c.args.self.now.index in
     let live = c.args.self.now.table.entries in
     on_shifted c.shift.result c.shift.ensures.sound c.shift.ensures.ok c.shift.ensures.counted (λ sound put passed. record {
@@ -36,9 +36,9 @@ returns-in-Ok-clause-obeyed g c =
         exchanges = λ on.
             passed on ∙ ap (λ b. exchanges + passed_from (get b c.args.handle.slot) (entries b) c.args.handle.slot c.args.body) playing.boxes
             ∙ ap (λ es. exchanges + passed_from (get (bodies_of live) c.args.handle.slot) es c.args.handle.slot c.args.body)
-                (entries-bodies_of live playing.table.rising)
+            (entries-bodies_of live playing.table.rising)
             ∙ ap (λ o. exchanges + passed_from o (slots_with_bodies live) c.args.handle.slot c.args.body)
-                (found_body c.args.handle live playing.table.rising (sym moved.known));
+            (found_body c.args.handle live playing.table.rising (sym moved.known));
       };
       playing = record {
         sound = sound;
