@@ -1,11 +1,9 @@
 -- Words, taken off the front of a line.
-use Rattle.std.proofs.Common.{◌≡◌, ℕ, suc, ◌+◌, ◌<◌, Bool, true, false, cond, not, ◌||◌, List, [], ◌∷◌, length, take, drop, refl, sym, ap, ◌∙◌, arith, filter}
+use Rattle.std.proofs.Common.{◌≡◌, ℕ, ◌+◌, ◌<◌, Bool, true, false, cond, not, ◌||◌, List, [], ◌∷◌, length, take, drop, refl, sym, ap, ◌∙◌, arith, filter}
 use Rattle.std.specs.List.{slice_split, prefix_len, position_or_len, before_first, onto_first}
 use Rattle.std.proofs.lemmas.List.Folds.{length-prefix_len}
 use Rattle.scene_words.specs.SceneWords.{is_blank, is_hash, is_word, words}
-
-one_plus : (n : ℕ) → 1 + n ≡ suc n
-one_plus n = omega arith
+use Rattle.scene_words.proofs.FirstPlaces.{one_plus}
 
 -- a byte of a word
 abbrev pub in_word : ℕ → Bool
