@@ -1,4 +1,5 @@
-ghost use Rattle.std.specs.Prelude.{◌≡◌, ◌<◌, ◌≤◌, ◌++◌, true, false, T, if◌then◌else◌, Ok, Err, IfOk, OnOk, OnErr, length, take, insert, remove, slice_set, nat_lt, vec_len, refl};
+ghost use Rattle.std.specs.Prelude.{◌≡◌, ◌<◌, ◌≤◌, ◌++◌, true, false, T, if◌then◌else◌, Ok, Err};
+ghost use Rattle.std.specs.Prelude.{IfOk, OnOk, OnErr, length, take, insert, remove, slice_set, nat_lt, vec_len, refl};
 ghost use Rattle.std.specs.List.{AllWithin};
 ghost use Rattle.std.specs.Ordering.{nat_cmp};
 ghost use Rattle.std.specs.FinMap as map;

@@ -34,7 +34,8 @@ fn settle_slots(slots: &mut Vec<u32>)
 
 /// Appends pairs that were found in any order, and any number of times, in rising order and each once.
 pub fn push_rising_pairs(found: &mut Vec<Pair>, out: &mut Vec<Pair>) -> Result<(), NoMemory>
-    ensures near { (bodies : FinMap nat_cmp Bounds) → ((p : Pair) → has_pair found.old.items p ≡ is_near bodies p) → OnOk result (out.new.items ≡ out.old.items ++ near bodies) }
+    ensures near { (bodies : FinMap nat_cmp Bounds) → ((p : Pair) → has_pair found.old.items p ≡ is_near bodies p)
+        → OnOk result (out.new.items ≡ out.old.items ++ near bodies) }
     ensures err { OnErr result (out.new.items ≡ out.old.items) }
 {
     settle_pairs(found);
@@ -44,8 +45,10 @@ pub fn push_rising_pairs(found: &mut Vec<Pair>, out: &mut Vec<Pair>) -> Result<(
 
 /// Appends slots that were found in any order, and any number of times, in rising order and each once.
 pub fn push_rising_slots(slots: &mut Vec<u32>, out: &mut Vec<u32>) -> Result<(), NoMemory>
-    ensures found { (bodies : FinMap nat_cmp Bounds) (query : Query) → ((k : ℕ) → has_slot slots.old.items k ≡ is_found bodies query k) → OnOk result (out.new.items ≡ out.old.items ++ found bodies query) }
-    ensures reach { (bodies : FinMap nat_cmp Bounds) (slot : ℕ) → ((k : ℕ) → has_slot slots.old.items k ≡ is_reached bodies slot k) → OnOk result (out.new.items ≡ out.old.items ++ reach bodies slot) }
+    ensures found { (bodies : FinMap nat_cmp Bounds) (query : Query) → ((k : ℕ) → has_slot slots.old.items k ≡ is_found bodies query k)
+        → OnOk result (out.new.items ≡ out.old.items ++ found bodies query) }
+    ensures reach { (bodies : FinMap nat_cmp Bounds) (slot : ℕ) → ((k : ℕ) → has_slot slots.old.items k ≡ is_reached bodies slot k)
+        → OnOk result (out.new.items ≡ out.old.items ++ reach bodies slot) }
     ensures err { OnErr result (out.new.items ≡ out.old.items) }
 {
     settle_slots(slots);

@@ -18,8 +18,9 @@ use std::thread::Threads;
 ///
 /// The report tells at each frame exactly the pairs of live boxes that meet and may, with what began, stayed and is
 /// over since the last frame, and for each query exactly the boxes that meet it. Which report that is, is a function of
-/// the scene's bytes, whatever pieces reads cut them into, and whichever structure and number of workers are named. The first line that can't be read is refused. Otherwise the
-/// play stops early only where memory runs out, or the source or the sink fails.
+/// the scene's bytes, whatever pieces reads cut them into, and whichever structure and number of workers are named. The
+/// first line that can't be read is refused. Otherwise the play stops early only where memory runs out, or the source or
+/// the sink fails.
 pub fn broadplay<R: Threads + Sync, S: Source, K: Sink>(
     rt: &R,
     alloc: Global,

@@ -7,7 +7,8 @@ use Rattle.std.specs.declared.cmp.Ordering.TheVariants.{Less, Equal, Greater}
 use Rattle.std.specs.Cmp.{first_so, second_so, nat_cmp_is, eq_by_cmp_equiv, alike_right}
 use Rattle.std.specs.Cmp.Derive.{both_true}
 use Rattle.std.specs.FinMap.{FinMap, get, entries, entries-insert, entries-from_sorted, from_sorted, is_sorted, insert, remove, find}
-use Rattle.std.specs.FinMap.{put, contains_key, get-from_sorted, get-remove, same_entries_map, same_map, nat_cmp-IsAntisymmetric, empty, empty_of_len, len-entries}
+use Rattle.std.specs.FinMap.{put, contains_key, get-from_sorted, get-remove, same_entries_map}
+use Rattle.std.specs.FinMap.{same_map, nat_cmp-IsAntisymmetric, empty, empty_of_len, len-entries}
 use Rattle.std.specs.FinMap.Entries.{below_all, where_key, is_sorted-where_key, find-where_key}
 use Rattle.std.proofs.lemmas.Bool.{eqb-true}
 use Rattle.std.proofs.lemmas.Bool.Decides.{nat_tests}

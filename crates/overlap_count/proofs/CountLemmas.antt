@@ -1,6 +1,7 @@
 -- The counts that a row's tallies keep: one of them, a write, blank tallies, and how many pass a test.
 use Rattle.std.proofs.Common.{◌≡◌, ◌≢◌, ℕ, zero, suc, ◌+◌, ◌*◌, ◌/◌, ◌%◌, ◌<◌, ◌≤◌, Bool, false, cond, not, List, [], ◌∷◌, ◌++◌}
-use Rattle.std.proofs.Common.{length, get_or, set, take, replicate, refl, sym, ap, ◌∙◌, subst, arith, count_by, get_or-set_same, get_or-set_other, length-set, length-append, ext_get_or, inl, inr, ne_eqb}
+use Rattle.std.proofs.Common.{length, get_or, set, take, replicate, refl, sym, ap, ◌∙◌, subst}
+use Rattle.std.proofs.Common.{arith, count_by, get_or-set_same, get_or-set_other, length-set, length-append, ext_get_or, inl, inr, ne_eqb}
 use Rattle.std.proofs.lemmas.Bool.{cases_eq, cases_lt}
 use Rattle.std.proofs.lemmas.List.{get_or_past, take_all, length-replicate, set-get_or}
 use Rattle.std.proofs.lemmas.List.FromFn.{length-map-range_with_len, get_or-map-range_with_len}

@@ -1,6 +1,7 @@
 -- The pairs that count 3: those of a word and of a row, which pairs they are, and that they rise.
 use Rattle.std.proofs.Common.{◌≡◌, ◌≢◌, ℕ, zero, suc, ◌+◌, ◌-◌, ◌*◌, ◌/◌, ◌%◌, ◌<◌, ◌≤◌, ◌==◌, Bool, true, false, cond, ◌&&◌, ◌||◌, List}
-use Rattle.std.proofs.Common.{[], ◌∷◌, ◌++◌, length, get_or, ltb, refl, sym, ap, ◌∙◌, subst, arith, append-nil, append_assoc, inl, inr, eq-eqb, ne_eqb, lt-ltb, eqb-true}
+use Rattle.std.proofs.Common.{[], ◌∷◌, ◌++◌, length, get_or, ltb, refl, sym, ap, ◌∙◌}
+use Rattle.std.proofs.Common.{subst, arith, append-nil, append_assoc, inl, inr, eq-eqb, ne_eqb, lt-ltb, eqb-true}
 use Rattle.std.specs.Int.{bit_at}
 use Rattle.std.specs.List.{list_all}
 use Rattle.std.specs.Cmp.{first_so, second_so}

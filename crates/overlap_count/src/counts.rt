@@ -1,4 +1,5 @@
-ghost use Rattle.std.specs.Prelude.{◌≡◌, ◌≢◌, ◌+◌, ◌-◌, ◌*◌, ◌<◌, ◌≤◌, ◌==◌, ◌&&◌, ◌||◌, ◌++◌, true, ℕ, if◌then◌else◌, IfOk, OnOk, OnErr, length, take, vec_len};
+ghost use Rattle.std.specs.Prelude.{◌≡◌, ◌≢◌, ◌+◌, ◌-◌, ◌*◌, ◌<◌, ◌≤◌, ◌==◌, ◌&&◌, ◌||◌};
+ghost use Rattle.std.specs.Prelude.{◌++◌, true, ℕ, if◌then◌else◌, IfOk, OnOk, OnErr, length, take, vec_len};
 ghost use Rattle.broad_index.specs.declared.pair.Pair.{Pair};
 ghost use Rattle.overlap_count.specs.Counts.{count_of, first_slot, IsCounts};
 ghost use Rattle.overlap_count.specs.FullPairs.{full_pairs, has_pair, rises};

@@ -1,4 +1,5 @@
-ghost use Rattle.std.specs.Prelude.{◌≡◌, ◌≢◌, ◌+◌, ◌-◌, ◌*◌, ◌<◌, ◌≤◌, ◌==◌, ◌++◌, [], ℕ, List, if◌then◌else◌, OnOk, OnErr, length, replicate, slice_index, slice_set, take, vec_len};
+ghost use Rattle.std.specs.Prelude.{◌≡◌, ◌≢◌, ◌+◌, ◌-◌, ◌*◌, ◌<◌, ◌≤◌, ◌==◌, ◌++◌, []};
+ghost use Rattle.std.specs.Prelude.{ℕ, List, if◌then◌else◌, OnOk, OnErr, length, replicate, slice_index, slice_set, take, vec_len};
 ghost use Rattle.overlap_count.specs.Counts.{first_slot};
 ghost use Rattle.overlap_count.specs.FullPairs.{full_in};
 

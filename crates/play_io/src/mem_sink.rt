@@ -28,7 +28,15 @@ impl Model for MemSink {
 
     ghost Value = { FaultyWritten };
 
-    ghost view = { λ s. record { written = s.bytes.items; settled = s.settled; most = s.most; failing = s.failing.items; calls = s.calls; faults = s.faults; since = s.since } };
+    ghost view = { λ s. record {
+      written = s.bytes.items;
+      settled = s.settled;
+      most = s.most;
+      failing = s.failing.items;
+      calls = s.calls;
+      faults = s.faults;
+      since = s.since;
+    } };
 
     ghost invariant = { λ s. 1 ≤ s.most };
 }

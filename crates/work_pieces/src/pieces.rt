@@ -111,7 +111,8 @@ fn joined<T, X: Drop, F: Fn(&T) -> Result<X, NoMemory>>(
 ) -> Result<Vec<X>, NoMemory>
     requires size { 0 < size }
     requires count { length pieces.items ≡ length items.now / size + min 1 (length items.now % size) }
-    requires each { (n : ℕ) (d : _) → n < length pieces.items → IfOk (slice_index_or pieces.items n d) (λ v. Each (Gives F.Fn answer.now) (slice_chunk items.now size n) v.items) }
+    requires each { (n : ℕ) (d : _) → n < length pieces.items
+        → IfOk (slice_index_or pieces.items n d) (λ v. Each (Gives F.Fn answer.now) (slice_chunk items.now size n) v.items) }
     ensures { IfOk result (λ answers. Each (Gives F.Fn answer.now) items.now answers.items) }
 {
     let _ = items;
