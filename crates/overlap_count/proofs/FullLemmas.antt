@@ -13,7 +13,9 @@ use Rattle.std.proofs.lemmas.Nat.Bits.{bit_at-zero}
 use Rattle.broad_index.specs.declared.pair.Pair.{Pair}
 use Rattle.overlap_count.specs.declared.tally.Tally.{Tally}
 use Rattle.overlap_count.specs.Counts.{first_slot, count_of}
-use Rattle.overlap_count.specs.FullPairs.{full_in, full_below, full_pairs, has_pair, precedes, rises}
+use Rattle.broad_index.specs.Members.{has_pair}
+use Rattle.broad_index.specs.Near.{precedes, rises}
+use Rattle.overlap_count.specs.FullPairs.{full_in, full_below, full_pairs}
 use Rattle.overlap_count.specs.Rows.{digit, blank, counts_of, pairs_of_bits, IsTable}
 use Rattle.overlap_count.proofs.CountLemmas.{get_or-counts_of}
 use Rattle.overlap_count.proofs.TableLemmas.{count_is, count_not}

@@ -1,6 +1,5 @@
--- The pairs that overlap on all three axes, and what it means that a list has a pair and that it rises.
-use Rattle.std.specs.Prelude.{ℕ, zero, suc, ◌+◌, Bool, true, ◌&&◌, ◌||◌, ◌==◌, nat_lt, if◌then◌else◌, List, [], ◌∷◌, ◌++◌, length, slice_index, slice_index_or}
-use Rattle.std.specs.List.{list_all, list_any}
+-- The pairs that overlap on all three axes.
+use Rattle.std.specs.Prelude.{ℕ, zero, suc, ◌+◌, ◌==◌, if◌then◌else◌, List, [], ◌∷◌, ◌++◌, length, slice_index, slice_index_or}
 use Rattle.broad_index.specs.declared.pair.Pair.{Pair}
 use Rattle.overlap_count.specs.Counts.{first_slot}
 
@@ -17,16 +16,3 @@ full_below rows (suc n) = full_below rows n ++ full_in n (first_slot n) (slice_i
 -- all pairs whose count is 3
 abbrev pub full_pairs : List (List ℕ) → List Pair
 full_pairs rows = full_below rows (length rows)
-
--- whether a list has a pair
-abbrev pub has_pair : List Pair → Pair → Bool
-has_pair pairs p = list_any (λ q. p.a == q.a && p.b == q.b) pairs
-
--- p stands before q: by a, and then by b
-abbrev pub precedes : Pair → Pair → Bool
-precedes p q = nat_lt p.a q.a || (p.a == q.a && nat_lt p.b q.b)
-
--- each pair stands before all later ones
-abbrev pub rises : List Pair → Bool
-rises [] = true
-rises (p ∷ later) = list_all (precedes p) later && rises later

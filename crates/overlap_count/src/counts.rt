@@ -2,7 +2,9 @@ ghost use Rattle.std.specs.Prelude.{◌≡◌, ◌≢◌, ◌+◌, ◌-◌, ◌*
 ghost use Rattle.std.specs.Prelude.{◌++◌, true, ℕ, if◌then◌else◌, IfOk, OnOk, OnErr, length, take, vec_len};
 ghost use Rattle.broad_index.specs.declared.pair.Pair.{Pair};
 ghost use Rattle.overlap_count.specs.Counts.{count_of, first_slot, IsCounts};
-ghost use Rattle.overlap_count.specs.FullPairs.{full_pairs, has_pair, rises};
+ghost use Rattle.broad_index.specs.Members.{has_pair};
+ghost use Rattle.broad_index.specs.Near.{rises};
+ghost use Rattle.overlap_count.specs.FullPairs.{full_pairs};
 
 use crate::row::{PLACES, Row};
 use broad_index::Pair;
