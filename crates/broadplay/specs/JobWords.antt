@@ -1,19 +1,24 @@
 -- What a command line asks for.
-use Rattle.std.specs.Prelude.{ℕ, ◌+◌, ◌*◌, ◌-◌, Bool, false, ◌&&◌, nat_le, List, []}
+use Rattle.std.specs.Prelude.{ℕ, ◌+◌, ◌*◌, ◌-◌, Bool, true, false, not, ◌&&◌, nat_le, List, []}
 use Rattle.std.specs.Prelude.{◌∷◌, codes, bytes_eq, if◌then◌else◌, is_some, unwrap_or, option_map, Option, Some, None}
 use Rattle.broadplay.specs.declared.job.Choices.{Choices}
 use Rattle.broadplay.specs.declared.job.Job.{Job}
 use Rattle.broadplay.specs.declared.job.Structure.{Structure}
-use Rattle.broadplay.specs.declared.job.Structure.TheVariants.{Plain}
+use Rattle.broadplay.specs.declared.job.Structure.TheVariants.{Plain, Sap, Tree, Grid}
 use Rattle.broadplay.specs.declared.job.Task.TheVariants.{Play}
 
 -- a structure by its word
 abbrev pub structure_of : List ℕ → Option Structure
-structure_of word = if bytes_eq word (codes "plain") then Some Plain else None
+structure_of word =
+    if bytes_eq word (codes "plain") then Some Plain
+    else (if bytes_eq word (codes "sap") then Some Sap
+    else (if bytes_eq word (codes "tree") then Some Tree
+    else (if bytes_eq word (codes "grid") then Some Grid else None)))
 
 -- whether a structure counts exchanges
 abbrev pub counts : Structure → Bool
-counts Plain = false
+counts Sap = true
+counts other = false
 
 abbrev pub is_digit : ℕ → Bool
 is_digit b = nat_le 48 b && nat_le b 57
@@ -36,6 +41,9 @@ choose_structure choices structure = if is_some choices.structure then None else
 abbrev pub choose_workers : Choices → Option ℕ → Option Choices
 choose_workers choices workers = if is_some choices.workers then None else option_map (λ n. record choices { workers = Some n }) workers
 
+abbrev pub choose_exchanges : Choices → Option Choices
+choose_exchanges choices = if choices.exchanges then None else Some (record choices { exchanges = true })
+
 -- one option of two words
 abbrev pub choose : Choices → List ℕ → List ℕ → Option Choices
 choose choices word value =
@@ -49,27 +57,35 @@ then_choose (Some choices) rest = rest choices
 -- The options, in any order, each at most once.
 abbrev pub choices_of : Choices → List (List ℕ) → Option Choices
 choices_of choices [] = Some choices
-choices_of choices (word ∷ []) = None
-choices_of choices (word ∷ value ∷ more) = then_choose (choose choices word value) (λ next. choices_of next more)
+choices_of choices (word ∷ []) = if bytes_eq word (codes "--exchanges") then choose_exchanges choices else None
+choices_of choices (word ∷ value ∷ more) =
+    if bytes_eq word (codes "--exchanges") then then_choose (choose_exchanges choices) (λ next. choices_of next (value ∷ more))
+    else then_choose (choose choices word value) (λ next. choices_of next more)
 
 abbrev pub no_choices : Choices
-no_choices = record { structure = None; workers = None }
+no_choices = record { structure = None; workers = None; exchanges = false }
 
--- What is left out is the plain list and one worker.
-abbrev pub job_of : Choices → Job
-job_of choices = record {
-  task = Play;
-  structure = unwrap_or choices.structure Plain;
-  options = record {
-    workers = unwrap_or choices.workers 1;
-    exchanges = false;
-  };
-}
+-- What is left out is sweep and prune and one worker. Exchanges are shown of a structure that counts them alone.
+abbrev pub job_over : Choices → Structure → Option Job
+job_over choices structure =
+    if choices.exchanges && not (counts structure) then None
+    else Some (record {
+      task = Play;
+      structure = structure;
+      options = record { workers = unwrap_or choices.workers 1; exchanges = choices.exchanges };
+    })
+
+abbrev pub job_of : Choices → Option Job
+job_of choices = job_over choices (unwrap_or choices.structure Sap)
+
+abbrev pub then_job : Option Choices → Option Job
+then_job None = None
+then_job (Some choices) = job_of choices
 
 -- The word `play` and its options are the job to play a scene. No other list of words has a meaning.
 abbrev pub job : List (List ℕ) → Option Job
 job [] = None
-job (word ∷ more) = if bytes_eq word (codes "play") then option_map job_of (choices_of no_choices more) else None
+job (word ∷ more) = if bytes_eq word (codes "play") then then_job (choices_of no_choices more) else None
 
 -- whether the frames of a job end with their exchanges
 abbrev pub shows_exchanges : Option Job → Bool

@@ -1,5 +1,5 @@
 ghost use Rattle.std.specs.Prelude.{◌≡◌, ◌≤◌, true, map, string_bytes, IfSome};
-ghost use Rattle.broadplay.specs.JobWords.{job, choices_of, choose, no_choices, job_of, structure_of, workers_of, as_workers, is_digit, counts};
+ghost use Rattle.broadplay.specs.JobWords.{job, choices_of, choose, choose_exchanges, no_choices, job_of, structure_of, workers_of, as_workers, is_digit, counts};
 
 use frame_player::Options;
 
@@ -12,7 +12,14 @@ pub enum Task {
 /// By which structure the boxes are kept.
 #[derive(Clone, Copy, Debug, PartialEq, Eq)]
 pub enum Structure {
+    /// A list that tests all pairs.
     Plain,
+    /// Sweep and prune over three sorted lists of endpoints.
+    Sap,
+    /// A balanced tree of fat boxes.
+    Tree,
+    /// A hashed hierarchical grid.
+    Grid,
 }
 
 /// What a command line asks for.
@@ -28,6 +35,7 @@ pub struct Job {
 pub(crate) struct Choices {
     pub structure: Option<Structure>,
     pub workers: Option<u32>,
+    pub exchanges: bool,
 }
 
 /// The job of a command line without the program's name, and `None` where it has no meaning.
@@ -40,13 +48,26 @@ pub fn read_words(words: &[String]) -> Option<Job>
     if word.as_str() != "play" {
         return None;
     }
-    let choices = read_options(more)?;
+    job_of(read_options(more)?)
+}
+
+// The job of the options. Exchanges are shown of a structure that counts them alone.
+fn job_of(choices: Choices) -> Option<Job>
+    requires { IfSome choices.workers (λ n. (1 ≤ n) × (n ≤ 16)) }
+    ensures job { result ≡ job_of choices }
+    ensures workers { IfSome result (λ j. (1 ≤ j.options.workers) × (j.options.workers ≤ 16)) }
+    ensures counted { IfSome result (λ j. j.options.exchanges ≡ true → counts j.structure ≡ true) }
+{
+    let structure = choices.structure.unwrap_or(Structure::Sap);
+    if choices.exchanges && structure != Structure::Sap {
+        return None;
+    }
     Some(Job {
         task: Task::Play,
-        structure: choices.structure.unwrap_or(Structure::Plain),
+        structure,
         options: Options {
             workers: choices.workers.unwrap_or(1),
-            exchanges: false,
+            exchanges: choices.exchanges,
         },
     })
 }
@@ -59,14 +80,35 @@ fn read_options(words: &[String]) -> Option<Choices>
     let mut choices = Choices {
         structure: None,
         workers: None,
+        exchanges: false,
     };
     let mut rest = words;
     'options: while let Some((word, more)) = rest.split_first() {
-        let (value, later) = more.split_first()?;
-        choices = choose(choices, word.as_str(), value.as_str())?;
-        rest = later;
+        if word.as_str() == "--exchanges" {
+            choices = choose_exchanges(choices)?;
+            rest = more;
+        } else {
+            let (value, later) = more.split_first()?;
+            choices = choose(choices, word.as_str(), value.as_str())?;
+            rest = later;
+        }
     }
     Some(choices)
+}
+
+// The option of one word.
+fn choose_exchanges(choices: Choices) -> Option<Choices>
+    ensures choices { result ≡ choose_exchanges choices }
+    ensures workers { IfSome result (λ c. c.workers ≡ choices.workers) }
+{
+    if choices.exchanges {
+        None
+    } else {
+        Some(Choices {
+            exchanges: true,
+            ..choices
+        })
+    }
 }
 
 // One option of two words.
@@ -80,14 +122,14 @@ fn choose(choices: Choices, word: &str, value: &str) -> Option<Choices>
             let structure = read_structure(value)?;
             Some(Choices {
                 structure: Some(structure),
-                workers: choices.workers,
+                ..choices
             })
         }
         "--workers" if choices.workers.is_none() => {
             let workers = read_workers(value.as_bytes())?;
             Some(Choices {
-                structure: choices.structure,
                 workers: Some(workers),
+                ..choices
             })
         }
         _ => None,
@@ -97,10 +139,12 @@ fn choose(choices: Choices, word: &str, value: &str) -> Option<Choices>
 fn read_structure(word: &str) -> Option<Structure>
     ensures { result ≡ structure_of word.now }
 {
-    if word == "plain" {
-        Some(Structure::Plain)
-    } else {
-        None
+    match word {
+        "plain" => Some(Structure::Plain),
+        "sap" => Some(Structure::Sap),
+        "tree" => Some(Structure::Tree),
+        "grid" => Some(Structure::Grid),
+        _ => None,
     }
 }
 
