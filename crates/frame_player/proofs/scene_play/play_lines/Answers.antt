@@ -15,6 +15,7 @@ use Rattle.frame_player.specs.declared.status.Status.TheVariants.{Refused, Done,
 use Rattle.frame_player.specs.Ending.{IsTextOf}
 use Rattle.frame_player.specs.Outcome.{IsBegun}
 use Rattle.frame_player.specs.Outlet.{outlet, IsCutShort}
+use Rattle.frame_player.specs.OutcomeLaws.{append_known-nil, nothing_begun}
 use Rattle.frame_player.specs.Owed.{answers, owed}
 use Rattle.frame_player.specs.Play.{report}
 use Rattle.frame_player.specs.Player.{world_in}
@@ -24,7 +25,7 @@ use Rattle.frame_player.proofs.AlikeWorlds.{alike_shown, alike_itself}
 use Rattle.frame_player.proofs.InputEnded.{end_refused, end_done, fault_replied}
 use Rattle.frame_player.proofs.LinePlayed.{IsNextLine, on_some, opened, line_played, replied_within}
 use Rattle.frame_player.proofs.LineRefused.{IsLastAnswer, line_refused, long_refused, too_many_refused}
-use Rattle.frame_player.proofs.Sending.{append_known-nil, begun_within, said_on, said_map, said_stopped, on_fault, nothing_begun}
+use Rattle.frame_player.proofs.Sending.{begun_within, said_on, said_map, said_stopped, on_fault}
 use Rattle.frame_player.proofs.scene_play.play_lines.Goals as goal
 
 pub lines-init : goal.lines-init
