@@ -10,6 +10,7 @@ use Rattle.play_io.specs.Sink.{SinkCount, CountsSince, since_after}
 use Rattle.frame_player.specs.Outcome.{IsBegun}
 use Rattle.frame_player.specs.OutcomeLaws.{append_known-nil}
 use Rattle.frame_player.specs.Outlet.{Outlet, IsUncalled, IsHanded, IsStopped, IsSent, IsSaid}
+use Rattle.frame_player.proofs.LinePlayed.{on_some}
 use Rattle.scene_lines.specs.SceneLines.{IsPrefix}
 
 pub append_known-append : (known : Option (List ℕ)) (xs ys : List ℕ) → append_known (append_known known xs) ys ≡ append_known known (xs ++ ys)
@@ -125,6 +126,14 @@ said_uncalled P a b c held text left (Err fault) s h = uncalled_on a b c s.unfai
 
 pub said_map : (P Q : List ℕ → Type 0) (a b : Outlet) (held : List ℕ) → IsSaid a b held P → ((all : List ℕ) → P all → Q all) → IsSaid a b held Q
 said_map P Q a b held s f = record { done = s.done; written = s.written; unfailed = s.unfailed; uncalled = s.uncalled; whole = f (s.done ++ held) s.whole }
+
+-- where the source tells its bytes
+pub said_each : {a b : Outlet} {held : List ℕ} (left : Option (List ℕ)) (P Q : List ℕ → List ℕ → Type 0)
+    → IsSaid a b held (λ all. IfSome left (λ given. P given all)) → ((given all : List ℕ) → P given all → Q given all)
+    → IsSaid a b held (λ all. IfSome left (λ given. Q given all))
+said_each {a} {b} {held} left P Q s f =
+    said_map (λ all. IfSome left (λ given. P given all)) (λ all. IfSome left (λ given. Q given all)) a b held s
+    (λ all ok. on_some left ok (λ given p. f given all p))
 
 -- as a text of its own
 pub said_handed : (P : List ℕ → Type 0) (a b : Outlet) (held : List ℕ) (s : IsSaid a b held P) → IsHanded a b (s.done ++ held) held
