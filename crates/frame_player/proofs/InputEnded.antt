@@ -37,15 +37,16 @@ ended_or w n header =
     cond header (record { replies = []; last = end_line (n - 1) w.frames (length w.table.entries); status = Done; passed = true })
     (record (refused_at n cause.Header) { passed = true })
 
-pub end_refused : (shows : Bool) (limit : ℕ) (given : List ℕ) (left now : Option (List ℕ)) (old new : Reading) (w : World) (out : List ℕ)
+pub end_refused : {shows : Bool} {limit : ℕ} {given : List ℕ} {left now : Option (List ℕ)} (old new : Reading) {w : World} {out : List ℕ} {n : ℕ} → n ≡ new.number
     → InParts → IsReached shows limit given left old.held old.over w (old.number + 1) out → IsLastAnswer End limit left now old new
     → new.number ≡ old.number → w.header ≡ false
-    → IsTextOf shows limit given now (out ++ refused_line (new.number + 1) cause.Header) (Refused (new.number + 1) cause.Header)
-end_refused shows limit given left now old new w out parts reached last number none =
+    → IsTextOf shows limit given now (out ++ refused_line (n + 1) cause.Header) (Refused (n + 1) cause.Header)
+end_refused {shows} {limit} {given} {left} {now} old new {w} {out} told parts reached last number none =
     let ends = ended_with shows limit given out (refused_line (new.number + 1) cause.Header) (Refused (new.number + 1) cause.Header) true
     (ap (λ k. reply_first out (record (refused_at (k + 1) cause.Header) { passed = true })) number
     ∙ ap (λ h. reply_first out (ended_or w (old.number + 1) h)) (sym none)
-    ∙ at_end shows limit old.number given left old.held old.over w out reached last.exact) in (
+    ∙ at_end shows limit old.number given left old.held old.over w out reached last.exact) in
+    subst (λ k. IsTextOf shows limit given now (out ++ refused_line (k + 1) cause.Header) (Refused (k + 1) cause.Header)) (sym told) (
       ends.0,
       ends.1,
       kept_up_to (new.number + 1) given reached.front reached.bytes new.held now parts reached.split (last.kept
@@ -57,21 +58,23 @@ none_left held None h = absurd (cc)
 none_left [] (Some l) h = h
 none_left (b ∷ held) (Some l) h = absurd (cc)
 
-pub end_done : (shows : Bool) (limit : ℕ) (given : List ℕ) (left now : Option (List ℕ)) (old new : Reading) (w : World) (out : List ℕ)
+pub end_done : {shows : Bool} {limit : ℕ} {given : List ℕ} {left now : Option (List ℕ)} (old new : Reading) {w : World} {out : List ℕ} {n live : ℕ} → n ≡ new.number → live ≡ length w.table.entries
     → IsReached shows limit given left old.held old.over w (old.number + 1) out → IsLastAnswer End limit left now old new → new.number ≡ old.number
     → w.header ≡ true
-    → IsTextOf shows limit given now (out ++ end_line new.number w.frames (length w.table.entries)) Done
-end_done shows limit given left now old new w out reached last number some =
+    → IsTextOf shows limit given now (out ++ end_line n w.frames live) Done
+end_done {shows} {limit} {given} {left} {now} old new {w} {out} {n} {live} told few reached last number some =
     let before : old.number + 1 - 1 ≡ new.number = omega (arith, number) in
     let ends = ended_with shows limit given out (end_line new.number w.frames (length w.table.entries)) Done true
     (ap (λ k. reply_first out (record { replies = []; last = end_line k w.frames (length w.table.entries); status = Done; passed = true })) (sym before)
     ∙ ap (λ h. reply_first out (ended_or w (old.number + 1) h)) (sym some)
-    ∙ at_end shows limit old.number given left old.held old.over w out reached last.exact) in (
+    ∙ at_end shows limit old.number given left old.held old.over w out reached last.exact) in
+    subst (λ k. IsTextOf shows limit given now (out ++ end_line k w.frames live) Done) (sym told)
+    (subst (λ k. IsTextOf shows limit given now (out ++ end_line new.number w.frames k) Done) (sym few) (
       ends.0,
       ends.1,
       none_left new.held now (last.kept ∙ reached.coming
           ∙ ap Some (none_come limit old.number old.held left reached.bytes reached.coming last.exact)),
-    )
+    ))
 
 -- every line that ended passed
 all_passed : (w : World) (n : ℕ) → (ended_at w n).passed ≡ true
@@ -81,11 +84,12 @@ all_passed w n = elim w.header as (λ h. (ended_or w n h).passed ≡ true) [
 ]
 
 -- a read that fails
-pub fault_replied : (shows : Bool) (limit n : ℕ) (given : List ℕ) (left now : Option (List ℕ)) (held kept : List ℕ) (over : Bool) (w : World) (out : List ℕ)
+pub fault_replied : {shows : Bool} {limit n : ℕ} {given : List ℕ} {left now : Option (List ℕ)} {held : List ℕ} (kept : List ℕ) {over : Bool} {w : World}
+    {out : List ℕ}
     → ((bytes : List ℕ) → has_feed bytes ≡ false → lines bytes false ≡ []) → InParts → IsReached shows limit given left held over w n out
     → coming kept now ≡ coming held left → has_feed kept ≡ false → over ≡ false
     → IsTextOf shows limit given now (out ++ []) ReadFault
-fault_replied shows limit n given left now held kept over w out law parts reached same unended goes =
+fault_replied {shows} {limit} {n} {given} {left} {now} {held} kept {over} {w} {out} law parts reached same unended goes =
     let front = reached.front in
     let ends : reply_first out (ended_at w n) ≡ played shows limit (lines (front ++ kept) false) =
     ap (λ ls. reply_first out (play_from shows limit w n ls)) (sym (law kept unended)) ∙ reached.ahead goes kept in

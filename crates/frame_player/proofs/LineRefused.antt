@@ -42,6 +42,15 @@ pub record IsLastAnswer (answer : Next) (limit : ℕ) (left now : Option (List �
   pub kept : coming new.held now ≡ coming old.held left
   pub small : length new.held ≤ BUFFER_LEN
 
+pub last_answer : {answer : Next} {known limit : ℕ} {left now : Option (List ℕ)} (old new : Reading) → known ≡ limit
+    → IfSome (coming old.held left) (λ bytes. answer ≡ answer_at known old.number bytes) → coming new.held now ≡ coming old.held left
+    → length new.held ≤ BUFFER_LEN → IsLastAnswer answer limit left now old new
+last_answer {answer} {known} {limit} {left} {now} old new same exact kept small = record {
+  exact = subst (λ l. IfSome (coming old.held left) (λ bytes. answer ≡ answer_at l old.number bytes)) same exact;
+  kept = kept;
+  small = small;
+}
+
 -- the bytes taken before the last of them hold no more ends of lines than those before the line
 read_up_to : (n : ℕ) (given front behind : List ℕ) (now : Option (List ℕ)) → Some given ≡ prepend_known (front ++ behind) now → count_by is_feed front < n
     → length behind ≤ READ_AHEAD → IsReadUpTo n given now
@@ -80,11 +89,11 @@ refused_next shows limit given bytes line more w n c out so_far first asks =
     (ap (λ a. reply_first out (step shows w n a (λ next. play_from shows limit next (n + 1) more))) (sym asks)
     ∙ ap (λ ls. reply_first out (play_from shows limit w n ls)) (sym first) ∙ so_far)
 
-pub line_refused : (shows : Bool) (limit : ℕ) (given : List ℕ) (left now : Option (List ℕ)) (old new : Reading) (w : World) (c : Cause) (out : List ℕ)
+pub line_refused : {shows : Bool} {limit : ℕ} {given : List ℕ} {left now : Option (List ℕ)} (old new : Reading) {w : World} {c : Cause} {out : List ℕ} {n : ℕ} → n ≡ new.number
     → InParts → EndsNear → IsReached shows limit given left old.held old.over w (old.number + 1) out → IsNextLine left now old new
     → length new.held ≤ BUFFER_LEN → new.number ≤ limit
-    → allowed w (command One new.line) ≡ Err c → IsTextOf shows limit given now (out ++ refused_line new.number c) (Refused new.number c)
-line_refused shows limit given left now old new w c out parts near reached next small within refused =
+    → allowed w (command One new.line) ≡ Err c → IsTextOf shows limit given now (out ++ refused_line n c) (Refused n c)
+line_refused {shows} {limit} {given} {left} {now} old new {w} {c} {out} told parts near reached next small within refused =
     let bytes = reached.bytes in
     let here = reached.coming in
     let cut = take (length_ahead bytes + 1) bytes in
@@ -105,6 +114,7 @@ line_refused shows limit given left now old new w c out parts near reached next 
     let close = near bytes in
     let short = next.short in
     let few : count_by is_feed reached.front < new.number = subst (λ n. count_by is_feed reached.front < n) (sym next.number) reached.feeds in
+    subst (λ k. IsTextOf shows limit given now (out ++ refused_line k c) (Refused k c)) (sym told)
     (ends.0, ends.1, read_up_to new.number given reached.front (cut ++ new.held) now taken few (omega (arith, len, of_cut, of_line, close, short, small)))
 
 -- what an answer says of the bytes that come
@@ -139,36 +149,38 @@ above_all limit number h = grind (arith, nat_tests)
 at_least : (limit number : ℕ) → nat_le limit number ≡ true → limit < number + 1
 at_least limit number h = grind (arith, nat_tests)
 
-pub long_refused : (shows : Bool) (limit : ℕ) (given : List ℕ) (left now : Option (List ℕ)) (old new : Reading) (w : World) (out : List ℕ)
+pub long_refused : {shows : Bool} {limit : ℕ} {given : List ℕ} {left now : Option (List ℕ)} (old new : Reading) {w : World} {out : List ℕ} {n : ℕ} → n ≡ new.number
     → FirstLine → InParts → IsReached shows limit given left old.held old.over w (old.number + 1) out → IsLastAnswer Long limit left now old new
     → new.number ≡ old.number + 1
-    → IsTextOf shows limit given now (out ++ refused_line new.number cause.Long) (Refused new.number cause.Long)
-long_refused shows limit given left now old new w out law parts reached last number =
+    → IsTextOf shows limit given now (out ++ refused_line n cause.Long) (Refused n cause.Long)
+long_refused {shows} {limit} {given} {left} {now} old new {w} {out} told law parts reached last number =
     let bytes = reached.bytes in
     let is : Long ≡ answer_at limit old.number bytes = subst (λ o. IfSome o (λ b. Long ≡ answer_at limit old.number b)) reached.coming last.exact in
     let when = long_when (nat_eq (length bytes) 0) (nat_le limit old.number) (nat_lt LONGEST_LINE (length (line_ahead bytes))) is in
     let ends = refused_next shows limit given bytes (line_ahead bytes) (lines (past_line bytes) true) w new.number cause.Long out
     (subst (λ k. reply_first out (play_from shows limit w k (lines bytes true)) ≡ played shows limit (lines given true)) (sym number) reached.so_far)
     (law bytes (some_bytes (length bytes) when.0))
-    (asked_long limit new.number w (line_ahead bytes) (subst (λ k. k ≤ limit) (sym number) (above_all limit old.number when.1)) when.2) in (
+    (asked_long limit new.number w (line_ahead bytes) (subst (λ k. k ≤ limit) (sym number) (above_all limit old.number when.1)) when.2) in
+    subst (λ k. IsTextOf shows limit given now (out ++ refused_line k cause.Long) (Refused k cause.Long)) (sym told) (
       ends.0,
       ends.1,
       kept_up_to new.number given reached.front bytes new.held now parts reached.split (last.kept
           ∙ reached.coming) (subst (λ k. count_by is_feed reached.front < k) (sym number) reached.feeds) last.small,
     )
 
-pub too_many_refused : (shows : Bool) (limit : ℕ) (given : List ℕ) (left now : Option (List ℕ)) (old new : Reading) (w : World) (out : List ℕ)
+pub too_many_refused : {shows : Bool} {limit : ℕ} {given : List ℕ} {left now : Option (List ℕ)} (old new : Reading) {w : World} {out : List ℕ} {n : ℕ} → n ≡ new.number
     → FirstLine → InParts → IsReached shows limit given left old.held old.over w (old.number + 1) out → IsLastAnswer TooMany limit left now old new
     → new.number ≡ old.number + 1
-    → IsTextOf shows limit given now (out ++ refused_line new.number cause.Lines) (Refused new.number cause.Lines)
-too_many_refused shows limit given left now old new w out law parts reached last number =
+    → IsTextOf shows limit given now (out ++ refused_line n cause.Lines) (Refused n cause.Lines)
+too_many_refused {shows} {limit} {given} {left} {now} old new {w} {out} told law parts reached last number =
     let bytes = reached.bytes in
     let is : TooMany ≡ answer_at limit old.number bytes = subst (λ o. IfSome o (λ b. TooMany ≡ answer_at limit old.number b)) reached.coming last.exact in
     let when = too_many_when (nat_eq (length bytes) 0) (nat_le limit old.number) (nat_lt LONGEST_LINE (length (line_ahead bytes))) is in
     let ends = refused_next shows limit given bytes (line_ahead bytes) (lines (past_line bytes) true) w new.number cause.Lines out
     (subst (λ k. reply_first out (play_from shows limit w k (lines bytes true)) ≡ played shows limit (lines given true)) (sym number) reached.so_far)
     (law bytes (some_bytes (length bytes) when.0))
-    (asked_past limit new.number w (line_ahead bytes) (subst (λ k. limit < k) (sym number) (at_least limit old.number when.1))) in (
+    (asked_past limit new.number w (line_ahead bytes) (subst (λ k. limit < k) (sym number) (at_least limit old.number when.1))) in
+    subst (λ k. IsTextOf shows limit given now (out ++ refused_line k cause.Lines) (Refused k cause.Lines)) (sym told) (
       ends.0,
       ends.1,
       kept_up_to new.number given reached.front bytes new.held now parts reached.split (last.kept

@@ -1,17 +1,21 @@
 -- What writing the text of a play comes to.
 use Rattle.std.proofs.Common.{Bool, ◌^◌, ◌-◌, ◌≡◌, ℕ, ◌<◌, true, false, List, [], length}
-use Rattle.std.proofs.Common.{Option, Some, None, IfSome, option_map, refl, sym, ap, ◌∙◌, subst, arith}
+use Rattle.std.proofs.Common.{◌++◌, Option, Some, None, IfSome, OnOk, Result, Ok, Err, option_map, sym, ap, ◌∙◌, arith}
 use Rattle.std.specs.Io.KnownBytes.{append_known, prepend_known}
 use Rattle.std.proofs.lemmas.List.{append-nil}
 use Rattle.play_io.specs.Source.{CountsFault}
+use Rattle.play_io.specs.declared.sink.SinkFault.{SinkFault}
+use Rattle.play_io.specs.declared.sink.SinkFault.TheVariants as why
 use Rattle.scene_lines.specs.SceneLines.{lines, IsPrefix}
 use Rattle.frame_player.specs.declared.status.Status.{Status}
 use Rattle.frame_player.specs.declared.status.Status.TheVariants.{Done, Refused, ReadFault}
 use Rattle.frame_player.specs.Play.{played, report}
 use Rattle.frame_player.specs.Outcome.{Ends, IsBegun, IsReportBegun, IsWriteFault, IsOutcome}
-use Rattle.frame_player.specs.Ending.{IsTextOf, IsCountedAs, after_fault}
+use Rattle.frame_player.specs.declared.last.Last.{Last}
+use Rattle.frame_player.specs.Ending.{IsTextOf, IsCountedAs, after_fault, ended, last_line, status_of}
+use Rattle.frame_player.specs.Outlet.{Outlet, outlet, IsSaid, IsSent}
 use Rattle.frame_player.proofs.LinePlayed.{on_some}
-use Rattle.frame_player.proofs.Sending.{begun_within, append_known-nil}
+use Rattle.frame_player.proofs.Sending.{begun_all, begun_within, said_all, said_stopped}
 
 -- the replies to the first bytes begin the report of all
 abbrev pub Begins : Bool → ℕ → Type 0
@@ -37,18 +41,6 @@ report_begun : (shows : Bool) (limit : ℕ) (before now : Ends) (text : List ℕ
 report_begun shows limit before now text status law is begun =
     on_some before.left is (λ given of. begun_within before.written now.written text (report shows limit (lines given true)) begun
     (text_part shows limit given now.left text status law of))
-
--- nothing is written
-pub none_written : (shows : Bool) (limit : ℕ) (before now : Ends) → now.written ≡ before.written → IsReportBegun (played shows limit) before now
-none_written shows limit before now same = each before.left
-  where
-    each : (left : Option (List ℕ)) → IfSome left (λ given. IsBegun before.written now.written (report shows limit (lines given true)))
-    each None = tt
-    each (Some given) = subst (λ w. IsBegun before.written w (report shows limit (lines given true))) (sym same) (record {
-      part = [];
-      prefix = (report shows limit (lines given true), refl);
-      written = append_known-nil before.written;
-    })
 
 -- all is written and settled
 pub all_written : (shows : Bool) (limit : ℕ) (before now : Ends) (text : List ℕ) (status : Status)
@@ -105,12 +97,33 @@ sink_failed shows limit before now text Status.Usage law is count begun rose = a
 sink_failed shows limit before now text Status.WriteFault law is count begun rose = absurd count
 sink_failed shows limit before now text Status.NoMemory law is count begun rose = absurd count
 
--- memory ran out while a text was written
-pub memory_out : (shows : Bool) (limit : ℕ) (before now : Ends) (text : List ℕ) (status : Status)
-    → Begins shows limit → IfSome before.left (λ given. IsTextOf shows limit given now.left text status) → IsBegun before.written now.written text
-    → IsOutcome (played shows limit) before now Status.NoMemory
-memory_out shows limit before now text status law is begun = report_begun shows limit before now text status law is begun
-
 -- a count that has room rises at a fault
 pub rose_by : (before now : ℕ) → CountsFault before now → before < 2 ^ 64 - 1 → before < now
 rose_by before now counts few = counts.rose few
+
+-- the rest of the text went out as far as it goes, and the status follows
+pub play_ended : (shows : Bool) (limit : ℕ) (before now : Ends) (since since' : Option ℕ) (b : Outlet) (held : List ℕ) (last : Last)
+    (sent : Result (Unit {0}) SinkFault) → Begins shows limit
+    → IsSaid (outlet before.written before.write_faults since) b held
+        (λ all. IfSome before.left (λ given. IsTextOf shows limit given now.left (all ++ last_line last) (status_of last)))
+    → IsCountedAs before.read_faults now.read_faults (status_of last)
+    → IsSent b (outlet now.written now.write_faults since') (held ++ last_line last) [] sent
+    → OnOk sent (now.settled ≡ option_map length now.written) → before.write_faults < 2 ^ 64 - 1
+    → IsOutcome (played shows limit) before now (ended last sent)
+play_ended shows limit before now since since' b held last (Ok x) law said count sent settled few =
+    let all = said_all (λ all. IfSome before.left (λ given. IsTextOf shows limit given now.left (all ++ last_line last) (status_of last)))
+    (outlet before.written before.write_faults since) b (outlet now.written now.write_faults since') held (last_line last) said sent in
+    all_written shows limit before now ((said.done ++ held) ++ last_line last) (status_of last) said.whole count
+    (begun_all before.written now.written ((said.done ++ held) ++ last_line last) all) all settled (sent.unfailed ∙ said.unfailed)
+play_ended shows limit before now since since' b held last (Err why.Failed) law said count sent settled few =
+    let stop = said_stopped (λ all. IfSome before.left (λ given. IsTextOf shows limit given now.left (all ++ last_line last) (status_of last)))
+    (outlet before.written before.write_faults since) b (outlet now.written now.write_faults since') held (last_line last) why.Failed said sent in
+    sink_failed shows limit before now ((said.done ++ held) ++ last_line last) (status_of last) law said.whole count stop.begun
+    (rose_by before.write_faults now.write_faults stop.count few)
+play_ended shows limit before now since since' b held last (Err why.NoMemory) law said count sent settled few =
+    let stop = said_stopped (λ all. IfSome before.left (λ given. IsTextOf shows limit given now.left (all ++ last_line last) (status_of last)))
+    (outlet before.written before.write_faults since) b (outlet now.written now.write_faults since') held (last_line last) why.NoMemory said sent in
+    record {
+      unwritten = stop.count;
+      begun = report_begun shows limit before now ((said.done ++ held) ++ last_line last) (status_of last) law said.whole stop.begun;
+    }

@@ -8,16 +8,14 @@ use Rattle.play_io.specs.declared.sink.SinkFault.{SinkFault}
 use Rattle.play_io.specs.declared.sink.SinkFault.TheVariants as why
 use Rattle.play_io.specs.Sink.{SinkCount, CountsSince, since_after}
 use Rattle.frame_player.specs.Outcome.{IsBegun}
+use Rattle.frame_player.specs.OutcomeLaws.{append_known-nil}
 use Rattle.frame_player.specs.Outlet.{Outlet, IsUncalled, IsHanded, IsStopped, IsSent, IsSaid}
+use Rattle.frame_player.proofs.LinePlayed.{on_some}
 use Rattle.scene_lines.specs.SceneLines.{IsPrefix}
 
 pub append_known-append : (known : Option (List ℕ)) (xs ys : List ℕ) → append_known (append_known known xs) ys ≡ append_known known (xs ++ ys)
 append_known-append None xs ys = refl
 append_known-append (Some k) xs ys = ap Some (append_assoc k xs ys)
-
-pub append_known-nil : (known : Option (List ℕ)) → known ≡ append_known known []
-append_known-nil None = refl
-append_known-nil (Some k) = ap Some (sym (append-nil k))
 
 -- nothing was called, and nothing is written
 pub handed_none : (a : Outlet) (text : List ℕ) → IsHanded a a text text
@@ -121,8 +119,21 @@ said_on P Q a b c held piece left s h grows =
       whole = subst Q same (grows (s.done ++ held) s.whole);
     }
 
+pub said_uncalled : {T : Type 0} (P : List ℕ → Type 0) (a b c : Outlet) (held text left : List ℕ) (r : Result T SinkFault) → IsSaid a b held P
+    → IsSent b c text left r → IsUncalled a c
+said_uncalled P a b c held text left (Ok x) s h = uncalled_on a b c s.unfailed s.uncalled h.uncalled
+said_uncalled P a b c held text left (Err fault) s h = uncalled_on a b c s.unfailed s.uncalled h.uncalled
+
 pub said_map : (P Q : List ℕ → Type 0) (a b : Outlet) (held : List ℕ) → IsSaid a b held P → ((all : List ℕ) → P all → Q all) → IsSaid a b held Q
 said_map P Q a b held s f = record { done = s.done; written = s.written; unfailed = s.unfailed; uncalled = s.uncalled; whole = f (s.done ++ held) s.whole }
+
+-- where the source tells its bytes
+pub said_each : {a b : Outlet} {held : List ℕ} (left : Option (List ℕ)) (P Q : List ℕ → List ℕ → Type 0)
+    → IsSaid a b held (λ all. IfSome left (λ given. P given all)) → ((given all : List ℕ) → P given all → Q given all)
+    → IsSaid a b held (λ all. IfSome left (λ given. Q given all))
+said_each {a} {b} {held} left P Q s f =
+    said_map (λ all. IfSome left (λ given. P given all)) (λ all. IfSome left (λ given. Q given all)) a b held s
+    (λ all ok. on_some left ok (λ given p. f given all p))
 
 -- as a text of its own
 pub said_handed : (P : List ℕ → Type 0) (a b : Outlet) (held : List ℕ) (s : IsSaid a b held P) → IsHanded a b (s.done ++ held) held
@@ -236,10 +247,6 @@ said_stopped P a b c held piece fault s e =
 pub on_fault : {T : Type 0} (P : SinkFault → Type 0) (r : Result T SinkFault) (fault : SinkFault) → IsErrAnd r (λ e. e ≡ fault) → P fault → IfErr r P
 on_fault P (Ok x) fault is p = tt
 on_fault P (Err e) fault is p = subst P (sym is) p
-
-pub nothing_begun : (left known : Option (List ℕ)) (text : List ℕ → List ℕ) → IfSome left (λ given. IsBegun known known (text given))
-nothing_begun None known text = tt
-nothing_begun (Some given) known text = record { part = []; prefix = (text given, refl); written = append_known-nil known }
 
 -- all of it is written
 pub said_all : (P : List ℕ → Type 0) (a b c : Outlet) (held piece : List ℕ) (s : IsSaid a b held P) → IsHanded b c (held ++ piece) []

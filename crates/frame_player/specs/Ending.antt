@@ -1,11 +1,13 @@
 -- Serves proofs: the text of a play before it is written, and what writing it makes of the status.
-use Rattle.std.specs.Prelude.{◌≡◌, ℕ, ◌<◌, Bool, true, List, [], Option, Some}
+use Rattle.std.specs.Prelude.{◌≡◌, ℕ, ◌<◌, Bool, true, List, [], Option, Some, Result, Ok, Err}
+use Rattle.play_io.specs.declared.sink.SinkFault.{SinkFault}
+use Rattle.play_io.specs.declared.sink.SinkFault.TheVariants as why
 use Rattle.pair_report.specs.PairReport.{end_line, refused_line}
 use Rattle.scene_lines.specs.SceneLines.{lines}
 use Rattle.frame_player.specs.declared.last.Last.{Last}
 use Rattle.frame_player.specs.declared.last.Last.TheVariants as last
 use Rattle.frame_player.specs.declared.status.Status.{Status}
-use Rattle.frame_player.specs.declared.status.Status.TheVariants.{Done, Refused, ReadFault, WriteFault}
+use Rattle.frame_player.specs.declared.status.Status.TheVariants.{Done, Refused, ReadFault, WriteFault, NoMemory}
 use Rattle.frame_player.specs.Play.{played, report}
 use Rattle.frame_player.specs.Outcome.{IsReplyTo, IsReadUpTo}
 
@@ -33,6 +35,12 @@ IsTextOf shows limit given left text other = ⊥
 abbrev pub after_fault : Status → Status
 after_fault ReadFault = ReadFault
 after_fault other = WriteFault
+
+-- the status of a play whose reading ended so, by what sending the rest came to
+abbrev pub ended : Last → Result (Unit {0}) SinkFault → Status
+ended last (Ok _) = status_of last
+ended last (Err why.Failed) = after_fault (status_of last)
+ended last (Err why.NoMemory) = NoMemory
 
 -- how a play of a source ends, and what that does to its count of faults
 abbrev pub IsCountedAs : ℕ → ℕ → Status → Type 0

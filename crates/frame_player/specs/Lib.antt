@@ -2,6 +2,7 @@ pub mod Ending
 pub mod FrameText
 pub mod InHandles
 pub mod Outcome
+pub mod OutcomeLaws
 pub mod Outlet
 pub mod Owed
 pub mod Pairs

@@ -79,6 +79,11 @@ pub record IsWriteFault (play : List (List ℕ) → Played) (before now : Ends) 
   pub unread : now.read_faults ≡ before.read_faults
   pub begun : IsReportBegun play before now
 
+-- Memory ran out, and the sink didn't fail.
+pub record IsCutOff (play : List (List ℕ) → Played) (before now : Ends) : Type 0 where
+  pub unwritten : now.write_faults ≡ before.write_faults
+  pub begun : IsReportBegun play before now
+
 -- What each status says, where `play` is what the lines of a scene come to.
 abbrev pub IsOutcome : (List (List ℕ) → Played) → Ends → Ends → Status → Type 0
 IsOutcome play before now Done = IsReported play before now Done × IfSome before.left (λ given. now.left ≡ Some [])
@@ -86,4 +91,4 @@ IsOutcome play before now (Refused n c) = IsReported play before now (Refused n 
 IsOutcome play before now Usage = now ≡ before
 IsOutcome play before now ReadFault = IsReadFault play before now
 IsOutcome play before now WriteFault = IsWriteFault play before now
-IsOutcome play before now NoMemory = IsReportBegun play before now
+IsOutcome play before now NoMemory = IsCutOff play before now

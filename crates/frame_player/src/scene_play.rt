@@ -1,7 +1,7 @@
 ghost use Rattle.std.specs.Prelude.{◌≡◌, ◌≢◌, ◌-◌, ◌^◌, ◌<◌, ◌≤◌, ◌++◌, [], true, length, IfOk, IfErr, OnOk, OnErr, IfSome, option_map};
 ghost use Rattle.broad_index.specs.Fresh.{IsFresh};
 ghost use Rattle.frame_player.specs.declared.status.Status.TheVariants.{Usage};
-ghost use Rattle.frame_player.specs.Ending.{IsTextOf, IsCountedAs, after_fault, last_line, status_of};
+ghost use Rattle.frame_player.specs.Ending.{IsTextOf, IsCountedAs, after_fault, ended, last_line, status_of};
 ghost use Rattle.frame_player.specs.Outcome.{ends, IsOutcome, IsBegun};
 ghost use Rattle.frame_player.specs.Outlet.{outlet, IsSent, IsSaid, IsCutShort};
 ghost use Rattle.frame_player.specs.Owed.{owed, IsRun};
@@ -72,21 +72,32 @@ pub fn play<R: Threads + Sync, B: BroadPhase + Sync + Drop, G: Gate + Sync, S: S
         sink,
         &mut text,
     ) {
-        Ok(last) => match finish(
-            rt,
-            options.workers,
-            gate,
-            &player,
-            &mut run,
-            last,
-            sink,
-            &mut text,
-        ) {
-            Ok(()) => last.status(),
-            Err(SinkFault::Failed) => after_fault(last.status()),
-            Err(SinkFault::NoMemory) => Status::NoMemory,
-        },
+        Ok(last) => {
+            let sent = finish(
+                rt,
+                options.workers,
+                gate,
+                &player,
+                &mut run,
+                last,
+                sink,
+                &mut text,
+            );
+            ended(last, sent)
+        }
         Err(SinkFault::Failed) => Status::WriteFault,
+        Err(SinkFault::NoMemory) => Status::NoMemory,
+    }
+}
+
+// How a play ends whose reading ended so, by what sending the rest came to.
+fn ended(last: Last, sent: Result<(), SinkFault>) -> Status
+    ensures status { result ≡ ended last sent }
+    ensures never_usage { result ≢ Usage }
+{
+    match sent {
+        Ok(()) => last.status(),
+        Err(SinkFault::Failed) => after_fault(last.status()),
         Err(SinkFault::NoMemory) => Status::NoMemory,
     }
 }

@@ -1,4 +1,4 @@
-ghost use Rattle.std.specs.Prelude.{◌≡◌, ◌+◌, ◌*◌, ◌^◌, ◌<◌, ◌≤◌, ◌/◌, ◌%◌, min, length, IfOk, slice_index_or, ℕ};
+ghost use Rattle.std.specs.Prelude.{◌≡◌, ◌+◌, ◌*◌, ◌^◌, ◌<◌, ◌≤◌, ◌/◌, ◌%◌, min, length, IfOk, slice_index_or, ℕ, true, false};
 ghost use Rattle.std.specs.Int.{div_ceil};
 ghost use Rattle.std.specs.Fork.{slice_chunk};
 ghost use Rattle.work_pieces.specs.Each.{Each, AcceptsAll, Gives};
@@ -79,19 +79,32 @@ fn do_piece<T, X: Drop, F: Fn(&T) -> Result<X, NoMemory>, G: Gate>(
     requires accepts { AcceptsAll F.Fn answer.now items.now }
     ensures { IfOk result (λ answers. Each (Gives F.Fn answer.now) items.now answers.items) }
 {
-    gate.enter(piece_at(start, size));
-    answers_of(alloc, items, answer)
+    let mut entered = false;
+    enter_once(gate, piece_at(start, size), &mut entered);
+    answers_of(alloc, items, entered, answer)
 }
 
-// Answers each item of a list.
+// Enters the gate for a piece that hasn't entered it.
+fn enter_once<G: Gate>(gate: &G, piece: u32, entered: &mut bool)
+    requires { entered.old ≡ false }
+    ensures { entered.new ≡ true }
+{
+    gate.enter(piece);
+    *entered = true;
+}
+
+// Answers each item of a piece that has entered the gate.
 fn answers_of<T, X: Drop, F: Fn(&T) -> Result<X, NoMemory>>(
     alloc: Global,
     items: &[T],
+    entered: bool,
     answer: &F,
 ) -> Result<Vec<X>, NoMemory>
-    requires { AcceptsAll F.Fn answer.now items.now }
+    requires entered { entered ≡ true }
+    requires accepts { AcceptsAll F.Fn answer.now items.now }
     ensures { IfOk result (λ answers. Each (Gives F.Fn answer.now) items.now answers.items) }
 {
+    let _ = entered;
     let mut answers = Vec::new(alloc);
     let mut rest = items;
     'items: while let Some((item, more)) = rest.split_first() {

@@ -15,6 +15,7 @@ use Rattle.frame_player.specs.declared.status.Status.TheVariants.{Refused, Done,
 use Rattle.frame_player.specs.Ending.{IsTextOf}
 use Rattle.frame_player.specs.Outcome.{IsBegun}
 use Rattle.frame_player.specs.Outlet.{outlet, IsCutShort}
+use Rattle.frame_player.specs.OutcomeLaws.{append_known-nil, nothing_begun}
 use Rattle.frame_player.specs.Owed.{answers, owed}
 use Rattle.frame_player.specs.Play.{report}
 use Rattle.frame_player.specs.Player.{world_in}
@@ -23,8 +24,8 @@ use Rattle.frame_player.specs.World.{allowed, after, reply}
 use Rattle.frame_player.proofs.AlikeWorlds.{alike_shown, alike_itself}
 use Rattle.frame_player.proofs.InputEnded.{end_refused, end_done, fault_replied}
 use Rattle.frame_player.proofs.LinePlayed.{IsNextLine, on_some, opened, line_played, replied_within}
-use Rattle.frame_player.proofs.LineRefused.{IsLastAnswer, line_refused, long_refused, too_many_refused}
-use Rattle.frame_player.proofs.Sending.{append_known-nil, begun_within, said_on, said_map, said_stopped, on_fault, nothing_begun}
+use Rattle.frame_player.proofs.LineRefused.{last_answer, line_refused, long_refused, too_many_refused}
+use Rattle.frame_player.proofs.Sending.{begun_within, said_each, said_on, said_stopped, on_fault}
 use Rattle.frame_player.proofs.scene_play.play_lines.Goals as goal
 
 pub lines-init : goal.lines-init
@@ -181,24 +182,11 @@ pub returns-in-Err-clause-said : goal.returns-in-Err-clause-said
 returns-in-Err-clause-said g c =
     let inv = c.lines.invariant in
     let next = c.in-Line.ensures in
-    let old = c.lines.reader in
-    let new = c.next.new.self in
-    let shows = c.args.options.exchanges in
-    let limit = c.args.limit in
-    let left = g.S.Source.left c.args.source.now in
-    let was = g.S.Source.left c.lines.source in
-    let now = g.S.Source.left c.next.new.source in
-    let w = world_in g.B.BroadPhase.exchanges c.lines.player in
-    let before = (outlet (g.K.Sink.written c.args.sink.now) (g.K.Sink.faults c.args.sink.now) (g.K.Sink.since c.args.sink.now)) in
-    let here = (outlet (g.K.Sink.written c.lines.sink) (g.K.Sink.faults c.lines.sink) (g.K.Sink.since c.lines.sink)) in
-    let held = c.lines.text.items ++ owed c.lines.player.table.entries c.lines.run in
-    let P : List ℕ → List ℕ → Type 0 = λ given all. IsReached shows limit given was old.held old.over w (old.number + 1) all in
     let limit_is = inv.limit in
     let limit_stays = next.limit in
     let within = next.within in
-    let within_limit : new.number ≤ limit = omega (arith, limit_is, limit_stays, within) in
-    let handed : IsNextLine was now old new =
-    record {
+    said_each (g.S.Source.left c.args.source.now) _ _ inv.said (λ given all reached.
+    line_refused c.lines.reader c.next.new.self c.number.ensures.value c.line_laws.ensures.in_parts c.line_laws.ensures.near reached (record {
       line = next.line;
       rest = next.rest;
       first = next.first;
@@ -206,147 +194,42 @@ returns-in-Err-clause-said g c =
       stays = next.over_stays;
       number = next.number;
       short = next.short;
-    } in
-    let why = c.in-Err.cause in
-    said_map (λ all. IfSome left (λ given. P given all))
-    (λ all. IfSome left (λ given. IsTextOf shows limit given now (all ++ refused_line c.number.result why) (Refused c.number.result why)))
-    before here held inv.said (λ all ok. on_some left ok (λ given reached.
-    subst (λ n. IsTextOf shows limit given now (all ++ refused_line n why) (Refused n why)) (sym c.number.ensures.value)
-    (line_refused shows limit given was now old new w why all c.line_laws.ensures.in_parts c.line_laws.ensures.near reached handed next.small within_limit
-    (ap (λ l. allowed w (command One l)) (sym c.line.ensures.value) ∙ sym c.in-Err.ensures.read))))
+    }) next.small (omega (arith, limit_is, limit_stays, within))
+    (ap (λ l. allowed (world_in g.B.BroadPhase.exchanges c.lines.player) (command One l)) (sym c.line.ensures.value) ∙ sym c.in-Err.ensures.read))
 
 pub returns-in-Long-clause-said : goal.returns-in-Long-clause-said
 returns-in-Long-clause-said g c =
-    let inv = c.lines.invariant in
     let next = c.in-Long.ensures in
-    let old = c.lines.reader in
-    let new = c.next.new.self in
-    let shows = c.args.options.exchanges in
-    let limit = c.args.limit in
-    let left = g.S.Source.left c.args.source.now in
-    let was = g.S.Source.left c.lines.source in
-    let now = g.S.Source.left c.next.new.source in
-    let w = world_in g.B.BroadPhase.exchanges c.lines.player in
-    let before = (outlet (g.K.Sink.written c.args.sink.now) (g.K.Sink.faults c.args.sink.now) (g.K.Sink.since c.args.sink.now)) in
-    let here = (outlet (g.K.Sink.written c.lines.sink) (g.K.Sink.faults c.lines.sink) (g.K.Sink.since c.lines.sink)) in
-    let held = c.lines.text.items ++ owed c.lines.player.table.entries c.lines.run in
-    let P : List ℕ → List ℕ → Type 0 = λ given all. IsReached shows limit given was old.held old.over w (old.number + 1) all in
-    let last : IsLastAnswer Long limit was now old new = record {
-      exact = subst (λ l. IfSome (coming old.held was) (λ bytes. Long ≡ answer_at l old.number bytes)) inv.limit next.exact;
-      kept = next.kept;
-      small = next.small;
-    } in
-    said_map (λ all. IfSome left (λ given. P given all))
-    (λ all. IfSome left (λ given. IsTextOf shows limit given now (all ++ refused_line c.number-in-Long.result cause.Long)
-    (Refused c.number-in-Long.result cause.Long)))
-    before here held inv.said (λ all ok. on_some left ok (λ given reached.
-    subst (λ n. IsTextOf shows limit given now (all ++ refused_line n cause.Long) (Refused n cause.Long)) (sym c.number-in-Long.ensures.value)
-    (long_refused shows limit given was now old new w all c.line_laws.ensures.first c.line_laws.ensures.in_parts reached last next.number)))
+    let law = c.line_laws.ensures in
+    said_each (g.S.Source.left c.args.source.now) _ _ c.lines.invariant.said (λ given all reached.
+    long_refused c.lines.reader c.next.new.self c.number-in-Long.ensures.value law.first law.in_parts reached
+    (last_answer c.lines.reader c.next.new.self c.lines.invariant.limit next.exact next.kept next.small) next.number)
 
 pub returns-in-TooMany-clause-said : goal.returns-in-TooMany-clause-said
 returns-in-TooMany-clause-said g c =
-    let inv = c.lines.invariant in
     let next = c.in-TooMany.ensures in
-    let old = c.lines.reader in
-    let new = c.next.new.self in
-    let shows = c.args.options.exchanges in
-    let limit = c.args.limit in
-    let left = g.S.Source.left c.args.source.now in
-    let was = g.S.Source.left c.lines.source in
-    let now = g.S.Source.left c.next.new.source in
-    let w = world_in g.B.BroadPhase.exchanges c.lines.player in
-    let before = (outlet (g.K.Sink.written c.args.sink.now) (g.K.Sink.faults c.args.sink.now) (g.K.Sink.since c.args.sink.now)) in
-    let here = (outlet (g.K.Sink.written c.lines.sink) (g.K.Sink.faults c.lines.sink) (g.K.Sink.since c.lines.sink)) in
-    let held = c.lines.text.items ++ owed c.lines.player.table.entries c.lines.run in
-    let P : List ℕ → List ℕ → Type 0 = λ given all. IsReached shows limit given was old.held old.over w (old.number + 1) all in
-    let last : IsLastAnswer TooMany limit was now old new = record {
-      exact = subst (λ l. IfSome (coming old.held was) (λ bytes. TooMany ≡ answer_at l old.number bytes)) inv.limit next.exact;
-      kept = next.kept;
-      small = next.small;
-    } in
-    said_map (λ all. IfSome left (λ given. P given all))
-    (λ all. IfSome left (λ given. IsTextOf shows limit given now (all ++ refused_line c.number-in-TooMany.result cause.Lines)
-    (Refused c.number-in-TooMany.result cause.Lines)))
-    before here held inv.said (λ all ok. on_some left ok (λ given reached.
-    subst (λ n. IsTextOf shows limit given now (all ++ refused_line n cause.Lines) (Refused n cause.Lines)) (sym c.number-in-TooMany.ensures.value)
-    (too_many_refused shows limit given was now old new w all c.line_laws.ensures.first c.line_laws.ensures.in_parts reached last next.number)))
+    let law = c.line_laws.ensures in
+    said_each (g.S.Source.left c.args.source.now) _ _ c.lines.invariant.said (λ given all reached.
+    too_many_refused c.lines.reader c.next.new.self c.number-in-TooMany.ensures.value law.first law.in_parts reached
+    (last_answer c.lines.reader c.next.new.self c.lines.invariant.limit next.exact next.kept next.small) next.number)
 
 pub returns-then-not-player-clause-said : goal.returns-then-not-player-clause-said
 returns-then-not-player-clause-said g c =
-    let inv = c.lines.invariant in
     let next = c.in-End.ensures in
-    let old = c.lines.reader in
-    let new = c.next.new.self in
-    let shows = c.args.options.exchanges in
-    let limit = c.args.limit in
-    let left = g.S.Source.left c.args.source.now in
-    let was = g.S.Source.left c.lines.source in
-    let now = g.S.Source.left c.next.new.source in
-    let w = world_in g.B.BroadPhase.exchanges c.lines.player in
-    let before = (outlet (g.K.Sink.written c.args.sink.now) (g.K.Sink.faults c.args.sink.now) (g.K.Sink.since c.args.sink.now)) in
-    let here = (outlet (g.K.Sink.written c.lines.sink) (g.K.Sink.faults c.lines.sink) (g.K.Sink.since c.lines.sink)) in
-    let held = c.lines.text.items ++ owed c.lines.player.table.entries c.lines.run in
-    let P : List ℕ → List ℕ → Type 0 = λ given all. IsReached shows limit given was old.held old.over w (old.number + 1) all in
-    let last : IsLastAnswer End limit was now old new = record {
-      exact = subst (λ l. IfSome (coming old.held was) (λ bytes. End ≡ answer_at l old.number bytes)) inv.limit next.exact;
-      kept = next.kept;
-      small = next.small;
-    } in
-    said_map (λ all. IfSome left (λ given. P given all))
-    (λ all. IfSome left (λ given. IsTextOf shows limit given now (all ++ refused_line (c.number-then-not-player.result + 1) cause.Header)
-    (Refused (c.number-then-not-player.result + 1) cause.Header)))
-    before here held inv.said (λ all ok. on_some left ok (λ given reached.
-    subst (λ n. IsTextOf shows limit given now (all ++ refused_line (n + 1) cause.Header) (Refused (n + 1) cause.Header))
-    (sym c.number-then-not-player.ensures.value)
-    (end_refused shows limit given was now old new w all c.line_laws.ensures.in_parts reached last next.number c.if-not-player.true)))
+    said_each (g.S.Source.left c.args.source.now) _ _ c.lines.invariant.said (λ given all reached.
+    end_refused c.lines.reader c.next.new.self c.number-then-not-player.ensures.value c.line_laws.ensures.in_parts reached
+    (last_answer c.lines.reader c.next.new.self c.lines.invariant.limit next.exact next.kept next.small) next.number c.if-not-player.true)
 
 pub returns-in-End-clause-said : goal.returns-in-End-clause-said
 returns-in-End-clause-said g c =
-    let inv = c.lines.invariant in
     let next = c.in-End.ensures in
-    let old = c.lines.reader in
-    let new = c.next.new.self in
-    let shows = c.args.options.exchanges in
-    let limit = c.args.limit in
-    let left = g.S.Source.left c.args.source.now in
-    let was = g.S.Source.left c.lines.source in
-    let now = g.S.Source.left c.next.new.source in
-    let w = world_in g.B.BroadPhase.exchanges c.lines.player in
-    let before = (outlet (g.K.Sink.written c.args.sink.now) (g.K.Sink.faults c.args.sink.now) (g.K.Sink.since c.args.sink.now)) in
-    let here = (outlet (g.K.Sink.written c.lines.sink) (g.K.Sink.faults c.lines.sink) (g.K.Sink.since c.lines.sink)) in
-    let held = c.lines.text.items ++ owed c.lines.player.table.entries c.lines.run in
-    let P : List ℕ → List ℕ → Type 0 = λ given all. IsReached shows limit given was old.held old.over w (old.number + 1) all in
-    let last : IsLastAnswer End limit was now old new = record {
-      exact = subst (λ l. IfSome (coming old.held was) (λ bytes. End ≡ answer_at l old.number bytes)) inv.limit next.exact;
-      kept = next.kept;
-      small = next.small;
-    } in
-    let live = c.len.result in
-    let frames = c.lines.player.frames in
-    said_map (λ all. IfSome left (λ given. P given all))
-    (λ all. IfSome left (λ given. IsTextOf shows limit given now (all ++ end_line c.number-in-End.result frames live) Done))
-    before here held inv.said (λ all ok. on_some left ok (λ given reached.
-    subst (λ n. IsTextOf shows limit given now (all ++ end_line n frames live) Done) (sym c.number-in-End.ensures.value)
-    (subst (λ k. IsTextOf shows limit given now (all ++ end_line new.number frames k) Done) (sym c.len.ensures.len)
-    (end_done shows limit given was now old new w all reached last next.number c.if-not-player.false))))
+    said_each (g.S.Source.left c.args.source.now) _ _ c.lines.invariant.said (λ given all reached.
+    end_done c.lines.reader c.next.new.self c.number-in-End.ensures.value c.len.ensures.len reached
+    (last_answer c.lines.reader c.next.new.self c.lines.invariant.limit next.exact next.kept next.small) next.number c.if-not-player.false)
 
 pub returns-in-ReadFault-clause-said : goal.returns-in-ReadFault-clause-said
 returns-in-ReadFault-clause-said g c =
-    let inv = c.lines.invariant in
     let next = c.in-ReadFault.ensures in
-    let old = c.lines.reader in
-    let new = c.next.new.self in
-    let shows = c.args.options.exchanges in
-    let limit = c.args.limit in
-    let left = g.S.Source.left c.args.source.now in
-    let was = g.S.Source.left c.lines.source in
-    let now = g.S.Source.left c.next.new.source in
-    let w = world_in g.B.BroadPhase.exchanges c.lines.player in
-    let before = (outlet (g.K.Sink.written c.args.sink.now) (g.K.Sink.faults c.args.sink.now) (g.K.Sink.since c.args.sink.now)) in
-    let here = (outlet (g.K.Sink.written c.lines.sink) (g.K.Sink.faults c.lines.sink) (g.K.Sink.since c.lines.sink)) in
-    let held = c.lines.text.items ++ owed c.lines.player.table.entries c.lines.run in
-    let P : List ℕ → List ℕ → Type 0 = λ given all. IsReached shows limit given was old.held old.over w (old.number + 1) all in
-    said_map (λ all. IfSome left (λ given. P given all)) (λ all. IfSome left (λ given. IsTextOf shows limit given now (all ++ []) ReadFault))
-    before here held inv.said (λ all ok. on_some left ok (λ given reached.
-    fault_replied shows limit (old.number + 1) given was now old.held new.held old.over w all c.line_laws.ensures.unended c.line_laws.ensures.in_parts reached
-    next.kept next.unfinished (⊎_elim (λ over. absurd (next.over_sound over refl)) (λ goes. goes) (cases_Bool old.over))))
+    said_each (g.S.Source.left c.args.source.now) _ _ c.lines.invariant.said (λ given all reached.
+    fault_replied c.next.new.self.held c.line_laws.ensures.unended c.line_laws.ensures.in_parts reached next.kept next.unfinished
+    (⊎_elim (λ over. absurd (next.over_sound over refl)) (λ goes. goes) (cases_Bool c.lines.reader.over)))
