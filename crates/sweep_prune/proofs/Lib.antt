@@ -1,0 +1,14 @@
+pub mod OrderLemmas
+pub mod OverlapLemmas
+pub mod CoreLemmas
+pub mod WalkLemmas
+pub mod KeyLemmas
+pub mod MoveLemmas
+pub mod SumLemmas
+pub mod NumberLemmas
+pub mod EnterLemmas
+pub mod PassedLemmas
+pub mod QuitLemmas
+pub mod SapLemmas
+pub mod PairsAre
+pub mod KeyedLemmas

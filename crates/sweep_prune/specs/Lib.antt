@@ -1,0 +1,10 @@
+pub mod Places
+pub mod Keyed
+pub mod Overlaps
+pub mod Core
+pub mod State
+pub mod CoreKeeps
+pub mod KeyNumbers
+pub mod Walks
+pub mod Endpoints
+pub mod Sweep

@@ -1,0 +1,24 @@
+ghost use Rattle.std.specs.Prelude.{◌≡◌, ◌+◌, ◌*◌, ◌/◌, ◌%◌, ◌<◌};
+ghost use Rattle.endpoint_list.specs.declared.TheConstants.{NODES};
+ghost use Rattle.sweep_prune.specs.KeyNumbers.{biased, IsInRange};
+
+use endpoint_list::NODES;
+use fixed_box::{Fix, SLOTS};
+
+// A node's key at a value, as one number whose order is the order of keys: the value above the side above the slot.
+pub(crate) fn key_number(value: Fix, node: u32) -> u64
+    requires { node < NODES }
+    ensures number { result ≡ biased value * 4294967296 + (node % 2 * SLOTS + node / 2) }
+    ensures range { IsInRange value }
+{
+    biased(value) * (1 << 32) + u64::from(node % 2 * SLOTS + node / 2)
+}
+
+// A value, counted from the least one.
+fn biased(value: Fix) -> u64
+    ensures value { result ≡ biased value }
+    ensures range { IsInRange value }
+    ensures small { result < 4294967296 }
+{
+    (i64::from(value) + (1 << 31)) as u64
+}

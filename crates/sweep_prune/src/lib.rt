@@ -1,0 +1,22 @@
+//! Sweep and prune: a broad phase that keeps the endpoints of all boxes sorted on each axis, and for each pair of boxes the
+//! number of axes on which they overlap (Cohen, Lin, Manocha, Ponamgi, *I-COLLIDE*, 1995).
+#![tactic(auto)]
+
+mod axis;
+mod key_number;
+mod lists;
+mod move_axis;
+mod move_box;
+mod move_ends;
+mod rekey;
+mod sap;
+pub mod walk;
+mod walk_down;
+mod walk_up;
+
+pub use axis::Axis;
+pub use lists::Lists;
+pub use sap::Sap;
+
+#[cfg(test)]
+mod tests;

@@ -1,0 +1,103 @@
+ghost use Rattle.std.specs.Prelude.{◌≡◌, ◌<◌, ◌+◌, ◌*◌, true, false, ◌++◌, ◌∷◌, [], ℕ, List, IfOk};
+ghost use Rattle.endpoint_list.specs.NodeList.{has, IsDistinct};
+ghost use Rattle.sweep_prune.specs.Core.{appended, entered, withdrawn, left};
+ghost use Rattle.sweep_prune.specs.Places.{on, with_on};
+ghost use Rattle.sweep_prune.specs.declared.axis.Axis.{Axis};
+
+use crate::Axis;
+use endpoint_list::EndList;
+use fixed_box::{NoMemory, SLOTS};
+use std::alloc::Global;
+
+/// A list of endpoints for each axis.
+#[derive(Drop)]
+pub struct Lists {
+    pub x: EndList,
+    pub y: EndList,
+    pub z: EndList,
+}
+
+impl Lists {
+    // Three empty lists, with the memory for all nodes.
+    pub(crate) fn new(alloc: Global) -> Result<Lists, NoMemory>
+        ensures { IfOk result (λ lists. lists ≡ record { x = []; y = []; z = [] }) }
+    {
+        Ok(Lists {
+            x: EndList::new(alloc)?,
+            y: EndList::new(alloc)?,
+            z: EndList::new(alloc)?,
+        })
+    }
+
+    // The list of an axis.
+    pub(crate) fn list(&self, axis: Axis) -> &EndList
+        ensures { result.now ≡ on axis self.now }
+    {
+        match axis {
+            Axis::X => &self.x,
+            Axis::Y => &self.y,
+            Axis::Z => &self.z,
+        }
+    }
+
+    // A node changes places with the next one on an axis.
+    pub(crate) fn exchange(&mut self, axis: Axis, node: u32)
+        requires next { (before : List ℕ) × (after : List ℕ) × (other : ℕ) × (on axis self.old ≡ before ++ node ∷ other ∷ after) }
+        ensures { (before after : List ℕ) (other : ℕ) → on axis self.old ≡ before ++ node ∷ other ∷ after
+            → self.new ≡ with_on axis (before ++ other ∷ node ∷ after) self.old }
+    {
+        match axis {
+            Axis::X => self.x.exchange_with_next(node),
+            Axis::Y => self.y.exchange_with_next(node),
+            Axis::Z => self.z.exchange_with_next(node),
+        }
+    }
+
+    // A slot's nodes come last on each list.
+    pub(crate) fn enter(&mut self, slot: u32)
+        requires small { slot < SLOTS }
+        requires no_min { (axis : Axis) → has (2 * slot) (on axis self.old) ≡ false }
+        requires no_max { (axis : Axis) → has (2 * slot + 1) (on axis self.old) ≡ false }
+        ensures { self.new ≡ entered slot self.old }
+    {
+        append(&mut self.x, slot);
+        append(&mut self.y, slot);
+        append(&mut self.z, slot);
+    }
+
+    // A slot's nodes leave each list.
+    pub(crate) fn quit(&mut self, slot: u32)
+        requires small { slot < SLOTS }
+        requires distinct { (axis : Axis) → IsDistinct (on axis self.old) }
+        requires min { (axis : Axis) → has (2 * slot) (on axis self.old) ≡ true }
+        requires max { (axis : Axis) → has (2 * slot + 1) (on axis self.old) ≡ true }
+        ensures { self.new ≡ left slot self.old }
+    {
+        withdraw(&mut self.x, slot);
+        withdraw(&mut self.y, slot);
+        withdraw(&mut self.z, slot);
+    }
+}
+
+// Puts a slot's minimum and then its maximum last.
+fn append(list: &mut EndList, slot: u32)
+    requires small { slot < SLOTS }
+    requires no_min { has (2 * slot) list.old ≡ false }
+    requires no_max { has (2 * slot + 1) list.old ≡ false }
+    ensures { list.new ≡ appended slot list.old }
+{
+    list.push_last(2 * slot);
+    list.push_last(2 * slot + 1);
+}
+
+// Takes a slot's nodes out.
+fn withdraw(list: &mut EndList, slot: u32)
+    requires small { slot < SLOTS }
+    requires distinct { IsDistinct list.old }
+    requires min { has (2 * slot) list.old ≡ true }
+    requires max { has (2 * slot + 1) list.old ≡ true }
+    ensures { list.new ≡ withdrawn slot list.old }
+{
+    list.unlink(2 * slot);
+    list.unlink(2 * slot + 1);
+}
