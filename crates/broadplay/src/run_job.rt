@@ -13,6 +13,7 @@ use play_io::{Sink, Source};
 use scene_lines::MOST_LINES;
 use std::alloc::Global;
 use std::thread::Threads;
+use sweep_prune::Sap;
 
 /// Does what a command line asks for: plays the scene that a source has left, and writes its report.
 ///
@@ -47,6 +48,7 @@ pub fn broadplay<R: Threads + Sync, S: Source, K: Sink>(
     };
     match job.structure {
         Structure::Plain => play_over(rt, alloc, PlainIndex::new(alloc), job.options, source, sink),
+        Structure::Sap => play_over(rt, alloc, Sap::new(alloc), job.options, source, sink),
     }
 }
 

@@ -126,9 +126,11 @@ fn scenes_give_their_reports(rt: HostRuntime) -> Result<(), Fail> {
             Status::Done,
         ),
     ];
-    let words: [&[&str]; 3] = [
+    let words: [&[&str]; 5] = [
         &["play"],
         &["play", "--workers", "4"],
+        &["play", "--with", "sap"],
+        &["play", "--with", "plain"],
         &["play", "--workers", "16", "--with", "plain"],
     ];
     for (scene, report, status) in rows {
@@ -266,9 +268,66 @@ fn faults_end_a_play(rt: HostRuntime) -> Result<(), Fail> {
     Ok(())
 }
 
+// An added box passes the endpoints that its own come to stand before, and a moved one those that it moves past.
+#[test]
+fn exchanges_are_told_at_each_frame(rt: HostRuntime) -> Result<(), Fail> {
+    let words: [&[&str]; 3] = [
+        &["play", "--exchanges"],
+        &["play", "--exchanges", "--with", "sap"],
+        &["play", "--workers", "4", "--with", "sap", "--exchanges"],
+    ];
+    for list in words {
+        written(
+            &rt,
+            rt.alloc(),
+            list,
+            b"scene 1\nadd 0 0 0 1 1 1\nadd 1 0 0 2 1 1\nframe\nmove 0:0 3 0 0 4 1 1\nframe\n",
+            b"add 0:0\nadd 1:0\nframe 1 1\nbegin 0:0 1:0\nexchanges 3\nframe 2 0\nover 0:0 1:0\nexchanges 3\nend 6 2 2\n",
+            Status::Done,
+        )?;
+    }
+    Ok(())
+}
+
+// 300 boxes alike, of which one moves away.
+#[test]
+fn boxes_alike_pass_one_another(rt: HostRuntime) -> Result<(), Fail> {
+    let mut scene = String::from_str(rt.alloc(), "scene 1\n")?;
+    let mut report = String::new(rt.alloc());
+    for slot in 0..300 {
+        writeln!(scene, "add 0 0 0 1 1 1")?;
+        writeln!(report, "add {slot}:0")?;
+    }
+    writeln!(scene, "frame\nmove 0:0 5 5 5 6 6 6\nframe")?;
+    writeln!(report, "frame 1 44850")?;
+    for a in 0..300 {
+        for b in a + 1..300 {
+            writeln!(report, "begin {a}:0 {b}:0")?;
+        }
+    }
+    writeln!(report, "exchanges 134550\nframe 2 44551")?;
+    for a in 1..300 {
+        for b in a + 1..300 {
+            writeln!(report, "stay {a}:0 {b}:0")?;
+        }
+    }
+    for b in 1..300 {
+        writeln!(report, "over 0:0 {b}:0")?;
+    }
+    writeln!(report, "exchanges 2691\nend 304 2 300")?;
+    written(
+        &rt,
+        rt.alloc(),
+        &["play", "--exchanges"],
+        scene.as_bytes(),
+        report.as_bytes(),
+        Status::Done,
+    )
+}
+
 #[test]
 fn other_command_lines_touch_nothing(rt: HostRuntime) -> Result<(), Fail> {
-    let rows: [&[&str]; 17] = [
+    let rows: [&[&str]; 21] = [
         &[],
         &["--help"],
         &["play", "play"],
@@ -284,6 +343,10 @@ fn other_command_lines_touch_nothing(rt: HostRuntime) -> Result<(), Fail> {
         &["play", "--workers", "0"],
         &["play", "--workers", "17"],
         &["play", "--with", "grid", "--exchanges"],
+        &["play", "--exchanges", "--with", "plain"],
+        &["play", "--exchanges", "--exchanges"],
+        &["play", "--exchanges", "4"],
+        &["play", "--workers", "--exchanges"],
         &["play", "--with=tree"],
         &["drill", "1", "0", "1"],
     ];
