@@ -1,13 +1,13 @@
 -- Serves proofs alone: what a descent with a query looks at, and what it finds.
-use Rattle.std.specs.Prelude.{◌≡◌, ℕ, ◌+◌, ◌<◌, ◌≤◌, List, [], ◌∷◌, ◌++◌, length, Option, None, Some, if◌then◌else◌, slice_index_or, IsTrue}
-use Rattle.fixed_box.specs.Bounds.{Bounds, encloses}
+use Rattle.std.specs.Prelude.{◌≡◌, ℕ, false, ◌+◌, ◌<◌, ◌≤◌, List, [], ◌∷◌, ◌++◌, length, Option, None, Some, if◌then◌else◌, slice_index_or, IsTrue}
+use Rattle.fixed_box.specs.Bounds.{Bounds, encloses, hull}
 use Rattle.broad_index.specs.declared.query.Query.{Query}
 use Rattle.broad_index.specs.Found.{query_meets, found_of}
 use Rattle.broad_index.specs.Members.{meets_query}
 use Rattle.tree_nodes.specs.declared.node_view.NodeView.{NodeView}
 use Rattle.tree_nodes.specs.declared.node_view.NodeView.TheVariants.{Leaf as LeafNode, Inner}
 use Rattle.tree_nodes.specs.declared.TheConstants.{MOST_HEIGHT}
-use Rattle.tree_nodes.specs.Tree.{Tree, tip, fork, top, leaves, Leaf, height, IsTree, Within}
+use Rattle.tree_nodes.specs.Tree.{Tree, tip, fork, top, leaves, Leaf, height, count_of, view_of, view_at, IsTree, Balanced, Within}
 
 -- how many nodes a descent with a query looks at: it goes on below a hull that is met
 abbrev pub visits_by : Tree → Query → ℕ
@@ -49,6 +49,17 @@ IsInsideIn bodies (Some t) = IsInside bodies t
 abbrev pub IsNodeInside : List (Option Bounds) → NodeView → Type 0
 IsNodeInside bodies (LeafNode slot fat) = IsLeafInside bodies slot fat
 IsNodeInside bodies (Inner left right hull height) = Unit {0}
+
+-- what is known of trees and queries
+pub record Laws (q : Query) : Type 0 where
+  pub missed : (outer inner : Bounds) → IsTrue (encloses outer inner) → query_meets q outer ≡ false → query_meets q inner ≡ false
+  pub this : (a b : Bounds) → IsTrue (encloses (hull a b) a)
+  pub that : (a b : Bounds) → IsTrue (encloses (hull a b) b)
+  pub itself : (t : Tree) → Within t t
+  pub deeper : (t u v : Tree) → Within t u → Within u v → Within t v
+  pub children : (n k : ℕ) (h : Bounds) (l r : Tree) → Within (fork n h k l r) l × Within (fork n h k l r) r
+  pub within : (t u : Tree) → Within t u → Balanced t → Balanced u
+  pub shown : (t u : Tree) → Within t u → ((k : ℕ) → count_of t k ≤ 1) → view_at t (top u) ≡ Some (view_of u)
 
 -- trees that wait on a stack, the next one first
 abbrev pub all_leaves : List Tree → List Leaf

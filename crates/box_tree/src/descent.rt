@@ -2,9 +2,10 @@ ghost use Rattle.std.specs.Prelude.{◌≡◌, ◌+◌, ◌≤◌, ◌++◌, Som
 ghost use Rattle.smallvec.specs.SmallVec.{small_vec_len};
 ghost use Rattle.tree_nodes.specs.Tree.{Tree, IsTree, top};
 ghost use Rattle.tree_nodes.specs.declared.node_view.NodeView.TheVariants.{Leaf as LeafNode};
+ghost use Rattle.broad_index.specs.declared.query.Query.{Query};
 ghost use Rattle.broad_index.specs.Found.{found_of};
 ghost use Rattle.broad_index.specs.Members.{meets_query};
-ghost use Rattle.box_tree.specs.Descent.{visits_by_in, exact_in, IsInside, IsInsideIn, IsNodeInside, found_at, next_at};
+ghost use Rattle.box_tree.specs.Descent.{visits_by_in, exact_in, IsInside, IsInsideIn, IsNodeInside, Laws, found_at, next_at};
 
 use crate::query_law::query_law;
 use broad_index::Query;
@@ -45,8 +46,7 @@ fn walk(
     ensures ok { OnOk result (out.new.items ≡ out.old.items ++ found_of (exact_in bodies.now nodes.now) query.now) }
     ensures count { IfOk result (λ n. n ≡ visits_by_in nodes.now query.now) }
 {
-    tree_laws();
-    query_law();
+    descent_law();
     let mut stack: Stack = SmallVec::new(*out.allocator());
     stack.push_reserved(root);
     let mut count = 0u32;
@@ -55,6 +55,14 @@ fn walk(
         look(&nodes.view(at), bodies, query, &mut stack, out)?;
     }
     Ok(count)
+}
+
+// A law for proofs, with nothing to run: what a descent rests on.
+fn descent_law()
+    ensures { (query : Query) → Laws query }
+{
+    tree_laws();
+    query_law();
 }
 
 // Looks at one node: appends the slot of a leaf that is met, and puts the children of a hull that is met onto the stack.

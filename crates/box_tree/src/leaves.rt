@@ -8,33 +8,33 @@ use tree_nodes::{Nodes, tree_laws};
 // Gives a slot that has none a leaf.
 pub(crate) fn add_leaf(
     nodes: &mut Nodes,
-    fats: &mut [Option<FBox>],
-    numbers: &mut [usize],
+    fats: &mut Vec<Option<FBox>>,
+    numbers: &mut Vec<usize>,
     slot: u32,
     fat: FBox,
 )
-    requires fats_len { length fats.old ≡ SLOTS }
-    requires numbers_len { length numbers.old ≡ SLOTS }
-    requires ties { Ties nodes.old fats.old numbers.old }
+    requires fats_len { length fats.old.items ≡ SLOTS }
+    requires numbers_len { length numbers.old.items ≡ SLOTS }
+    requires ties { Ties nodes.old fats.old.items numbers.old.items }
     requires small { slot < SLOTS }
-    requires absent { slice_index_or fats.old slot None ≡ None }
-    ensures ties { Ties nodes.new fats.new numbers.new }
-    ensures fats { fats.new ≡ slice_set fats.old slot (Some fat) }
-    ensures numbers_len { length numbers.new ≡ length numbers.old }
+    requires absent { slice_index_or fats.old.items slot None ≡ None }
+    ensures ties { Ties nodes.new fats.new.items numbers.new.items }
+    ensures fats { fats.new.items ≡ slice_set fats.old.items slot (Some fat) }
+    ensures numbers_len { length numbers.new.items ≡ length numbers.old.items }
 {
     numbers[slot as usize] = nodes.add_leaf(slot, fat);
     fats[slot as usize] = Some(fat);
 }
 
 // Takes the leaf of a slot away.
-pub(crate) fn drop_leaf(nodes: &mut Nodes, fats: &mut [Option<FBox>], numbers: &[usize], slot: u32)
-    requires fats_len { length fats.old ≡ SLOTS }
+pub(crate) fn drop_leaf(nodes: &mut Nodes, fats: &mut Vec<Option<FBox>>, numbers: &[usize], slot: u32)
+    requires fats_len { length fats.old.items ≡ SLOTS }
     requires numbers_len { length numbers.now ≡ SLOTS }
-    requires ties { Ties nodes.old fats.old numbers.now }
+    requires ties { Ties nodes.old fats.old.items numbers.now }
     requires small { slot < SLOTS }
-    requires present { is_some (slice_index_or fats.old slot None) ≡ true }
-    ensures ties { Ties nodes.new fats.new numbers.now }
-    ensures fats { fats.new ≡ slice_set fats.old slot None }
+    requires present { is_some (slice_index_or fats.old.items slot None) ≡ true }
+    ensures ties { Ties nodes.new fats.new.items numbers.now }
+    ensures fats { fats.new.items ≡ slice_set fats.old.items slot None }
 {
     tree_laws();
     nodes.drop_leaf(numbers[slot as usize]);
@@ -42,14 +42,14 @@ pub(crate) fn drop_leaf(nodes: &mut Nodes, fats: &mut [Option<FBox>], numbers: &
 }
 
 // Gives the leaf of a slot another box in its place.
-fn move_leaf(nodes: &mut Nodes, fats: &mut [Option<FBox>], numbers: &[usize], slot: u32, fat: FBox)
-    requires fats_len { length fats.old ≡ SLOTS }
+fn move_leaf(nodes: &mut Nodes, fats: &mut Vec<Option<FBox>>, numbers: &[usize], slot: u32, fat: FBox)
+    requires fats_len { length fats.old.items ≡ SLOTS }
     requires numbers_len { length numbers.now ≡ SLOTS }
-    requires ties { Ties nodes.old fats.old numbers.now }
+    requires ties { Ties nodes.old fats.old.items numbers.now }
     requires small { slot < SLOTS }
-    requires present { is_some (slice_index_or fats.old slot None) ≡ true }
-    ensures ties { Ties nodes.new fats.new numbers.now }
-    ensures fats { fats.new ≡ slice_set fats.old slot (Some fat) }
+    requires present { is_some (slice_index_or fats.old.items slot None) ≡ true }
+    ensures ties { Ties nodes.new fats.new.items numbers.now }
+    ensures fats { fats.new.items ≡ slice_set fats.old.items slot (Some fat) }
 {
     tree_laws();
     nodes.move_leaf(numbers[slot as usize], fat);
@@ -59,19 +59,19 @@ fn move_leaf(nodes: &mut Nodes, fats: &mut [Option<FBox>], numbers: &[usize], sl
 // Gives the leaf of a slot another box: in its place where the new box meets the old one, and else where it fits best.
 pub(crate) fn relink(
     nodes: &mut Nodes,
-    fats: &mut [Option<FBox>],
-    numbers: &mut [usize],
+    fats: &mut Vec<Option<FBox>>,
+    numbers: &mut Vec<usize>,
     slot: u32,
     fat: FBox,
 )
-    requires fats_len { length fats.old ≡ SLOTS }
-    requires numbers_len { length numbers.old ≡ SLOTS }
-    requires ties { Ties nodes.old fats.old numbers.old }
+    requires fats_len { length fats.old.items ≡ SLOTS }
+    requires numbers_len { length numbers.old.items ≡ SLOTS }
+    requires ties { Ties nodes.old fats.old.items numbers.old.items }
     requires small { slot < SLOTS }
-    requires present { is_some (slice_index_or fats.old slot None) ≡ true }
-    ensures ties { Ties nodes.new fats.new numbers.new }
-    ensures fats { fats.new ≡ slice_set fats.old slot (Some fat) }
-    ensures numbers_len { length numbers.new ≡ length numbers.old }
+    requires present { is_some (slice_index_or fats.old.items slot None) ≡ true }
+    ensures ties { Ties nodes.new fats.new.items numbers.new.items }
+    ensures fats { fats.new.items ≡ slice_set fats.old.items slot (Some fat) }
+    ensures numbers_len { length numbers.new.items ≡ length numbers.old.items }
 {
     if is_near(&fats[slot as usize], &fat) {
         move_leaf(nodes, fats, numbers, slot, fat);

@@ -38,15 +38,15 @@ impl Room {
 // those that were found for marked slots.
 pub(crate) fn renew(
     kept: &mut Vec<Pair>,
-    marks: &mut [bool],
+    marks: &mut Vec<bool>,
     room: &mut Room,
     out: &mut Vec<Pair>,
 ) -> Result<(), NoMemory>
     requires { rises kept.old.items ≡ true }
-    ensures near { (bodies : FinMap nat_cmp Bounds) → Renewed bodies marks.old kept.old.items room.old.found.items →
+    ensures near { (bodies : FinMap nat_cmp Bounds) → Renewed bodies marks.old.items kept.old.items room.old.found.items →
         OnOk result ((out.new.items ≡ out.old.items ++ near bodies) × (kept.new.items ≡ near bodies)) }
-    ensures marks { OnOk result (marks.new ≡ replicate (length marks.old) false) }
-    ensures err { OnErr result ((out.new.items ≡ out.old.items) × (kept.new.items ≡ kept.old.items) × (marks.new ≡ marks.old)) }
+    ensures marks { OnOk result (marks.new.items ≡ replicate (length marks.old.items) false) }
+    ensures err { OnErr result ((out.new.items ≡ out.old.items) × (kept.new.items ≡ kept.old.items) × (marks.new.items ≡ marks.old.items)) }
 {
     renew_pairs(kept, marks, &mut room.found, &mut room.staying, &mut room.near)?;
     out.extend_from_slice(&room.near)?;
