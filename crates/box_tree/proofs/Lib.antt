@@ -1,3 +1,4 @@
+pub mod Counts
 pub mod Descents
 pub mod QueryMeets
 pub mod SlotMapLemmas

@@ -9,7 +9,7 @@ ghost use Rattle.std.specs.Prelude.{slice_index_or, None};
 
 use crate::descent::descend;
 use broad_index::{Pair, Query, push_ordered_pairs};
-use fixed_box::{FBox, NoMemory, SLOTS};
+use fixed_box::{FBox, NoMemory, SLOTS, box_laws};
 use tree_nodes::Nodes;
 
 // Appends the touched slots that are present, in rising order.
@@ -45,6 +45,7 @@ pub(crate) fn reach(
     ensures ok { OnOk result (out.new.items ≡ reached_in bodies.now nodes.now slot) }
     ensures count { IfOk result (λ n. n ≡ visits_for nodes.now (slice_index_or bodies.now slot None)) }
 {
+    box_laws();
     out.clear();
     let Some(Some(body)) = bodies.get(slot as usize) else {
         return Ok(0);
@@ -85,12 +86,12 @@ pub(crate) fn search_all(
     ensures count { IfOk result (λ n. n ≡ raised looked (sum (map (λ s. visits_for nodes.now (slice_index_or bodies.now s None)) slots.now))) }
 {
     let mut rest = slots;
-    let mut looked = looked;
-    'slots: while let [slot, more @ ..] = rest {
+    let mut number = looked;
+    'slots: while let Some((slot, more)) = rest.split_first() {
         let count = reach(nodes, bodies, *slot, met, reached)?;
         push_ordered_pairs(*slot, reached, found)?;
-        looked = looked.saturating_add(u64::from(count));
+        number = number.saturating_add(u64::from(count));
         rest = more;
     }
-    Ok(looked)
+    Ok(number)
 }
