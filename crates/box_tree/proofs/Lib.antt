@@ -5,3 +5,5 @@ pub mod SlotMapLemmas
 pub mod LeafTies
 pub mod Soundness
 pub mod Changes
+pub mod Fats
+pub mod Searching

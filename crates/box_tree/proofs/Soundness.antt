@@ -1,19 +1,21 @@
 -- How the parts of a tree of fat boxes stay sound while one slot is touched.
-use Rattle.std.proofs.Common.{◌≡◌, ◌≢◌, ℕ, zero, suc, ◌+◌, ◌<◌, Bool, true, false, not, cond, eqb, ◌&&◌, ◌==◌, Option, None, Some, is_some, List, [], ◌∷◌}
+use Rattle.std.proofs.Common.{◌≡◌, ◌≢◌, ℕ, zero, suc, ◌+◌, ◌<◌, Bool, true, false, not, cond, eqb, nat_lt, ◌&&◌, ◌==◌, Option, None, Some, is_some, List, [], ◌∷◌}
 use Rattle.std.proofs.Common.{length, replicate, get_or, set, refl, sym, ap, ◌∙◌, subst, arith, inl, inr, ⊎_elim, ◌⊎◌}
 use Rattle.std.specs.Ordering.{nat_cmp}
-use Rattle.std.specs.FinMap.{FinMap, contains_key, get, insert, remove}
+use Rattle.std.specs.FinMap.{FinMap, contains_key, get, insert, remove, empty}
 use Rattle.std.proofs.lemmas.Bool.{cases_eq, and_parts, and_from, false≢true}
 use Rattle.std.proofs.lemmas.Bool.Decides.{nat_tests}
 use Rattle.std.proofs.lemmas.List.{get_or-set_same, get_or-set_other, length-set, length-replicate, get_or-replicate}
+use Rattle.std.specs.List.{count_by}
+use Rattle.std.proofs.lemmas.List.Sums.{sum_by-cons}
 use Rattle.fixed_box.specs.declared.TheConstants.{SLOTS}
 use Rattle.fixed_box.specs.Bounds.{Bounds, encloses}
 use Rattle.broad_index.specs.declared.pair.Pair.{Pair}
-use Rattle.broad_index.specs.Members.{has_pair, is_near}
+use Rattle.broad_index.specs.Members.{has_pair, is_near, both_meet}
 use Rattle.broad_index.specs.Near.{near, rises}
 use Rattle.broad_index.specs.Touched.{stays, AreKept}
 use Rattle.tree_nodes.specs.Tree.{Tree}
-use Rattle.box_tree.specs.Boxes.{is_inside, untouched}
+use Rattle.box_tree.specs.Boxes.{Boxes, is_inside, untouched, no_boxes}
 use Rattle.box_tree.specs.SlotMap.{map_of}
 use Rattle.box_tree.specs.Ties.{Ties, AreFat, Sound}
 use Rattle.box_tree.proofs.SlotMapLemmas.{get_map}
@@ -150,3 +152,52 @@ sound_paired o bodies fats numbers marks kept s rise members = record {
   kept_rise = rise;
   kept_are = λ p _. members p
 }
+
+none_counted : (xs : List (Option Bounds)) → ((k : ℕ) → get_or xs k None ≡ None) → count_by is_some xs ≡ 0
+none_counted [] none = refl
+none_counted (x ∷ xs) none =
+    let a = sum_by-cons (λ (y : Option Bounds). cond (is_some y) 1 0) x xs in
+    let b : ◌≡◌ {A = ℕ} (cond (is_some x) 1 0) 0 = ap (λ (y : Option Bounds). cond (is_some y) 1 0) (none 0) in
+    let rest = none_counted xs (λ k. none (suc k)) in
+    omega (arith, a, b, rest)
+
+no_pair : (bodies : FinMap nat_cmp Bounds) (p : Pair) → get bodies p.a ≡ None → false ≡ is_near bodies p
+no_pair bodies p e = sym (ap (λ o. nat_lt p.a p.b && both_meet o (get bodies p.b)) e ∙ and_no (nat_lt p.a p.b))
+  where
+    and_no : (b : Bool) → (b && false) ≡ false
+    and_no true = refl
+    and_no false = refl
+
+-- at the outset
+pub sound_none : (o : Option Tree) (bodies fats : List (Option Bounds)) (numbers : List ℕ) (marks : List Bool) (kept : List Pair) → o ≡ None
+    → length bodies ≡ SLOTS → ((k : ℕ) → get_or bodies k None ≡ None) → length fats ≡ SLOTS → ((k : ℕ) → get_or fats k None ≡ None)
+    → length numbers ≡ SLOTS → length marks ≡ SLOTS → kept ≡ [] → Sound o bodies fats numbers marks kept
+sound_none o bodies fats numbers marks kept is lb nb lf nf ln lm none =
+    subst (λ t. Sound t bodies fats numbers marks kept) (sym is) (subst (λ ps. Sound None bodies fats numbers marks ps) (sym none) (record {
+      bodies_len = lb;
+      fats_len = lf;
+      numbers_len = ln;
+      marks_len = lm;
+      ties = record {
+        is_tree = tt;
+        counted = sym (none_counted fats nf);
+        fat_is = λ x h. let lt : h.0 < 0 = h.1 in absurd (omega arith);
+        number_is = λ x h. let lt : h.0 < 0 = h.1 in absurd (omega arith);
+        whole = λ k f e. let n : ◌≡◌ {A = Option Bounds} None (Some f) = sym (nf k) ∙ e in cc
+      };
+      fat = record {
+        same = λ k. ap is_some (nf k) ∙ sym (ap is_some (nb k));
+        inside = λ k f b ef eb. let n : ◌≡◌ {A = Option Bounds} None (Some f) = sym (nf k) ∙ ef in cc
+      };
+      kept_rise = refl;
+      kept_are = λ p _. no_pair (map_of bodies) p (get_map bodies p.a ∙ nb p.a)
+    }))
+
+-- and as clauses see it
+pub same_outset : {b f : FinMap nat_cmp Bounds} {t : Option Tree} {m : List Bool} → b ≡ empty → f ≡ empty → t ≡ None → m ≡ untouched
+    → ◌≡◌ {A = Boxes} (record { bodies = b; fats = f; tree = t; touched = m; looked = 0 }) no_boxes
+same_outset {b} {f} {t} {m} eb ef et em =
+    ap (λ x. record { bodies = x; fats = f; tree = t; touched = m; looked = 0 }) eb
+    ∙ ap (λ x. record { bodies = empty; fats = x; tree = t; touched = m; looked = 0 }) ef
+    ∙ ap (λ x. record { bodies = empty; fats = empty; tree = x; touched = m; looked = 0 }) et
+    ∙ ap (λ x. record { bodies = empty; fats = empty; tree = None; touched = x; looked = 0 }) em

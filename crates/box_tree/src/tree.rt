@@ -1,17 +1,19 @@
-ghost use Rattle.std.specs.Prelude.{◌≡◌, ◌↔◌, ℕ, ◌≤◌, ◌<◌, true, false, None, Some, Ok, IfOk, IfSome, IsTrue, length, map as mapped, slice_set, refl};
+ghost use Rattle.std.specs.Prelude.{◌≡◌, ◌↔◌, ℕ, ◌≤◌, ◌<◌, true, false, None, Some, Ok, IfOk, IfSome, IsTrue, length, map as mapped, slice_index_or, slice_set, refl};
 ghost use Rattle.std.specs.FinMap as map;
 ghost use Rattle.fixed_box.specs.Bounds.{Bounds, encloses, fattened};
 ghost use Rattle.broad_index.specs.Fresh.{IsFresh};
 ghost use Rattle.broad_index.specs.Held.{Holds};
 ghost use Rattle.tree_nodes.specs.Tree.{height_in, leaves_in, IsTreeIn};
-ghost use Rattle.box_tree.specs.Boxes.{no_boxes, shifted, told, fat_entry, is_inside, cost, sought, searched};
+ghost use Rattle.box_tree.specs.Boxes.{no_boxes as outset, shifted, told, fat_entry, is_inside, cost, sought, searched};
 
 use crate::descent::descend;
 use crate::leaves::{add_leaf, drop_leaf, relink};
 use crate::renewal::{Room, renew};
 use crate::search::{push_sought, reach, search_all};
 use crate::{MARGIN, Moved};
-use broad_index::{BroadPhase, Pair, Query, keeping_laws, member_laws, push_gathered_with, push_rising_slots};
+use broad_index::{
+    BroadPhase, Pair, Query, holding_laws, keeping_laws, member_laws, push_gathered_with, push_rising_slots,
+};
 use fixed_box::{FBox, NoMemory, SLOTS};
 use slot_search::Seeker;
 use std::alloc::Global;
@@ -58,12 +60,12 @@ impl BoxTree {
     /// No box, with room for all that there may be.
     pub fn new(alloc: Global) -> Result<BoxTree, NoMemory>
         ensures fresh { IfOk result (λ tree. IsFresh tree.bodies false 0) }
-        ensures none { IfOk result (λ tree. tree ≡ no_boxes) }
+        ensures none { IfOk result (λ tree. tree ≡ outset) }
     {
         Ok(BoxTree {
             nodes: Nodes::new(alloc)?,
-            bodies: vec![in alloc; None; SLOTS as usize]?,
-            fats: vec![in alloc; None; SLOTS as usize]?,
+            bodies: no_boxes(alloc)?,
+            fats: no_boxes(alloc)?,
             numbers: vec![in alloc; 0; SLOTS as usize]?,
             marks: vec![in alloc; false; SLOTS as usize]?,
             kept: Vec::new(alloc),
@@ -198,6 +200,7 @@ impl BroadPhase for BoxTree {
 
     fn pairs(&mut self, out: &mut Vec<Pair>) -> Result<(), NoMemory> {
         member_laws();
+        holding_laws();
         keeping_laws();
         self.room.slots.clear();
         push_sought(&self.bodies, &self.marks, &mut self.room.slots)?;
@@ -217,6 +220,7 @@ impl BroadPhase for BoxTree {
     }
 
     fn hits(&self, query: &Query, out: &mut Vec<u32>) -> Result<(), NoMemory> {
+        holding_laws();
         let mut met = Vec::new(*out.allocator());
         descend(&self.nodes, &self.bodies, query, &mut met)?;
         push_rising_slots(&mut met, out)
@@ -259,6 +263,7 @@ impl Seeker for BoxTree {
     ghost costs = { λ tree. Some (cost tree) };
 
     fn seek(&self, slot: u32, out: &mut Vec<u32>) -> Result<u32, NoMemory> {
+        holding_laws();
         let alloc = *out.allocator();
         let mut met = Vec::new(alloc);
         let mut reached = Vec::new(alloc);
@@ -266,6 +271,18 @@ impl Seeker for BoxTree {
         push_rising_slots(&mut reached, out)?;
         Ok(count)
     }
+}
+
+// No slot has a box.
+fn no_boxes(alloc: Global) -> Result<Vec<Option<FBox>>, NoMemory>
+    ensures len { IfOk result (λ boxes. length boxes.items ≡ SLOTS) }
+    ensures none { IfOk result (λ boxes. (k : ℕ) → slice_index_or boxes.items k None ≡ None) }
+{
+    let mut boxes = Vec::with_capacity(alloc, SLOTS as usize)?;
+    'boxes: for _slot in 0..SLOTS {
+        boxes.push(None)?;
+    }
+    Ok(boxes)
 }
 
 // Whether a fat box is there and encloses a box.
