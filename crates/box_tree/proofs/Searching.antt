@@ -1,7 +1,7 @@
 -- What descents find is what the map has, and which slots are sought.
 use Rattle.std.proofs.Common.{◌≡◌, ◌≢◌, ℕ, zero, suc, ◌+◌, ◌<◌, ◌≤◌, Bool, true, false, not, cond, ◌&&◌, ◌||◌, ◌==◌, Option, None, Some, is_some, List, [], ◌∷◌, ◌++◌}
 use Rattle.std.proofs.Common.{length, map, filter, replicate, get_or, refl, sym, ap, ◌∙◌, subst, arith, inl, inr, ⊎_elim, ◌⊎◌}
-use Rattle.std.specs.List.{All, Contains, list_any, sum}
+use Rattle.std.specs.List.{All, Contains, list_any, sum, zip}
 use Rattle.std.specs.Ordering.{nat_cmp, eq_by_cmp}
 use Rattle.std.specs.FinMap.{FinMap, contains_key, get, entries, keys, contains_key-keys}
 use Rattle.std.proofs.lemmas.Bool.{cases_eq, cases_Bool, and_parts, false≢true, eq-eqb, eqb-true}
@@ -10,15 +10,16 @@ use Rattle.std.proofs.lemmas.List.Elements.{All-weaker, All-contains_itself, Con
 use Rattle.std.proofs.lemmas.List.Folds.{list_any_at}
 use Rattle.fixed_box.specs.declared.TheConstants.{SLOTS}
 use Rattle.fixed_box.specs.Bounds.{Bounds, meets, encloses}
-use Rattle.slot_search.specs.Reach.{reach_of}
+use Rattle.slot_search.specs.Reach.{reach, reach_of}
 use Rattle.broad_index.specs.declared.pair.Pair.{Pair}
 use Rattle.broad_index.specs.declared.query.Query.{Query}
 use Rattle.broad_index.specs.declared.query.Query.TheVariants.{Region}
 use Rattle.broad_index.specs.Found.{found_of}
 use Rattle.broad_index.specs.Held.{Holds}
-use Rattle.broad_index.specs.Members.{has_slot, both_meet, is_found, is_reached}
+use Rattle.broad_index.specs.Members.{has_pair, has_slot, both_meet, is_near, is_found, is_reached}
+use Rattle.broad_index.specs.Near.{near, rises}
 use Rattle.broad_index.specs.Searched.{AreReached}
-use Rattle.broad_index.specs.Touched.{AreMarked}
+use Rattle.broad_index.specs.Touched.{gathered_with, AreKept, AreMarked, Renewed}
 use Rattle.tree_nodes.specs.Tree.{Tree, Leaf, tip, fork, leaves, leaves_in}
 use Rattle.box_tree.specs.Boxes.{Boxes, visits_for, cost, sought, raised, searched, untouched}
 use Rattle.box_tree.specs.Descent.{entry_of, exact, exact_in, IsLeafInside, IsInside, IsInsideIn}
@@ -27,7 +28,11 @@ use Rattle.box_tree.specs.SlotMap.{map_of, entries_from}
 use Rattle.box_tree.specs.Ties.{Ties, Sound}
 use Rattle.box_tree.proofs.SlotMapLemmas.{get_map, entries_of_map, tie_same, tie_other}
 use Rattle.box_tree.proofs.LeafTies.{some_there}
-use Rattle.box_tree.proofs.Soundness.{within}
+use Rattle.box_tree.proofs.Soundness.{within, sound_paired}
+
+abbrev pub ReachLaw : Type 0
+ReachLaw = (m : FinMap nat_cmp Bounds) (es : List (ℕ × Bounds)) → Holds m es → (slot : ℕ) (body : Bounds) → get m slot ≡ Some body
+    → (k : ℕ) → has_slot (reach_of slot (Some body) es) k ≡ is_reached m slot k
 
 module _ (o : Option Tree) (bodies fats : List (Option Bounds)) (numbers : List ℕ) (marks : List Bool) (kept : List Pair)
     (s : Sound o bodies fats numbers marks kept) where
@@ -115,10 +120,6 @@ module _ (o : Option Tree) (bodies fats : List (Option Bounds)) (numbers : List 
             (λ b. filter (λ k. not (k == slot)) (map (λ (x : ℕ × Bounds). x.0) more)
             ≡ map (λ (x : ℕ × Bounds). x.0) (cond (not b && false) (e ∷ others) others)) [ true ↦ rest | false ↦ rest ]
       ]
-
-  abbrev ReachLaw : Type 0
-  ReachLaw = (m : FinMap nat_cmp Bounds) (es : List (ℕ × Bounds)) → Holds m es → (slot : ℕ) (body : Bounds) → get m slot ≡ Some body
-      → (k : ℕ) → has_slot (reach_of slot (Some body) es) k ≡ is_reached m slot k
 
   -- what is reached of a slot
   pub reached : ReachLaw → (slot k : ℕ) → has_slot (reached_in bodies o slot) k ≡ is_reached (map_of bodies) slot k
@@ -252,3 +253,81 @@ costs_viewed o bodies fats marks looked n v view e =
     e ∙ ap (λ l. raised looked (sum l))
         (ap (map (λ k. visits_for o (get_or bodies k None))) (marked_is marks bodies) ∙ same_costs o bodies (marked_of marks (map_of bodies)))
     ∙ ap (λ (b : Boxes). raised b.looked (sum (map (cost b) (sought b)))) view
+
+abbrev pub FoundLaw : Type 0
+FoundLaw = (m : FinMap nat_cmp Bounds) (es : List (ℕ × Bounds)) → Holds m es → (query : Query) (k : ℕ) → has_slot (found_of es query) k ≡ is_found m query k
+
+abbrev pub RenewingLaw : Type 0
+RenewingLaw = (m : FinMap nat_cmp Bounds) (marks : List Bool) (kept : List Pair) (rs : List (ℕ × List ℕ)) → AreReached m rs
+    → AreMarked m marks (map (λ (r : ℕ × List ℕ). r.0) rs) → AreKept m marks kept → Renewed m marks kept (gathered_with rs)
+
+abbrev pub SoughtLaw : Type 0
+SoughtLaw = (m : FinMap nat_cmp Bounds) (marks : List Bool) (kept : List Pair) (slots : List ℕ) → AreMarked m marks slots → AreKept m marks kept
+    → Renewed m marks kept (gathered_with (zip slots (map (reach m) slots)))
+
+module _ (o : Option Tree) (bodies fats : List (Option Bounds)) (numbers : List ℕ) (marks : List Bool) (kept : List Pair)
+    (s : Sound o bodies fats numbers marks kept) (v : Boxes) (looked : ℕ) (view : seen o bodies fats marks looked ≡ v) where
+  pub sought_viewed : (bs : List (Option Bounds)) (ms : List Bool) (slots : List ℕ) → bs ≡ bodies → ms ≡ marks → slots ≡ sought_from ms 0 bs → slots ≡ sought v
+  sought_viewed bs ms slots eb em e =
+      e ∙ ap (λ xs. sought_from ms 0 xs) eb ∙ ap (λ xs. sought_from xs 0 bodies) em ∙ marked_is marks bodies ∙ ap sought view
+
+  pub inside_of : (bs : List (Option Bounds)) → bs ≡ bodies → IsInsideIn bs o
+  inside_of bs e = subst (λ xs. IsInsideIn xs o) (sym e) (all_inside o bodies fats numbers marks kept s)
+
+  -- what a descent finds is what the map has
+  pub found_viewed : FoundLaw → (q : Query) (bs : List (Option Bounds)) (before found : List ℕ) → bs ≡ bodies → before ≡ []
+      → found ≡ before ++ found_of (exact_in bs o) q → (k : ℕ) → has_slot found k ≡ is_found v.bodies q k
+  found_viewed law q bs before found eb en e k =
+      ap (λ ks. has_slot ks k)
+      (e ∙ ap (λ xs. xs ++ found_of (exact_in bs o) q) en ∙ ap (λ xs. found_of (exact_in xs o) q) eb)
+      ∙ law (map_of bodies) (exact_in bodies o) (exact_held o bodies fats numbers marks kept s) q k
+      ∙ ap (λ (b : Boxes). is_found b.bodies q k) view
+
+  pub reached_viewed : ReachLaw → (slot : ℕ) (bs : List (Option Bounds)) (found : List ℕ) → bs ≡ bodies → found ≡ reached_in bs o slot
+      → (k : ℕ) → has_slot found k ≡ is_reached v.bodies slot k
+  reached_viewed law slot bs found eb e k =
+      ap (λ ks. has_slot ks k) (e ∙ ap (λ xs. reached_in xs o slot) eb)
+      ∙ reached o bodies fats numbers marks kept s law slot k
+      ∙ ap (λ (b : Boxes). is_reached b.bodies slot k) view
+
+  pub cost_viewed : (slot n : ℕ) (bs : List (Option Bounds)) → bs ≡ bodies → n ≡ visits_for o (get_or bs slot None) → n ≡ cost v slot
+  cost_viewed slot n bs eb e =
+      e ∙ ap (λ xs. visits_for o (get_or xs slot None)) eb ∙ ap (visits_for o) (sym (get_map bodies slot)) ∙ ap (λ (b : Boxes). cost b slot) view
+
+  -- searches of the touched slots renew the pairs
+  pub pairs_renewed : ReachLaw → RenewingLaw → (bs : List (Option Bounds)) (ms : List Bool) (slots list : List ℕ) (before found : List Pair)
+      → bs ≡ bodies → ms ≡ marks → slots ≡ sought_from ms 0 bs → list ≡ slots → before ≡ []
+      → found ≡ before ++ gathered_with (searches bs o list) → Renewed (map_of bodies) marks kept found
+  pairs_renewed law renewing bs ms slots list before found eb em es el en e =
+      let own : list ≡ marked_of marks (map_of bodies) =
+      el ∙ es ∙ ap (λ xs. sought_from ms 0 xs) eb ∙ ap (λ xs. sought_from xs 0 bodies) em ∙ marked_is marks bodies in
+      let all : List ℕ = marked_of marks (map_of bodies) in
+      let is : found ≡ gathered_with (searches bodies o all) =
+      e ∙ ap (λ xs. xs ++ gathered_with (searches bs o list)) en ∙ ap (λ xs. gathered_with (searches xs o list)) eb
+      ∙ ap (λ xs. gathered_with (searches bodies o xs)) own in
+      subst (λ ps. Renewed (map_of bodies) marks kept ps) (sym is)
+      (renewing (map_of bodies) marks kept (searches bodies o all) (all_reached o bodies fats numbers marks kept s law all)
+      (subst (λ xs. AreMarked (map_of bodies) marks xs) (sym (searched_slots bodies o all)) (are_marked marks (map_of bodies))) s.kept_are)
+
+  -- and so do lists of what they reach
+  pub lists_renewed : SoughtLaw → (slots : List ℕ) (lists : List (List ℕ)) (before found : List Pair) → slots ≡ sought v
+      → lists ≡ map (reach v.bodies) slots → before ≡ [] → found ≡ before ++ gathered_with (zip slots lists) → Renewed (map_of bodies) marks kept found
+  lists_renewed law slots lists before found es el en e =
+      let own : slots ≡ marked_of marks (map_of bodies) = es ∙ sym (ap sought view) in
+      let all : List ℕ = marked_of marks (map_of bodies) in
+      let bodies_is : v.bodies ≡ map_of bodies = sym (ap (λ (b : Boxes). b.bodies) view) in
+      let is : found ≡ gathered_with (zip all (map (reach (map_of bodies)) all)) =
+      e ∙ ap (λ xs. xs ++ gathered_with (zip slots lists)) en ∙ ap (λ ls. gathered_with (zip slots ls)) el
+      ∙ ap (λ m. gathered_with (zip slots (map (reach m) slots))) bodies_is ∙ ap (λ xs. gathered_with (zip xs (map (reach (map_of bodies)) xs))) own in
+      subst (λ ps. Renewed (map_of bodies) marks kept ps) (sym is) (law (map_of bodies) marks kept all (are_marked marks (map_of bodies)) s.kept_are)
+
+  -- after either call
+  pub sound_renewed : rises (near (map_of bodies)) ≡ true → ((p : Pair) → has_pair (near (map_of bodies)) p ≡ is_near (map_of bodies) p)
+      → (ms : List Bool) (ps : List Pair) → ms ≡ replicate (length marks) false → ps ≡ near (map_of bodies) → Sound o bodies fats numbers ms ps
+  sound_renewed rise members ms ps em ep =
+      subst (λ xs. Sound o bodies fats numbers xs ps) (sym em)
+      (subst (λ xs. Sound o bodies fats numbers (replicate (length marks) false) xs) (sym ep)
+      (sound_paired o bodies fats numbers marks kept s rise members))
+
+  pub near_viewed : (old new : List Pair) → new ≡ old ++ near (map_of bodies) → new ≡ old ++ near v.bodies
+  near_viewed old new e = e ∙ ap (λ (b : Boxes). old ++ near b.bodies) view
