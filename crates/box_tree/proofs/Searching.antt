@@ -1,0 +1,333 @@
+-- What descents find is what the map has, and which slots are sought.
+use Rattle.std.proofs.Common.{◌≡◌, ◌≢◌, ℕ, zero, suc, ◌+◌, ◌<◌, ◌≤◌, Bool, true, false, not, cond, ◌&&◌, ◌||◌, ◌==◌, Option, None, Some, is_some, List, [], ◌∷◌, ◌++◌}
+use Rattle.std.proofs.Common.{length, map, filter, replicate, get_or, refl, sym, ap, ◌∙◌, subst, arith, inl, inr, ⊎_elim, ◌⊎◌}
+use Rattle.std.specs.List.{All, Contains, list_any, sum, zip}
+use Rattle.std.specs.Ordering.{nat_cmp, eq_by_cmp}
+use Rattle.std.specs.FinMap.{FinMap, contains_key, get, entries, keys, contains_key-keys}
+use Rattle.std.proofs.lemmas.Bool.{cases_eq, cases_Bool, and_parts, false≢true, eq-eqb, eqb-true}
+use Rattle.std.proofs.lemmas.Bool.Decides.{nat_tests}
+use Rattle.std.proofs.lemmas.List.Elements.{All-weaker, All-contains_itself, Contains-append_left, Contains-append_right, Contains-append_cases}
+use Rattle.std.proofs.lemmas.List.Folds.{list_any_at}
+use Rattle.fixed_box.specs.declared.TheConstants.{SLOTS}
+use Rattle.fixed_box.specs.Bounds.{Bounds, meets, encloses}
+use Rattle.slot_search.specs.Reach.{reach, reach_of}
+use Rattle.broad_index.specs.declared.pair.Pair.{Pair}
+use Rattle.broad_index.specs.declared.query.Query.{Query}
+use Rattle.broad_index.specs.declared.query.Query.TheVariants.{Region}
+use Rattle.broad_index.specs.Found.{found_of}
+use Rattle.broad_index.specs.Held.{Holds}
+use Rattle.broad_index.specs.Members.{has_pair, has_slot, both_meet, is_near, is_found, is_reached}
+use Rattle.broad_index.specs.Near.{near, rises}
+use Rattle.broad_index.specs.Searched.{AreReached}
+use Rattle.broad_index.specs.Touched.{gathered_with, AreKept, AreMarked, Renewed}
+use Rattle.tree_nodes.specs.Tree.{Tree, Leaf, tip, fork, leaves, leaves_in}
+use Rattle.box_tree.specs.Boxes.{Boxes, visits_for, cost, sought, raised, searched, untouched}
+use Rattle.box_tree.specs.Descent.{entry_of, exact, exact_in, IsLeafInside, IsInside, IsInsideIn}
+use Rattle.box_tree.specs.Searches.{sought_from, reached_by, reached_in, searches}
+use Rattle.box_tree.specs.SlotMap.{map_of, entries_from}
+use Rattle.box_tree.specs.Ties.{Ties, Sound}
+use Rattle.box_tree.proofs.SlotMapLemmas.{get_map, entries_of_map, tie_same, tie_other}
+use Rattle.box_tree.proofs.LeafTies.{some_there}
+use Rattle.box_tree.proofs.Soundness.{within, sound_paired}
+
+abbrev pub ReachLaw : Type 0
+ReachLaw = (m : FinMap nat_cmp Bounds) (es : List (ℕ × Bounds)) → Holds m es → (slot : ℕ) (body : Bounds) → get m slot ≡ Some body
+    → (k : ℕ) → has_slot (reach_of slot (Some body) es) k ≡ is_reached m slot k
+
+module _ (o : Option Tree) (bodies fats : List (Option Bounds)) (numbers : List ℕ) (marks : List Bool) (kept : List Pair)
+    (s : Sound o bodies fats numbers marks kept) where
+  leaf_inside : (x : Leaf) → Contains (leaves_in o) x → IsLeafInside bodies x.slot x.fat
+  leaf_inside x c =
+      let e = s.ties.fat_is x c in
+      record {
+        small = within bodies x.slot (sym (s.fat.same x.slot) ∙ ap is_some e);
+        inside = λ b h. s.fat.inside x.slot x.fat b e h
+      }
+
+  tree_inside : (t : Tree) → ((x : Leaf) → Contains (leaves t) x → IsLeafInside bodies x.slot x.fat) → IsInside bodies t
+  tree_inside (tip n sl f) h = h (record { node = n; slot = sl; fat = f }) (0, omega arith, refl)
+  tree_inside (fork n hu k l r) h =
+      (tree_inside l (λ x c. h x (Contains-append_left (leaves l) (leaves r) x c)),
+        tree_inside r (λ x c. h x (Contains-append_right (leaves l) (leaves r) x c)))
+
+  -- the fat boxes of the leaves enclose their boxes
+  pub all_inside : IsInsideIn bodies o
+  all_inside = at o leaf_inside
+    where
+      at : (u : Option Tree) → ((x : Leaf) → Contains (leaves_in u) x → IsLeafInside bodies x.slot x.fat) → IsInsideIn bodies u
+      at None h = tt
+      at (Some t) h = tree_inside t h
+
+  one_entry : (y z : ℕ × Bounds) → Contains (z ∷ []) y → y ≡ z
+  one_entry y z (zero, lt, e) = sym e
+  one_entry y z (suc k, lt, e) = absurd (omega arith)
+
+  entry_there : (sl : ℕ) (p : Option Bounds) (k : ℕ) (b : Bounds) → get_or bodies sl None ≡ p → Contains (entry_of sl p) (k, b) → get_or bodies k None ≡ Some b
+  entry_there sl None k b e c = let lt : c.0 < 0 = c.1 in absurd (omega arith)
+  entry_there sl (Some d) k b e c =
+      let same = one_entry (k, b) (sl, d) c in
+      subst (λ (y : ℕ × Bounds). get_or bodies y.0 None ≡ Some y.1) (sym same) e
+
+  exact_there : (xs : List Leaf) (k : ℕ) (b : Bounds) → Contains (exact bodies xs) (k, b) → get_or bodies k None ≡ Some b
+  exact_there [] k b c = let lt : c.0 < 0 = c.1 in absurd (omega arith)
+  exact_there (x ∷ xs) k b c =
+      ⊎_elim (λ h. entry_there x.slot (get_or bodies x.slot None) k b refl h) (λ h. exact_there xs k b h)
+      (Contains-append_cases (entry_of x.slot (get_or bodies x.slot None)) (exact bodies xs) (k, b) c)
+
+  there_exact : (xs : List Leaf) (x : Leaf) (b : Bounds) (i : ℕ) → i < length xs → get_or xs i x ≡ x → get_or bodies x.slot None ≡ Some b
+      → Contains (exact bodies xs) (x.slot, b)
+  there_exact [] x b i lt e h = absurd (omega arith)
+  there_exact (y ∷ ys) x b zero lt e h =
+      let own : Contains (entry_of x.slot (Some b)) (x.slot, b) = (0, omega arith, refl) in
+      let at_x : Contains (entry_of x.slot (get_or bodies x.slot None)) (x.slot, b) =
+      subst (λ p. Contains (entry_of x.slot p) (x.slot, b)) (sym h) own in
+      let at_y : Contains (entry_of y.slot (get_or bodies y.slot None)) (x.slot, b) =
+      subst (λ (z : Leaf). Contains (entry_of z.slot (get_or bodies z.slot None)) (x.slot, b)) (sym e) at_x in
+      Contains-append_left (entry_of y.slot (get_or bodies y.slot None)) (exact bodies ys) (x.slot, b) at_y
+  there_exact (y ∷ ys) x b (suc i) lt e h =
+      Contains-append_right (entry_of y.slot (get_or bodies y.slot None)) (exact bodies ys) (x.slot, b) (there_exact ys x b i (omega arith) e h)
+
+  exact_in_is : (u : Option Tree) → exact_in bodies u ≡ exact bodies (leaves_in u)
+  exact_in_is None = refl
+  exact_in_is (Some t) = refl
+
+  -- the exact boxes of the leaves are those of the map
+  pub exact_held : Holds (map_of bodies) (exact_in bodies o)
+  exact_held = subst (Holds (map_of bodies)) (sym (exact_in_is o)) (record {
+    present = λ k b c. get_map bodies k ∙ exact_there (leaves_in o) k b c;
+    whole = λ k b e.
+        let h : get_or bodies k None ≡ Some b = sym (get_map bodies k) ∙ e in
+        let f = some_there (get_or fats k None) (s.fat.same k ∙ ap is_some h) in
+        let c = s.ties.whole k f.0 f.1 in
+        there_exact (leaves_in o) (record { node = get_or numbers k 0; slot = k; fat = f.0 }) b c.0 c.1 c.2 h
+  })
+
+  others_of : (slot : ℕ) (body : Bounds) (es : List (ℕ × Bounds))
+      → filter (λ k. not (k == slot)) (found_of es (Region body)) ≡ reach_of slot (Some body) es
+  others_of slot body [] = refl
+  others_of slot body (e ∷ es) =
+      let rest = others_of slot body es in
+      let more : List (ℕ × Bounds) = filter (λ (x : ℕ × Bounds). meets body x.1) es in
+      let others : List (ℕ × Bounds) = filter (λ (x : ℕ × Bounds). not (x.0 == slot) && meets body x.1) es in
+      elim (meets body e.1) as
+      (λ m. filter (λ k. not (k == slot)) (map (λ (x : ℕ × Bounds). x.0) (cond m (e ∷ more) more))
+      ≡ map (λ (x : ℕ × Bounds). x.0) (cond (not (e.0 == slot) && m) (e ∷ others) others)) [
+        | true ↦ elim (e.0 == slot) as
+            (λ b. cond (not b) (e.0 ∷ filter (λ k. not (k == slot)) (map (λ (x : ℕ × Bounds). x.0) more))
+            (filter (λ k. not (k == slot)) (map (λ (x : ℕ × Bounds). x.0) more))
+            ≡ map (λ (x : ℕ × Bounds). x.0) (cond (not b && true) (e ∷ others) others)) [ true ↦ rest | false ↦ ap (λ l. e.0 ∷ l) rest ]
+        | false ↦ elim (e.0 == slot) as
+            (λ b. filter (λ k. not (k == slot)) (map (λ (x : ℕ × Bounds). x.0) more)
+            ≡ map (λ (x : ℕ × Bounds). x.0) (cond (not b && false) (e ∷ others) others)) [ true ↦ rest | false ↦ rest ]
+      ]
+
+  -- what is reached of a slot
+  pub reached : ReachLaw → (slot k : ℕ) → has_slot (reached_in bodies o slot) k ≡ is_reached (map_of bodies) slot k
+  reached law slot k = at (get_or bodies slot None) refl
+    where
+      and_no : (b : Bool) → (b && false) ≡ false
+      and_no true = refl
+      and_no false = refl
+
+      at : (p : Option Bounds) → get_or bodies slot None ≡ p → has_slot (reached_by bodies o slot p) k ≡ is_reached (map_of bodies) slot k
+      at None e =
+          sym (ap (λ b. not (k == slot) && both_meet b (get (map_of bodies) k)) (get_map bodies slot ∙ e) ∙ and_no (not (k == slot)))
+      at (Some body) e =
+          ap (λ ks. has_slot ks k) (others_of slot body (exact_in bodies o))
+          ∙ law (map_of bodies) (exact_in bodies o) exact_held slot body (get_map bodies slot ∙ e) k
+
+  -- and of each of some slots
+  pub all_reached : ReachLaw → (slots : List ℕ) → AreReached (map_of bodies) (searches bodies o slots)
+  all_reached law slots = λ i d lt. at slots i d lt
+    where
+      at : (slots : List ℕ) (i : ℕ) (d : ℕ × List ℕ) → i < length (searches bodies o slots)
+          → (k : ℕ) → has_slot (get_or (searches bodies o slots) i d).1 k ≡ is_reached (map_of bodies) (get_or (searches bodies o slots) i d).0 k
+      at [] i d lt = absurd (omega arith)
+      at (x ∷ xs) zero d lt = λ k. reached law x k
+      at (x ∷ xs) (suc i) d lt = at xs i d (omega arith)
+
+-- the slots that were searched
+pub searched_slots : (bodies : List (Option Bounds)) (o : Option Tree) (slots : List ℕ) → map (λ (r : ℕ × List ℕ). r.0) (searches bodies o slots) ≡ slots
+searched_slots bodies o [] = refl
+searched_slots bodies o (x ∷ xs) = ap (λ ys. x ∷ ys) (searched_slots bodies o xs)
+
+eqb_other : (a b : ℕ) → a ≢ b → (a == b) ≡ false
+eqb_other a b ne = grind (arith, nat_tests)
+
+has_marked : (mark : ℕ → Bool) (es : List (ℕ × Bounds)) (k : ℕ)
+    → has_slot (map (λ (e : ℕ × Bounds). e.0) (filter (λ (e : ℕ × Bounds). mark e.0) es)) k ≡ (mark k && has_slot (map (λ (e : ℕ × Bounds). e.0) es) k)
+has_marked mark [] k = and_no (mark k)
+  where
+    and_no : (b : Bool) → false ≡ (b && false)
+    and_no true = refl
+    and_no false = refl
+has_marked mark (e ∷ es) k =
+    let rest = has_marked mark es k in
+    let more : List (ℕ × Bounds) = filter (λ (e : ℕ × Bounds). mark e.0) es in
+    let h : Bool = has_slot (map (λ (e : ℕ × Bounds). e.0) es) k in
+    ⊎_elim
+    (λ same.
+      let yes : (k == e.0) ≡ true = eq-eqb k e.0 same in
+      elim (cases_Bool (mark k)) as
+      (λ _. has_slot (map (λ (e : ℕ × Bounds). e.0) (cond (mark e.0) (e ∷ more) more)) k ≡ (mark k && ((k == e.0) || h))) [
+        | inl t ↦
+            let at : mark e.0 ≡ true = subst (λ j. mark j ≡ true) same t in
+            ap (λ b. has_slot (map (λ (e : ℕ × Bounds). e.0) (cond b (e ∷ more) more)) k) at
+            ∙ ap (λ b. b || has_slot (map (λ (e : ℕ × Bounds). e.0) more) k) yes
+            ∙ sym (ap (λ b. b && ((k == e.0) || h)) t ∙ ap (λ b. b || h) yes)
+        | inr f ↦
+            let at : mark e.0 ≡ false = subst (λ j. mark j ≡ false) same f in
+            ap (λ b. has_slot (map (λ (e : ℕ × Bounds). e.0) (cond b (e ∷ more) more)) k) at
+            ∙ rest ∙ ap (λ b. b && h) f
+            ∙ sym (ap (λ b. b && ((k == e.0) || h)) f)
+      ])
+    (λ ne.
+      let no : (k == e.0) ≡ false = eqb_other k e.0 ne in
+      elim (mark e.0) as
+      (λ b. has_slot (map (λ (e : ℕ × Bounds). e.0) (cond b (e ∷ more) more)) k ≡ (mark k && ((k == e.0) || h))) [
+        | true ↦ ap (λ b. b || has_slot (map (λ (e : ℕ × Bounds). e.0) more) k) no ∙ rest ∙ sym (ap (λ b. mark k && (b || h)) no)
+        | false ↦ rest ∙ sym (ap (λ b. mark k && (b || h)) no)
+      ])
+    (cases_eq k e.0)
+
+tied : (k : ℕ) (xs : List ℕ) → list_any (eq_by_cmp nat_cmp k) xs ≡ list_any (λ x. k == x) xs
+tied k [] = refl
+tied k (x ∷ xs) =
+    let first : eq_by_cmp nat_cmp k x ≡ (k == x) =
+    ⊎_elim (λ s. tie_same k x s ∙ sym (eq-eqb k x s)) (λ ne. tie_other k x ne ∙ sym (eqb_other k x ne)) (cases_eq k x) in
+    ap (λ b. b || list_any (eq_by_cmp nat_cmp k) xs) first ∙ ap (λ b. (k == x) || b) (tied k xs)
+
+has_keys : (m : FinMap nat_cmp Bounds) (k : ℕ) → has_slot (map (λ (e : ℕ × Bounds). e.0) (entries m)) k ≡ contains_key m k
+has_keys m k = sym (contains_key-keys m k ∙ tied k (keys m))
+
+-- the touched slots that are present, of a map
+abbrev pub marked_of : List Bool → FinMap nat_cmp Bounds → List ℕ
+marked_of marks m = map (λ (e : ℕ × Bounds). e.0) (filter (λ (e : ℕ × Bounds). get_or marks e.0 false) (entries m))
+
+pub marked_is : (marks : List Bool) (bodies : List (Option Bounds)) → sought_from marks 0 bodies ≡ marked_of marks (map_of bodies)
+marked_is marks bodies =
+    ap (λ (es : List (ℕ × Bounds)). map (λ (e : ℕ × Bounds). e.0) (filter (λ (e : ℕ × Bounds). get_or marks e.0 false) es)) (sym (entries_of_map bodies))
+
+pub are_marked : (marks : List Bool) (m : FinMap nat_cmp Bounds) → AreMarked m marks (marked_of marks m)
+are_marked marks m k h =
+    sym (has_marked (λ j. get_or marks j false) (entries m) k ∙ ap (λ b. get_or marks k false && b) (has_keys m k ∙ h) ∙ and_yes (get_or marks k false))
+  where
+    and_yes : (b : Bool) → (b && true) ≡ b
+    and_yes true = refl
+    and_yes false = refl
+
+pub marked_present : (marks : List Bool) (m : FinMap nat_cmp Bounds) → All (λ slot. contains_key m slot ≡ true) (marked_of marks m)
+marked_present marks m = All-weaker (Contains (marked_of marks m)) (λ slot. contains_key m slot ≡ true) each (marked_of marks m) (All-contains_itself (marked_of marks m))
+  where
+    each : (x : ℕ) → Contains (marked_of marks m) x → contains_key m x ≡ true
+    each x c =
+        let h : has_slot (marked_of marks m) x ≡ true =
+        list_any_at (λ y. x == y) (marked_of marks m) c.0 x c.1 (ap (λ y. x == y) c.2 ∙ eq-eqb x x refl) in
+        let both = and_parts (get_or marks x false) (has_slot (map (λ (e : ℕ × Bounds). e.0) (entries m)) x)
+        (sym (has_marked (λ j. get_or marks j false) (entries m) x) ∙ h) in
+        sym (has_keys m x) ∙ both.1
+
+same_costs : (o : Option Tree) (bodies : List (Option Bounds)) (slots : List ℕ)
+    → map (λ k. visits_for o (get_or bodies k None)) slots ≡ map (λ k. visits_for o (get (map_of bodies) k)) slots
+same_costs o bodies [] = refl
+same_costs o bodies (x ∷ xs) =
+    ap (λ p. visits_for o p ∷ map (λ k. visits_for o (get_or bodies k None)) xs) (sym (get_map bodies x))
+    ∙ ap (λ l. visits_for o (get (map_of bodies) x) ∷ l) (same_costs o bodies xs)
+
+abbrev pub seen : Option Tree → List (Option Bounds) → List (Option Bounds) → List Bool → ℕ → Boxes
+seen o bodies fats marks looked = record { bodies = map_of bodies; fats = map_of fats; tree = o; touched = marks; looked = looked }
+
+-- what a call of `pairs` leaves
+pub same_searched : (o : Option Tree) (bodies fats : List (Option Bounds)) (marks touched : List Bool) (looked n : ℕ) (v : Boxes) → seen o bodies fats marks looked ≡ v
+    → length marks ≡ SLOTS → touched ≡ replicate (length marks) false → n ≡ raised v.looked (sum (map (cost v) (sought v)))
+    → seen o bodies fats touched n ≡ searched v
+same_searched o bodies fats marks touched looked n v view len et en =
+    let t : touched ≡ untouched = et ∙ ap (λ k. replicate k false) len in
+    ap (λ x. seen o bodies fats x n) t ∙ ap (λ x. seen o bodies fats untouched x) en
+    ∙ ap (λ (b : Boxes). record { bodies = b.bodies; fats = b.fats; tree = b.tree; touched = untouched; looked = raised v.looked (sum (map (cost v) (sought v))) }) view
+
+pub costs_viewed : (o : Option Tree) (bodies fats : List (Option Bounds)) (marks : List Bool) (looked n : ℕ) (v : Boxes) → seen o bodies fats marks looked ≡ v
+    → n ≡ raised looked (sum (map (λ k. visits_for o (get_or bodies k None)) (sought_from marks 0 bodies)))
+    → n ≡ raised v.looked (sum (map (cost v) (sought v)))
+costs_viewed o bodies fats marks looked n v view e =
+    e ∙ ap (λ l. raised looked (sum l))
+        (ap (map (λ k. visits_for o (get_or bodies k None))) (marked_is marks bodies) ∙ same_costs o bodies (marked_of marks (map_of bodies)))
+    ∙ ap (λ (b : Boxes). raised b.looked (sum (map (cost b) (sought b)))) view
+
+abbrev pub FoundLaw : Type 0
+FoundLaw = (m : FinMap nat_cmp Bounds) (es : List (ℕ × Bounds)) → Holds m es → (query : Query) (k : ℕ) → has_slot (found_of es query) k ≡ is_found m query k
+
+abbrev pub RenewingLaw : Type 0
+RenewingLaw = (m : FinMap nat_cmp Bounds) (marks : List Bool) (kept : List Pair) (rs : List (ℕ × List ℕ)) → AreReached m rs
+    → AreMarked m marks (map (λ (r : ℕ × List ℕ). r.0) rs) → AreKept m marks kept → Renewed m marks kept (gathered_with rs)
+
+abbrev pub SoughtLaw : Type 0
+SoughtLaw = (m : FinMap nat_cmp Bounds) (marks : List Bool) (kept : List Pair) (slots : List ℕ) → AreMarked m marks slots → AreKept m marks kept
+    → Renewed m marks kept (gathered_with (zip slots (map (reach m) slots)))
+
+module _ (o : Option Tree) (bodies fats : List (Option Bounds)) (numbers : List ℕ) (marks : List Bool) (kept : List Pair)
+    (s : Sound o bodies fats numbers marks kept) (v : Boxes) (looked : ℕ) (view : seen o bodies fats marks looked ≡ v) where
+  pub sought_viewed : (bs : List (Option Bounds)) (ms : List Bool) (slots : List ℕ) → bs ≡ bodies → ms ≡ marks → slots ≡ sought_from ms 0 bs → slots ≡ sought v
+  sought_viewed bs ms slots eb em e =
+      e ∙ ap (λ xs. sought_from ms 0 xs) eb ∙ ap (λ xs. sought_from xs 0 bodies) em ∙ marked_is marks bodies ∙ ap sought view
+
+  pub inside_of : (bs : List (Option Bounds)) → bs ≡ bodies → IsInsideIn bs o
+  inside_of bs e = subst (λ xs. IsInsideIn xs o) (sym e) (all_inside o bodies fats numbers marks kept s)
+
+  -- what a descent finds is what the map has
+  pub found_viewed : FoundLaw → (q : Query) (bs : List (Option Bounds)) (before found : List ℕ) → bs ≡ bodies → before ≡ []
+      → found ≡ before ++ found_of (exact_in bs o) q → (k : ℕ) → has_slot found k ≡ is_found v.bodies q k
+  found_viewed law q bs before found eb en e k =
+      ap (λ ks. has_slot ks k)
+      (e ∙ ap (λ xs. xs ++ found_of (exact_in bs o) q) en ∙ ap (λ xs. found_of (exact_in xs o) q) eb)
+      ∙ law (map_of bodies) (exact_in bodies o) (exact_held o bodies fats numbers marks kept s) q k
+      ∙ ap (λ (b : Boxes). is_found b.bodies q k) view
+
+  pub reached_viewed : ReachLaw → (slot : ℕ) (bs : List (Option Bounds)) (found : List ℕ) → bs ≡ bodies → found ≡ reached_in bs o slot
+      → (k : ℕ) → has_slot found k ≡ is_reached v.bodies slot k
+  reached_viewed law slot bs found eb e k =
+      ap (λ ks. has_slot ks k) (e ∙ ap (λ xs. reached_in xs o slot) eb)
+      ∙ reached o bodies fats numbers marks kept s law slot k
+      ∙ ap (λ (b : Boxes). is_reached b.bodies slot k) view
+
+  pub cost_viewed : (slot n : ℕ) (bs : List (Option Bounds)) → bs ≡ bodies → n ≡ visits_for o (get_or bs slot None) → n ≡ cost v slot
+  cost_viewed slot n bs eb e =
+      e ∙ ap (λ xs. visits_for o (get_or xs slot None)) eb ∙ ap (visits_for o) (sym (get_map bodies slot)) ∙ ap (λ (b : Boxes). cost b slot) view
+
+  -- searches of the touched slots renew the pairs
+  pub pairs_renewed : ReachLaw → RenewingLaw → (bs : List (Option Bounds)) (ms : List Bool) (slots list : List ℕ) (before found : List Pair)
+      → bs ≡ bodies → ms ≡ marks → slots ≡ sought_from ms 0 bs → list ≡ slots → before ≡ []
+      → found ≡ before ++ gathered_with (searches bs o list) → Renewed (map_of bodies) marks kept found
+  pairs_renewed law renewing bs ms slots list before found eb em es el en e =
+      let own : list ≡ marked_of marks (map_of bodies) =
+      el ∙ es ∙ ap (λ xs. sought_from ms 0 xs) eb ∙ ap (λ xs. sought_from xs 0 bodies) em ∙ marked_is marks bodies in
+      let all : List ℕ = marked_of marks (map_of bodies) in
+      let is : found ≡ gathered_with (searches bodies o all) =
+      e ∙ ap (λ xs. xs ++ gathered_with (searches bs o list)) en ∙ ap (λ xs. gathered_with (searches xs o list)) eb
+      ∙ ap (λ xs. gathered_with (searches bodies o xs)) own in
+      subst (λ ps. Renewed (map_of bodies) marks kept ps) (sym is)
+      (renewing (map_of bodies) marks kept (searches bodies o all) (all_reached o bodies fats numbers marks kept s law all)
+      (subst (λ xs. AreMarked (map_of bodies) marks xs) (sym (searched_slots bodies o all)) (are_marked marks (map_of bodies))) s.kept_are)
+
+  -- and so do lists of what they reach
+  pub lists_renewed : SoughtLaw → (slots : List ℕ) (lists : List (List ℕ)) (before found : List Pair) → slots ≡ sought v
+      → lists ≡ map (reach v.bodies) slots → before ≡ [] → found ≡ before ++ gathered_with (zip slots lists) → Renewed (map_of bodies) marks kept found
+  lists_renewed law slots lists before found es el en e =
+      let own : slots ≡ marked_of marks (map_of bodies) = es ∙ sym (ap sought view) in
+      let all : List ℕ = marked_of marks (map_of bodies) in
+      let bodies_is : v.bodies ≡ map_of bodies = sym (ap (λ (b : Boxes). b.bodies) view) in
+      let is : found ≡ gathered_with (zip all (map (reach (map_of bodies)) all)) =
+      e ∙ ap (λ xs. xs ++ gathered_with (zip slots lists)) en ∙ ap (λ ls. gathered_with (zip slots ls)) el
+      ∙ ap (λ m. gathered_with (zip slots (map (reach m) slots))) bodies_is ∙ ap (λ xs. gathered_with (zip xs (map (reach (map_of bodies)) xs))) own in
+      subst (λ ps. Renewed (map_of bodies) marks kept ps) (sym is) (law (map_of bodies) marks kept all (are_marked marks (map_of bodies)) s.kept_are)
+
+  -- after either call
+  pub sound_renewed : rises (near (map_of bodies)) ≡ true → ((p : Pair) → has_pair (near (map_of bodies)) p ≡ is_near (map_of bodies) p)
+      → (ms : List Bool) (ps : List Pair) → ms ≡ replicate (length marks) false → ps ≡ near (map_of bodies) → Sound o bodies fats numbers ms ps
+  sound_renewed rise members ms ps em ep =
+      subst (λ xs. Sound o bodies fats numbers xs ps) (sym em)
+      (subst (λ xs. Sound o bodies fats numbers (replicate (length marks) false) xs) (sym ep)
+      (sound_paired o bodies fats numbers marks kept s rise members))
+
+  pub near_viewed : (old new : List Pair) → new ≡ old ++ near (map_of bodies) → new ≡ old ++ near v.bodies
+  near_viewed old new e = e ∙ ap (λ (b : Boxes). old ++ near b.bodies) view

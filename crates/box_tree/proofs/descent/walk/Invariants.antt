@@ -1,0 +1,12 @@
+use Rattle.std.proofs.Common.{◌≡◌, ◌-◌}
+use Rattle.box_tree.specs.Descent.{Stands, visits_by_in}
+use Rattle.box_tree.proofs.descent.walk.Given as goal
+
+abbrev pub invariant-walk : goal.invariant-walk
+invariant-walk l = record {
+  stands : Stands l.nodes l.bodies l.query l.stack.items l.fn.out.items l.out.items l.count;
+  room : l.stack.capacity ≡ 32;
+}
+
+abbrev pub decreases-walk : goal.decreases-walk
+decreases-walk l = visits_by_in l.nodes l.query - l.count

@@ -1,0 +1,124 @@
+-- Serves proofs alone: what a descent with a query looks at, and what it finds.
+use Rattle.std.specs.Prelude.{◌≡◌, ℕ, false, ◌+◌, ◌<◌, ◌≤◌, List, [], ◌∷◌, ◌++◌, length, Option, None, Some, if◌then◌else◌, slice_index_or, IsTrue}
+use Rattle.fixed_box.specs.Bounds.{Bounds, encloses, hull}
+use Rattle.broad_index.specs.declared.query.Query.{Query}
+use Rattle.broad_index.specs.Found.{query_meets, found_of}
+use Rattle.broad_index.specs.Members.{meets_query}
+use Rattle.tree_nodes.specs.declared.node_view.NodeView.{NodeView}
+use Rattle.tree_nodes.specs.declared.node_view.NodeView.TheVariants.{Leaf as LeafNode, Inner}
+use Rattle.tree_nodes.specs.declared.TheConstants.{MOST_HEIGHT}
+use Rattle.tree_nodes.specs.Tree.{Tree, tip, fork, top, leaves, Leaf, height, count_of, view_of, view_at, IsTree, Balanced, Within}
+
+-- how many nodes a descent with a query looks at: it goes on below a hull that is met
+abbrev pub visits_by : Tree → Query → ℕ
+visits_by (tip n s b) q = 1
+visits_by (fork n h k l r) q = 1 + (if query_meets q h then visits_by l q + visits_by r q else 0)
+
+abbrev pub visits_by_in : Option Tree → Query → ℕ
+visits_by_in None q = 0
+visits_by_in (Some t) q = visits_by t q
+
+-- the exact box of a slot, where it has one
+abbrev pub entry_of : ℕ → Option Bounds → List (ℕ × Bounds)
+entry_of slot None = []
+entry_of slot (Some b) = (slot, b) ∷ []
+
+-- the slots of leaves with their exact boxes
+abbrev pub exact : List (Option Bounds) → List Leaf → List (ℕ × Bounds)
+exact bodies [] = []
+exact bodies (x ∷ xs) = entry_of x.slot (slice_index_or bodies x.slot None) ++ exact bodies xs
+
+abbrev pub exact_in : List (Option Bounds) → Option Tree → List (ℕ × Bounds)
+exact_in bodies None = []
+exact_in bodies (Some t) = exact bodies (leaves t)
+
+-- a leaf's slot is one of the list, and its fat box encloses its exact one
+pub record IsLeafInside (bodies : List (Option Bounds)) (slot : ℕ) (fat : Bounds) : Type 0 where
+  pub small : slot < length bodies
+  pub inside : (b : Bounds) → slice_index_or bodies slot None ≡ Some b → IsTrue (encloses fat b)
+
+-- each leaf is so
+abbrev pub IsInside : List (Option Bounds) → Tree → Type 0
+IsInside bodies (tip n s f) = IsLeafInside bodies s f
+IsInside bodies (fork n h k l r) = IsInside bodies l × IsInside bodies r
+
+abbrev pub IsInsideIn : List (Option Bounds) → Option Tree → Type 0
+IsInsideIn bodies None = Unit {0}
+IsInsideIn bodies (Some t) = IsInside bodies t
+
+abbrev pub IsNodeInside : List (Option Bounds) → NodeView → Type 0
+IsNodeInside bodies (LeafNode slot fat) = IsLeafInside bodies slot fat
+IsNodeInside bodies (Inner left right hull height) = Unit {0}
+
+-- what is known of trees and queries
+pub record Laws (q : Query) : Type 0 where
+  pub missed : (outer inner : Bounds) → IsTrue (encloses outer inner) → query_meets q outer ≡ false → query_meets q inner ≡ false
+  pub this : (a b : Bounds) → IsTrue (encloses (hull a b) a)
+  pub that : (a b : Bounds) → IsTrue (encloses (hull a b) b)
+  pub itself : (t : Tree) → Within t t
+  pub deeper : (t u v : Tree) → Within t u → Within u v → Within t v
+  pub children : (n k : ℕ) (h : Bounds) (l r : Tree) → Within (fork n h k l r) l × Within (fork n h k l r) r
+  pub within : (t u : Tree) → Within t u → Balanced t → Balanced u
+  pub shown : (t u : Tree) → Within t u → ((k : ℕ) → count_of t k ≤ 1) → view_at t (top u) ≡ Some (view_of u)
+
+-- trees that wait on a stack, the next one first
+abbrev pub all_leaves : List Tree → List Leaf
+all_leaves [] = []
+all_leaves (u ∷ us) = leaves u ++ all_leaves us
+
+abbrev pub all_visits : List Tree → Query → ℕ
+all_visits [] q = 0
+all_visits (u ∷ us) q = visits_by u q + all_visits us q
+
+-- their numbers, the next one last
+abbrev pub tops : List Tree → List ℕ
+tops [] = []
+tops (u ∷ us) = tops us ++ top u ∷ []
+
+-- The higher a waiting tree is, the fewer wait behind it.
+abbrev pub AreLow : List Tree → Type 0
+AreLow [] = Unit {0}
+AreLow (u ∷ us) = (height u + length us ≤ MOST_HEIGHT) × AreLow us
+
+abbrev pub AllWithin : Tree → List Tree → Type 0
+AllWithin t [] = Unit {0}
+AllWithin t (u ∷ us) = Within t u × AllWithin t us
+
+-- where a descent stands: what it has found, with what it will find below the waiting trees, is what is found of all
+pub record Stands (o : Option Tree) (bodies : List (Option Bounds)) (q : Query) (stack before now : List ℕ) (count : ℕ) : Type 0 where
+  pub t : Tree
+  pub us : List Tree
+  pub is : o ≡ Some t
+  pub is_tree : IsTree t
+  pub inside : IsInside bodies t
+  pub stack_is : stack ≡ tops us
+  pub low : AreLow us
+  pub within : AllWithin t us
+  pub found_is : now ++ found_of (exact bodies (all_leaves us)) q ≡ before ++ found_of (exact bodies (leaves t)) q
+  pub count_is : count + all_visits us q ≡ visits_by t q
+
+-- and where its next tree is taken from the stack
+pub record Popped (o : Option Tree) (bodies : List (Option Bounds)) (q : Query) (rest : List ℕ) (at : ℕ) (before now : List ℕ) (count : ℕ) : Type 0 where
+  pub t : Tree
+  pub u : Tree
+  pub us : List Tree
+  pub is : o ≡ Some t
+  pub is_tree : IsTree t
+  pub inside : IsInside bodies t
+  pub at_is : at ≡ top u
+  pub rest_is : rest ≡ tops us
+  pub low_here : height u + length us ≤ MOST_HEIGHT
+  pub low : AreLow us
+  pub here : Within t u
+  pub within : AllWithin t us
+  pub found_is : now ++ found_of (exact bodies (leaves u ++ all_leaves us)) q ≡ before ++ found_of (exact bodies (leaves t)) q
+  pub count_is : count + (visits_by u q + all_visits us q) ≡ visits_by t q
+
+-- what one node adds to what is found, and to the stack
+abbrev pub found_at : List (Option Bounds) → Query → NodeView → List ℕ
+found_at bodies q (LeafNode slot fat) = if meets_query q (slice_index_or bodies slot None) then slot ∷ [] else []
+found_at bodies q (Inner left right hull height) = []
+
+abbrev pub next_at : Query → NodeView → List ℕ
+next_at q (LeafNode slot fat) = []
+next_at q (Inner left right hull height) = if query_meets q hull then right ∷ left ∷ [] else []

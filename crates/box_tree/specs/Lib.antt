@@ -1,0 +1,5 @@
+pub mod Boxes
+pub mod Descent
+pub mod Searches
+pub mod SlotMap
+pub mod Ties

@@ -1,0 +1,24 @@
+-- Serves proofs alone: the searches of touched slots.
+use Rattle.std.specs.Prelude.{ℕ, Bool, false, not, ◌==◌, List, [], map, filter, Option, None, Some, slice_index_or}
+use Rattle.fixed_box.specs.Bounds.{Bounds}
+use Rattle.broad_index.specs.declared.query.Query.TheVariants.{Region}
+use Rattle.broad_index.specs.Found.{found_of}
+use Rattle.tree_nodes.specs.Tree.{Tree}
+use Rattle.box_tree.specs.Descent.{exact_in}
+use Rattle.box_tree.specs.SlotMap.{entries_from}
+
+-- the marked ones of slots that have boxes, counted from n
+abbrev pub sought_from : List Bool → ℕ → List (Option Bounds) → List ℕ
+sought_from marks n bodies = map (λ e. e.0) (filter (λ e. slice_index_or marks e.0 false) (entries_from n bodies))
+
+-- the other slots that a box meets, in the order of the leaves
+abbrev pub reached_by : List (Option Bounds) → Option Tree → ℕ → Option Bounds → List ℕ
+reached_by bodies tree slot None = []
+reached_by bodies tree slot (Some body) = filter (λ s. not (s == slot)) (found_of (exact_in bodies tree) (Region body))
+
+abbrev pub reached_in : List (Option Bounds) → Option Tree → ℕ → List ℕ
+reached_in bodies tree slot = reached_by bodies tree slot (slice_index_or bodies slot None)
+
+-- each slot with what it reaches
+abbrev pub searches : List (Option Bounds) → Option Tree → List ℕ → List (ℕ × List ℕ)
+searches bodies tree slots = map (λ s. (s, reached_in bodies tree s)) slots

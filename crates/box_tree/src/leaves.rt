@@ -1,0 +1,90 @@
+ghost use Rattle.std.specs.Prelude.{◌≡◌, ◌<◌, true, None, Some, length, is_some, slice_index_or, slice_set};
+ghost use Rattle.fixed_box.specs.declared.TheConstants.{SLOTS};
+ghost use Rattle.box_tree.specs.Ties.{Ties};
+
+use fixed_box::{FBox, SLOTS};
+use tree_nodes::{Nodes, tree_laws};
+
+// Gives a slot that has none a leaf.
+pub(crate) fn add_leaf(
+    nodes: &mut Nodes,
+    fats: &mut Vec<Option<FBox>>,
+    numbers: &mut Vec<usize>,
+    slot: u32,
+    fat: FBox,
+)
+    requires fats_len { length fats.old.items ≡ SLOTS }
+    requires numbers_len { length numbers.old.items ≡ SLOTS }
+    requires ties { Ties nodes.old fats.old.items numbers.old.items }
+    requires small { slot < SLOTS }
+    requires absent { slice_index_or fats.old.items slot None ≡ None }
+    ensures ties { Ties nodes.new fats.new.items numbers.new.items }
+    ensures fats { fats.new.items ≡ slice_set fats.old.items slot (Some fat) }
+    ensures numbers_len { length numbers.new.items ≡ length numbers.old.items }
+{
+    numbers[slot as usize] = nodes.add_leaf(slot, fat);
+    fats[slot as usize] = Some(fat);
+}
+
+// Takes the leaf of a slot away.
+pub(crate) fn drop_leaf(nodes: &mut Nodes, fats: &mut Vec<Option<FBox>>, numbers: &[usize], slot: u32)
+    requires fats_len { length fats.old.items ≡ SLOTS }
+    requires numbers_len { length numbers.now ≡ SLOTS }
+    requires ties { Ties nodes.old fats.old.items numbers.now }
+    requires small { slot < SLOTS }
+    requires present { is_some (slice_index_or fats.old.items slot None) ≡ true }
+    ensures ties { Ties nodes.new fats.new.items numbers.now }
+    ensures fats { fats.new.items ≡ slice_set fats.old.items slot None }
+{
+    tree_laws();
+    nodes.drop_leaf(numbers[slot as usize]);
+    fats[slot as usize] = None;
+}
+
+// Gives the leaf of a slot another box in its place.
+fn move_leaf(nodes: &mut Nodes, fats: &mut Vec<Option<FBox>>, numbers: &[usize], slot: u32, fat: FBox)
+    requires fats_len { length fats.old.items ≡ SLOTS }
+    requires numbers_len { length numbers.now ≡ SLOTS }
+    requires ties { Ties nodes.old fats.old.items numbers.now }
+    requires small { slot < SLOTS }
+    requires present { is_some (slice_index_or fats.old.items slot None) ≡ true }
+    ensures ties { Ties nodes.new fats.new.items numbers.now }
+    ensures fats { fats.new.items ≡ slice_set fats.old.items slot (Some fat) }
+{
+    tree_laws();
+    nodes.move_leaf(numbers[slot as usize], fat);
+    fats[slot as usize] = Some(fat);
+}
+
+// Gives the leaf of a slot another box: in its place where the new box meets the old one, and else where it fits best.
+pub(crate) fn relink(
+    nodes: &mut Nodes,
+    fats: &mut Vec<Option<FBox>>,
+    numbers: &mut Vec<usize>,
+    slot: u32,
+    fat: FBox,
+)
+    requires fats_len { length fats.old.items ≡ SLOTS }
+    requires numbers_len { length numbers.old.items ≡ SLOTS }
+    requires ties { Ties nodes.old fats.old.items numbers.old.items }
+    requires small { slot < SLOTS }
+    requires present { is_some (slice_index_or fats.old.items slot None) ≡ true }
+    ensures ties { Ties nodes.new fats.new.items numbers.new.items }
+    ensures fats { fats.new.items ≡ slice_set fats.old.items slot (Some fat) }
+    ensures numbers_len { length numbers.new.items ≡ length numbers.old.items }
+{
+    if is_near(&fats[slot as usize], &fat) {
+        move_leaf(nodes, fats, numbers, slot, fat);
+    } else {
+        drop_leaf(nodes, fats, numbers, slot);
+        add_leaf(nodes, fats, numbers, slot, fat);
+    }
+}
+
+// Whether a leaf may stay in its place, for speed alone: the new box meets the old one.
+fn is_near(old: &Option<FBox>, fat: &FBox) -> bool {
+    match old {
+        Some(old) => old.overlaps(fat),
+        None => false,
+    }
+}

@@ -1,0 +1,20 @@
+//! A broad phase over a balanced tree of fat boxes (Ericson, *Real-Time Collision Detection*, 2005, chapter 6), which
+//! keeps the pairs that it found and seeks those of touched slots alone.
+#![tactic(auto)]
+
+mod descent;
+mod leaves;
+mod moved;
+mod query_law;
+mod renewal;
+mod search;
+mod tree;
+
+pub use moved::Moved;
+pub use tree::BoxTree;
+
+/// How far a fat box reaches beyond the box that it was made for, on each side, in raw units.
+pub const MARGIN: u32 = 8_192;
+
+#[cfg(test)]
+mod tests;

@@ -1,0 +1,97 @@
+ghost use Rattle.std.specs.Prelude.{◌≡◌, ℕ, ◌≤◌, ◌++◌, not, ◌==◌, [], map, sum, filter, length, OnOk, OnErr, IfOk};
+ghost use Rattle.fixed_box.specs.declared.TheConstants.{SLOTS};
+ghost use Rattle.broad_index.specs.Members.{has_slot, is_reached};
+ghost use Rattle.broad_index.specs.Touched.{gathered_with};
+ghost use Rattle.box_tree.specs.Boxes.{raised, visits_for};
+ghost use Rattle.box_tree.specs.Descent.{IsInsideIn};
+ghost use Rattle.box_tree.specs.Searches.{sought_from, reached_in, searches};
+ghost use Rattle.std.specs.Prelude.{slice_index_or, None};
+
+use crate::descent::descend;
+use broad_index::{Pair, Query, push_ordered_pairs};
+use fixed_box::{FBox, NoMemory, SLOTS, box_laws};
+use tree_nodes::Nodes;
+
+// Appends the touched slots that are present, in rising order.
+pub(crate) fn push_sought(bodies: &[Option<FBox>], marks: &[bool], out: &mut Vec<u32>) -> Result<(), NoMemory>
+    requires bodies { length bodies.now ≡ SLOTS }
+    requires marks { length marks.now ≡ SLOTS }
+    requires empty { out.old.items ≡ [] }
+    ensures ok { OnOk result (out.new.items ≡ sought_from marks.now 0 bodies.now) }
+    ensures few { OnOk result (length out.new.items ≤ SLOTS) }
+{
+    let mut rest = bodies;
+    let mut slot = 0;
+    'slots: while let [body, more @ ..] = rest {
+        if marks[slot as usize] && body.is_some() {
+            out.push(slot)?;
+        }
+        slot += 1;
+        rest = more;
+    }
+    Ok(())
+}
+
+// Replaces `out` by the other slots whose boxes meet the one of a slot, in no order, and answers how many nodes it looked
+// at. `met` is room.
+pub(crate) fn reach(
+    nodes: &Nodes,
+    bodies: &[Option<FBox>],
+    slot: u32,
+    met: &mut Vec<u32>,
+    out: &mut Vec<u32>,
+) -> Result<u32, NoMemory>
+    requires { IsInsideIn bodies.now nodes.now }
+    ensures ok { OnOk result (out.new.items ≡ reached_in bodies.now nodes.now slot) }
+    ensures count { IfOk result (λ n. n ≡ visits_for nodes.now (slice_index_or bodies.now slot None)) }
+{
+    box_laws();
+    out.clear();
+    let Some(Some(body)) = bodies.get(slot as usize) else {
+        return Ok(0);
+    };
+    met.clear();
+    let count = descend(nodes, bodies, &Query::Region(*body), met)?;
+    push_others(slot, met, out)?;
+    Ok(count)
+}
+
+// Appends all slots but one.
+fn push_others(slot: u32, met: &[u32], out: &mut Vec<u32>) -> Result<(), NoMemory>
+    ensures { OnOk result (out.new.items ≡ out.old.items ++ filter (λ s. not (s == slot)) met.now) }
+{
+    let mut rest = met;
+    'met: while let [other, more @ ..] = rest {
+        if *other != slot {
+            out.push(*other)?;
+        }
+        rest = more;
+    }
+    Ok(())
+}
+
+// Appends the pairs of some slots with what each of them reaches, and answers a number raised by how many nodes it looked
+// at. `met` and `reached` are room.
+pub(crate) fn search_all(
+    nodes: &Nodes,
+    bodies: &[Option<FBox>],
+    slots: &[u32],
+    looked: u64,
+    met: &mut Vec<u32>,
+    reached: &mut Vec<u32>,
+    found: &mut Vec<Pair>,
+) -> Result<u64, NoMemory>
+    requires { IsInsideIn bodies.now nodes.now }
+    ensures ok { OnOk result (found.new.items ≡ found.old.items ++ gathered_with (searches bodies.now nodes.now slots.now)) }
+    ensures count { IfOk result (λ n. n ≡ raised looked (sum (map (λ s. visits_for nodes.now (slice_index_or bodies.now s None)) slots.now))) }
+{
+    let mut rest = slots;
+    let mut number = looked;
+    'slots: while let Some((slot, more)) = rest.split_first() {
+        let count = reach(nodes, bodies, *slot, met, reached)?;
+        push_ordered_pairs(*slot, reached, found)?;
+        number = number.saturating_add(u64::from(count));
+        rest = more;
+    }
+    Ok(number)
+}

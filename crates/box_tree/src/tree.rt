@@ -1,0 +1,296 @@
+ghost use Rattle.std.specs.Prelude.{◌≡◌, ◌↔◌, ℕ, ◌≤◌, ◌<◌, true, false, None, Some, Ok, IfOk, IfSome, IsTrue, length, map as mapped, slice_index_or, slice_set, refl};
+ghost use Rattle.std.specs.FinMap as map;
+ghost use Rattle.fixed_box.specs.Bounds.{Bounds, encloses, fattened};
+ghost use Rattle.broad_index.specs.Fresh.{IsFresh};
+ghost use Rattle.broad_index.specs.Held.{Holds};
+ghost use Rattle.tree_nodes.specs.Tree.{height_in, leaves_in, IsTreeIn};
+ghost use Rattle.box_tree.specs.Boxes.{no_boxes as outset, shifted, told, fat_entry, is_inside, cost, sought, searched};
+
+use crate::descent::descend;
+use crate::leaves::{add_leaf, drop_leaf, relink};
+use crate::renewal::{Room, renew};
+use crate::search::{push_sought, reach, search_all};
+use crate::{MARGIN, Moved};
+use broad_index::{
+    BroadPhase, Pair, Query, holding_laws, keeping_laws, member_laws, push_gathered_with, push_rising_slots,
+};
+use fixed_box::{FBox, NoMemory, SLOTS};
+use slot_search::Seeker;
+use std::alloc::Global;
+use std::marker::Model;
+use tree_nodes::{MOST_HEIGHT, Nodes};
+
+/// Moving boxes under slots, in a balanced tree of fat boxes that keeps the pairs it found.
+///
+/// A leaf's fat box is the box with a margin of [`MARGIN`] around it. A box that moves inside it changes nothing of the
+/// tree. Each slot that comes, moves or goes is touched, and `pairs` seeks for touched slots alone, by one descent each:
+/// the pairs of the others are kept from the last call. So a frame costs the moved boxes and the pairs.
+///
+/// Only `new`, `pairs`, `pairs_with` and `hits` take memory. The structure is never spent.
+#[derive(Drop)]
+pub struct BoxTree {
+    nodes: Nodes,
+    // Of each slot that is present: its box, its fat box, and the number of its leaf.
+    bodies: Vec<Option<FBox>>,
+    fats: Vec<Option<FBox>>,
+    numbers: Vec<usize>,
+    // Which slots are touched.
+    marks: Vec<bool>,
+    // The pairs that were found last. Those with a touched slot may be wrong by now.
+    kept: Vec<Pair>,
+    looked: u64,
+    room: Room,
+}
+
+impl Model for BoxTree {
+    ghost use Rattle.box_tree.specs.Boxes.{Boxes, coded_boxes};
+    ghost use Rattle.box_tree.specs.SlotMap.{map_of};
+    ghost use Rattle.box_tree.specs.Ties.{Sound};
+
+    ghost Value = { Boxes };
+
+    ghost coded = { coded_boxes };
+
+    ghost view = { λ t. record { bodies = map_of t.bodies.items; fats = map_of t.fats.items; tree = t.nodes; touched = t.marks.items; looked = t.looked } };
+
+    ghost invariant = { λ t. Sound t.nodes t.bodies.items t.fats.items t.numbers.items t.marks.items t.kept.items };
+}
+
+impl BoxTree {
+    /// No box, with room for all that there may be.
+    pub fn new(alloc: Global) -> Result<BoxTree, NoMemory>
+        ensures fresh { IfOk result (λ tree. IsFresh tree.bodies false 0) }
+        ensures none { IfOk result (λ tree. tree ≡ outset) }
+    {
+        Ok(BoxTree {
+            nodes: Nodes::new(alloc)?,
+            bodies: no_boxes(alloc)?,
+            fats: no_boxes(alloc)?,
+            numbers: vec![in alloc; 0; SLOTS as usize]?,
+            marks: vec![in alloc; false; SLOTS as usize]?,
+            kept: Vec::new(alloc),
+            looked: 0,
+            room: Room::new(alloc),
+        })
+    }
+
+    /// Does what `shift` does, and tells whether the slot has another fat box: exactly where the new box isn't inside the
+    /// old one.
+    pub fn shift_told(&mut self, slot: u32, body: FBox) -> Moved
+        requires present { map.contains_key self.old.bodies slot ≡ true }
+        ensures told { result ≡ told self.old.fats slot body }
+        ensures bodies { self.new.bodies ≡ map.insert self.old.bodies slot body }
+        ensures fats { self.new.fats ≡ shifted self.old.fats slot body }
+        ensures touched { self.new.touched ≡ slice_set self.old.touched slot true }
+        ensures looked { self.new.looked ≡ self.old.looked }
+    {
+        keeping_laws();
+        let at = slot as usize;
+        self.bodies[at] = Some(body);
+        self.marks[at] = true;
+        if is_inside(&self.fats[at], &body) {
+            return Moved::Inside;
+        }
+        relink(&mut self.nodes, &mut self.fats, &mut self.numbers, slot, body.fatten(MARGIN));
+        Moved::Relinked
+    }
+
+    /// The fat box of a slot, and `None` exactly where the slot is absent.
+    pub fn fat_of(&self, slot: u32) -> Option<FBox>
+        ensures fat { result ≡ map.get self.now.fats slot }
+        ensures none { (result ≡ None) ↔ (map.contains_key self.now.bodies slot ≡ false) }
+        ensures inside { (body : Bounds) → map.get self.now.bodies slot ≡ Some body → IfSome result (λ fat. IsTrue (encloses fat body)) }
+    {
+        let slot = slot as usize;
+        if slot < self.fats.len() { self.fats[slot] } else { None }
+    }
+
+    /// The kept tree. Its leaves have exactly the present slots, each with its fat box.
+    pub fn nodes(&self) -> &Nodes
+        ensures value { result.now ≡ self.now.tree }
+        ensures tree { IsTreeIn self.now.tree }
+        ensures leaves { Holds self.now.fats (mapped fat_entry (leaves_in self.now.tree)) }
+        ensures present { (slot : ℕ) → map.contains_key self.now.fats slot ≡ map.contains_key self.now.bodies slot }
+    {
+        &self.nodes
+    }
+
+    /// The height of the tree, at most 18.
+    pub fn height(&self) -> u8
+        ensures value { result ≡ height_in self.now.tree }
+        ensures most { result ≤ MOST_HEIGHT }
+    {
+        self.nodes.height()
+    }
+
+    /// How many nodes `pairs` and `pairs_with` have looked at. It stops at its greatest value.
+    pub fn looked(&self) -> u64
+        ensures value { result ≡ self.now.looked }
+        ensures marks { length self.now.touched ≡ SLOTS }
+    {
+        self.looked
+    }
+}
+
+impl BroadPhase for BoxTree {
+    const COUNTS: bool = false;
+
+    ghost bodies = { λ tree. tree.bodies };
+
+    ghost spent = { λ _. false };
+
+    ghost COUNTS = { false };
+
+    ghost exchanges = { λ _. 0 };
+
+    ghost paired = { λ old new. new ≡ searched old };
+
+    ghost sought = { λ tree. sought tree };
+
+    ghost costs = { λ tree. Some (cost tree) };
+
+    type Shared = BoxTree;
+
+    ghost uncounted = { λ _ _. refl };
+
+    fn add(&mut self, slot: u32, body: FBox) -> Result<(), NoMemory>
+        requires small { slot < SLOTS }
+        requires absent { map.contains_key self.old.bodies slot ≡ false }
+        // It takes no memory.
+        ensures answer { result ≡ Ok tt }
+        ensures bodies { self.new.bodies ≡ map.insert self.old.bodies slot body }
+        ensures fats { self.new.fats ≡ map.insert self.old.fats slot (fattened body MARGIN) }
+        ensures touched { self.new.touched ≡ slice_set self.old.touched slot true }
+        ensures looked { self.new.looked ≡ self.old.looked }
+    {
+        keeping_laws();
+        let at = slot as usize;
+        self.bodies[at] = Some(body);
+        self.marks[at] = true;
+        add_leaf(&mut self.nodes, &mut self.fats, &mut self.numbers, slot, body.fatten(MARGIN));
+        Ok(())
+    }
+
+    fn shift(&mut self, slot: u32, body: FBox) -> Result<(), NoMemory>
+        requires present { map.contains_key self.old.bodies slot ≡ true }
+        // It takes no memory.
+        ensures answer { result ≡ Ok tt }
+        ensures bodies { self.new.bodies ≡ map.insert self.old.bodies slot body }
+        ensures fats { self.new.fats ≡ shifted self.old.fats slot body }
+        ensures touched { self.new.touched ≡ slice_set self.old.touched slot true }
+        ensures looked { self.new.looked ≡ self.old.looked }
+    {
+        self.shift_told(slot, body);
+        Ok(())
+    }
+
+    fn leave(&mut self, slot: u32)
+        requires present { map.contains_key self.old.bodies slot ≡ true }
+        ensures gone { self.new.bodies ≡ map.remove self.old.bodies slot }
+        ensures fats { self.new.fats ≡ map.remove self.old.fats slot }
+        ensures touched { self.new.touched ≡ slice_set self.old.touched slot true }
+        ensures looked { self.new.looked ≡ self.old.looked }
+    {
+        keeping_laws();
+        let at = slot as usize;
+        self.bodies[at] = None;
+        self.marks[at] = true;
+        drop_leaf(&mut self.nodes, &mut self.fats, &self.numbers, slot);
+    }
+
+    fn pairs(&mut self, out: &mut Vec<Pair>) -> Result<(), NoMemory> {
+        member_laws();
+        holding_laws();
+        keeping_laws();
+        self.room.slots.clear();
+        push_sought(&self.bodies, &self.marks, &mut self.room.slots)?;
+        self.room.found.clear();
+        let looked = search_all(
+            &self.nodes,
+            &self.bodies,
+            &self.room.slots,
+            self.looked,
+            &mut self.room.met,
+            &mut self.room.reached,
+            &mut self.room.found,
+        )?;
+        renew(&mut self.kept, &mut self.marks, &mut self.room, out)?;
+        self.looked = looked;
+        Ok(())
+    }
+
+    fn hits(&self, query: &Query, out: &mut Vec<u32>) -> Result<(), NoMemory> {
+        holding_laws();
+        let mut met = Vec::new(*out.allocator());
+        descend(&self.nodes, &self.bodies, query, &mut met)?;
+        push_rising_slots(&mut met, out)
+    }
+
+    fn exchanges(&self) -> u64 {
+        0
+    }
+
+    fn clear_exchanges(&mut self)
+        ensures { self.new ≡ self.old }
+    {}
+
+    fn share(&self, alloc: Global) -> Result<Option<(&BoxTree, Vec<u32>)>, NoMemory> {
+        let mut slots = Vec::new(alloc);
+        push_sought(&self.bodies, &self.marks, &mut slots)?;
+        Ok(Some((self, slots)))
+    }
+
+    fn merge(
+        &mut self,
+        slots: &[u32],
+        lists: &[Vec<u32>],
+        cost: u64,
+        out: &mut Vec<Pair>,
+    ) -> Result<(), NoMemory> {
+        member_laws();
+        keeping_laws();
+        self.room.found.clear();
+        push_gathered_with(slots, lists, &mut self.room.found)?;
+        renew(&mut self.kept, &mut self.marks, &mut self.room, out)?;
+        self.looked = self.looked.saturating_add(cost);
+        Ok(())
+    }
+}
+
+impl Seeker for BoxTree {
+    ghost bodies = { λ tree. tree.bodies };
+
+    ghost costs = { λ tree. Some (cost tree) };
+
+    fn seek(&self, slot: u32, out: &mut Vec<u32>) -> Result<u32, NoMemory> {
+        holding_laws();
+        let alloc = *out.allocator();
+        let mut met = Vec::new(alloc);
+        let mut reached = Vec::new(alloc);
+        let count = reach(&self.nodes, &self.bodies, slot, &mut met, &mut reached)?;
+        push_rising_slots(&mut reached, out)?;
+        Ok(count)
+    }
+}
+
+// No slot has a box.
+fn no_boxes(alloc: Global) -> Result<Vec<Option<FBox>>, NoMemory>
+    ensures len { IfOk result (λ boxes. length boxes.items ≡ SLOTS) }
+    ensures none { IfOk result (λ boxes. (k : ℕ) → slice_index_or boxes.items k None ≡ None) }
+{
+    let mut boxes = Vec::with_capacity(alloc, SLOTS as usize)?;
+    'boxes: for _slot in 0..SLOTS {
+        boxes.push(None)?;
+    }
+    Ok(boxes)
+}
+
+// Whether a fat box is there and encloses a box.
+fn is_inside(fat: &Option<FBox>, body: &FBox) -> bool
+    ensures { result ≡ is_inside fat.now body.now }
+{
+    match fat {
+        Some(fat) => fat.holds_box(body),
+        None => false,
+    }
+}
