@@ -1,0 +1,6 @@
+mod CellLemmas
+mod GridLemmas
+mod HitLemmas
+mod MapLemmas
+mod PairLemmas
+mod SlotLemmas
