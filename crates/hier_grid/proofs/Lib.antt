@@ -1,3 +1,4 @@
+mod BoxLemmas
 mod CellLemmas
 mod GridLemmas
 mod HitLemmas

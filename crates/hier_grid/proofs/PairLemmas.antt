@@ -15,12 +15,12 @@ use Rattle.hier_grid.specs.Search.{meets_at, is_partner, partnered, IsSound, Has
 use Rattle.hier_grid.proofs.GridLemmas.{low_level}
 use Rattle.hier_grid.proofs.SlotLemmas.{has_filtered}
 
-is_same : (p q : Pair) → same_pair p q ≡ true → p ≡ q
-is_same p q h =
+same_means : (p q : Pair) → same_pair p q ≡ true → p ≡ q
+same_means p q h =
     let parts = and_parts (p.a == q.a) (p.b == q.b) h in
     let a : p.a ≡ q.a = (let e = parts.0 in grind (arith, nat_tests)) in
     let b : p.b ≡ q.b = (let e = parts.1 in grind (arith, nat_tests)) in
-    cc
+    ap (λ x. record { a = x; b = p.b }) a ∙ ap (λ x. record { a = q.a; b = x }) b
 
 self_same : (p : Pair) → same_pair p p ≡ true
 self_same p =
@@ -71,7 +71,7 @@ sound_each bodies slot [] h p i = absurd (false≢true i)
 sound_each bodies slot (x ∷ xs) h p i = elim (or_cases (same_pair p (ordered slot x)) (has_pair (map (ordered slot) xs) p) i) as (λ _. is_near bodies p ≡ true) [
   | inl e ↦
       let here : (x == x) ≡ true = grind (arith, nat_tests) in
-      ap (is_near bodies) (is_same p (ordered slot x) e) ∙ h x (or_left (x == x) (has_slot xs x) here)
+      ap (is_near bodies) (same_means p (ordered slot x) e) ∙ h x (or_left (x == x) (has_slot xs x) here)
   | inr e ↦ sound_each bodies slot xs (λ q j. h q (ap (λ b. (q == x) || b) j ∙ or_true (q == x))) p e
 ]
 
@@ -163,3 +163,9 @@ all_found bodies found s c p = same_bool (has_pair found p) (is_near bodies p) (
 
     not_turned : (a b : ℕ) → nat_lt a b ≡ true → not (b == a) ≡ true
     not_turned a b lt = grind (arith, nat_tests)
+
+-- a partner's box meets the body
+pub partner_met : (bodies : FinMap nat_cmp Bounds) (slot : ℕ) (body : Bounds) (higher : Bool) (q : ℕ) (b : Bounds) → get bodies q ≡ Some b
+    → is_partner bodies slot body higher q ≡ true → meets body b ≡ true
+partner_met bodies slot body higher q b e t =
+    ap (both_meet (Some body)) (sym e) ∙ (and_parts (not (q == slot) && (higher || nat_lt slot q)) (meets_at bodies body q) t).1

@@ -1,17 +1,17 @@
 ghost use Rattle.std.specs.Prelude.{◌≡◌, ◌<◌, ◌++◌, true, Some, OnOk, OnErr, filter};
 ghost use Rattle.std.specs.FinMap as map;
-ghost use Rattle.fixed_box.specs.Bounds.{Bounds, meets};
+ghost use Rattle.fixed_box.specs.Bounds.{Bounds, meets, holds};
 ghost use Rattle.broad_index.specs.Found.{found, query_meets};
 ghost use Rattle.broad_index.specs.Members.{is_found};
 ghost use Rattle.slot_search.specs.Reach.{reach};
 ghost use Rattle.hier_grid.specs.Search.{HasMetBelow};
 
 use crate::kept_boxes::KeptBoxes;
-use crate::leveled_boxes::LeveledBoxes;
+use crate::slot_boxes::SlotBoxes;
 use crate::partners::push_partners;
 use broad_index::{Query, push_rising_slots};
 use cell_table::LEVELS;
-use fixed_box::{FBox, NoMemory};
+use fixed_box::{FBox, NoMemory, Point, box_laws};
 use std::alloc::Global;
 
 /// Appends the present slots whose boxes meet a query, rising. A ray and a segment test each box. After an `Err` `out` is
@@ -27,12 +27,17 @@ pub(crate) fn push_hits(
 {
     match query {
         Query::Region(region) => push_near(kept, alloc, query, region, out),
-        Query::Spot(at) => match FBox::new(*at, *at) {
-            Some(spot) => push_near(kept, alloc, query, &spot, out),
-            None => kept.boxes().push_found(query, out),
-        },
+        Query::Spot(at) => push_near(kept, alloc, query, &flat_box(at), out),
         Query::Along(_) | Query::Between(_) => kept.boxes().push_found(query, out),
     }
+}
+
+// The flat box at a point: what holds the point meets it.
+fn flat_box(at: &Point) -> FBox
+    ensures { (b : Bounds) → holds b at.now ≡ true → meets result b ≡ true }
+{
+    box_laws();
+    FBox::new(*at, *at).unwrap()
 }
 
 // The same, of a query that only boxes meet which meet a region.
@@ -56,7 +61,7 @@ fn push_near(
 
 // Appends those of some slots whose boxes meet a query.
 fn push_found(
-    boxes: &LeveledBoxes,
+    boxes: &SlotBoxes,
     query: &Query,
     slots: &[u32],
     out: &mut Vec<u32>,

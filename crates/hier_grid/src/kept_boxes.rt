@@ -4,7 +4,7 @@ ghost use Rattle.hier_grid.specs.Grid.{AreKeyed};
 ghost use Rattle.hier_grid.specs.Search.{HasMet, HasMore};
 
 use crate::cell::cell_of;
-use crate::leveled_boxes::LeveledBoxes;
+use crate::slot_boxes::SlotBoxes;
 use crate::near_cells::{count_beside, push_beside};
 use cell_table::{CellKey, CellTable, LEVELS};
 use fixed_box::{FBox, NoMemory, SLOTS};
@@ -14,7 +14,7 @@ use std::marker::Model;
 /// The boxes under their slots, each in the cell of its level, seen as a map from slot to box.
 #[derive(Drop)]
 pub(crate) struct KeptBoxes {
-    boxes: LeveledBoxes,
+    boxes: SlotBoxes,
     cells: CellTable,
 }
 
@@ -40,13 +40,13 @@ impl KeptBoxes {
         ensures { IfOk result (λ kept. kept ≡ map.empty) }
     {
         Ok(KeptBoxes {
-            boxes: LeveledBoxes::new(alloc)?,
+            boxes: SlotBoxes::new(alloc)?,
             cells: CellTable::new(alloc)?,
         })
     }
 
     /// The boxes.
-    pub(crate) fn boxes(&self) -> &LeveledBoxes
+    pub(crate) fn boxes(&self) -> &SlotBoxes
         ensures { result.now ≡ self.now }
     {
         &self.boxes
@@ -107,9 +107,44 @@ impl KeptBoxes {
         }
         if count_beside(level, region) > u64::from(some) {
             *looked = looked.saturating_add(u64::from(some));
-            self.boxes.scan(level, region, out)?;
+            self.scan(level, region, out)
         } else {
-            push_beside(&self.cells, level, region, out)?;
+            self.push_from_cells(level, region, out)
+        }
+    }
+
+    // Appends the slots of a level in cells beside a region.
+    fn push_from_cells(
+        &self,
+        level: u8,
+        region: &FBox,
+        out: &mut Vec<u32>,
+    ) -> Result<(), NoMemory>
+        requires { level < LEVELS }
+        ensures more { OnOk result (HasMore out.old.items out.new.items) }
+        ensures found { OnOk result (HasMet self.now level region.now out.new.items) }
+    {
+        push_beside(&self.cells, level, region, out)?;
+        Ok(())
+    }
+
+    /// Appends the slots of a level whose boxes meet a region.
+    pub(crate) fn scan(
+        &self,
+        level: u8,
+        region: &FBox,
+        out: &mut Vec<u32>,
+    ) -> Result<(), NoMemory>
+        requires { level < LEVELS }
+        ensures more { OnOk result (HasMore out.old.items out.new.items) }
+        ensures found { OnOk result (HasMet self.now level region.now out.new.items) }
+    {
+        'slots: for slot in 0..SLOTS {
+            if let Some(body) = self.boxes.box_of(slot) {
+                if body.level() == level && region.overlaps(&body) {
+                    out.push(slot)?;
+                }
+            }
         }
         Ok(())
     }

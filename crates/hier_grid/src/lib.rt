@@ -6,7 +6,7 @@ mod cell;
 mod grid;
 mod hits;
 mod kept_boxes;
-mod leveled_boxes;
+mod slot_boxes;
 mod near_cells;
 mod pair_search;
 mod partners;

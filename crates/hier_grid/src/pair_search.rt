@@ -113,5 +113,6 @@ fn find_at(
         looked,
         &mut found.partners,
     )?;
-    push_ordered_pairs(slot, &found.partners, &mut found.pairs)
+    push_ordered_pairs(slot, &found.partners, &mut found.pairs)?;
+    Ok(())
 }

@@ -1,12 +1,12 @@
 ghost use Rattle.std.specs.Prelude.{◌≡◌, ◌++◌, filter, OnOk};
 ghost use Rattle.hier_grid.specs.Search.{is_partner};
 
-use crate::leveled_boxes::LeveledBoxes;
+use crate::slot_boxes::SlotBoxes;
 use fixed_box::{FBox, NoMemory};
 
 /// Appends a slot's partners among others, each of which is compared, and counted, if its slot may be a partner's.
 pub(crate) fn push_partners(
-    boxes: &LeveledBoxes,
+    boxes: &SlotBoxes,
     slot: u32,
     body: &FBox,
     higher: bool,
@@ -28,7 +28,7 @@ pub(crate) fn push_partners(
 
 // Whether another slot is a partner.
 fn is_partner(
-    boxes: &LeveledBoxes,
+    boxes: &SlotBoxes,
     slot: u32,
     body: &FBox,
     higher: bool,

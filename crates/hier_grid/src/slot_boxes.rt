@@ -1,24 +1,23 @@
 ghost use Rattle.std.specs.Prelude.{◌≡◌, ℕ, ◌<◌, ◌≤◌, ◌++◌, true, false, None, IfOk, OnOk, OnErr, length, take, vec_len};
-ghost use Rattle.std.specs.Prelude.{map as mapped, slice_index_or};
+ghost use Rattle.std.specs.Prelude.{All, map as mapped, slice_index_or};
 ghost use Rattle.std.specs.FinMap as map;
 ghost use Rattle.broad_index.specs.Found.{found, found_of};
 ghost use Rattle.broad_index.specs.Members.{is_found, meets_query};
 ghost use Rattle.cell_table.specs.SlotMap.{entries_from};
-ghost use Rattle.hier_grid.specs.Search.{HasMet, HasMore, meets_at, present};
+ghost use Rattle.hier_grid.specs.Search.{meets_at, present};
 
 use broad_index::Query;
-use cell_table::LEVELS;
 use fixed_box::{FBox, NoMemory, SLOTS};
 use std::alloc::Global;
 use std::marker::Model;
 
-/// The exact boxes under their slots.
+/// The exact boxes by their slots, seen as a map from slot to box.
 #[derive(Drop)]
-pub(crate) struct LeveledBoxes {
+pub(crate) struct SlotBoxes {
     boxes: Vec<Option<FBox>>,
 }
 
-impl Model for LeveledBoxes {
+impl Model for SlotBoxes {
     ghost use Rattle.std.specs.Prelude.{◌≡◌, length};
     ghost use Rattle.std.specs.Ordering.{nat_cmp};
     ghost use Rattle.std.specs.Coded.{coded_ℕ};
@@ -31,17 +30,17 @@ impl Model for LeveledBoxes {
 
     ghost coded = { code coded_ℕ coded_bounds };
 
-    ghost view = { λ l. map_of l.boxes.items };
+    ghost view = { λ b. map_of b.boxes.items };
 
-    ghost invariant = { λ l. length l.boxes.items ≡ SLOTS };
+    ghost invariant = { λ b. length b.boxes.items ≡ SLOTS };
 }
 
-impl LeveledBoxes {
+impl SlotBoxes {
     /// No box, with the memory for all slots.
-    pub(crate) fn new(alloc: Global) -> Result<LeveledBoxes, NoMemory>
+    pub(crate) fn new(alloc: Global) -> Result<SlotBoxes, NoMemory>
         ensures { IfOk result (λ boxes. boxes ≡ map.empty) }
     {
-        Ok(LeveledBoxes {
+        Ok(SlotBoxes {
             boxes: no_boxes(alloc)?,
         })
     }
@@ -103,27 +102,6 @@ impl LeveledBoxes {
         self.boxes[slot as usize] = None;
     }
 
-    /// Appends the slots of a level whose boxes meet a region.
-    pub(crate) fn scan(
-        &self,
-        level: u8,
-        region: &FBox,
-        out: &mut Vec<u32>,
-    ) -> Result<(), NoMemory>
-        requires { level < LEVELS }
-        ensures more { OnOk result (HasMore out.old.items out.new.items) }
-        ensures found { OnOk result (HasMet self.now level region.now out.new.items) }
-    {
-        'slots: for slot in 0..SLOTS {
-            if let Some(body) = self.boxes[slot as usize] {
-                if body.level() == level && region.overlaps(&body) {
-                    out.push(slot)?;
-                }
-            }
-        }
-        Ok(())
-    }
-
     /// Appends the present slots whose boxes meet a query, rising. It tests each box. After an `Err` `out` is as before.
     pub(crate) fn push_found(&self, query: &Query, out: &mut Vec<u32>) -> Result<(), NoMemory>
         ensures ok { OnOk result (out.new.items ≡ out.old.items ++ found self.now query.now) }
@@ -141,10 +119,9 @@ impl LeveledBoxes {
     pub(crate) fn present(&self, alloc: Global) -> Result<Vec<u32>, NoMemory>
         ensures slots { IfOk result (λ slots. slots.items ≡ present self.now) }
         ensures few { IfOk result (λ slots. length slots.items ≤ SLOTS) }
+        ensures present { IfOk result (λ slots. All (λ slot. map.contains_key self.now slot ≡ true) slots.items) }
     {
-        let mut slots = Vec::with_capacity(alloc, SLOTS as usize)?;
-        push_present(&self.boxes, &mut slots)?;
-        Ok(slots)
+        present_slots(alloc, &self.boxes)
     }
 }
 
@@ -191,19 +168,21 @@ fn is_met(body: &Option<FBox>, query: &Query) -> bool
     }
 }
 
-// Appends the slots that have boxes.
-fn push_present(boxes: &[Option<FBox>], out: &mut Vec<u32>) -> Result<(), NoMemory>
+// The slots that have boxes.
+fn present_slots(alloc: Global, boxes: &[Option<FBox>]) -> Result<Vec<u32>, NoMemory>
     requires { length boxes.now ≡ SLOTS }
-    ensures { OnOk result (out.new.items ≡ out.old.items ++ mapped (λ e. e.0) (entries_from 0 boxes.now)) }
+    ensures slots { IfOk result (λ slots. slots.items ≡ mapped (λ e. e.0) (entries_from 0 boxes.now)) }
+    ensures few { IfOk result (λ slots. length slots.items ≤ SLOTS) }
 {
+    let mut slots = Vec::with_capacity(alloc, SLOTS as usize)?;
     let mut rest = boxes;
     let mut slot = 0;
     'slots: while let [body, more @ ..] = rest {
         if body.is_some() {
-            out.push(slot)?;
+            slots.push(slot)?;
         }
         slot += 1;
         rest = more;
     }
-    Ok(())
+    Ok(slots)
 }
