@@ -29,9 +29,9 @@ present_within boxes now s is h = some_within boxes s (ap is_some (sym (get_map 
 -- the slots among a list's entries have boxes
 entry_some : (n : ℕ) (boxes : List (Option Bounds)) (p : ℕ → Bool) → ((k : ℕ) → is_some (get_or boxes k None) ≡ true → p (n + k) ≡ true)
     → All (λ s. p s ≡ true) (map (λ (e : ℕ × Bounds). e.0) (entries_from n boxes))
-entry_some n [] p h i d l = absurd (omega arith)
+entry_some n [] p h = λ i d l. absurd (omega arith)
 entry_some n (None ∷ xs) p h = entry_some (n + 1) xs p (λ k s. let e : n + suc k ≡ (n + 1) + k = omega arith in ap p (sym e) ∙ h (suc k) s)
-entry_some n (Some v ∷ xs) p h i d l =
+entry_some n (Some v ∷ xs) p h = λ i d l.
     (elim i as (λ i. i < length (n ∷ map (λ (e : ℕ × Bounds). e.0) (entries_from (n + 1) xs)) → p (get_or (n ∷ map (λ (e : ℕ × Bounds). e.0) (entries_from (n + 1) xs)) i d) ≡ true) [
       | zero ↦ λ _. let e : n ≡ n + 0 = omega arith in ap p e ∙ h 0 refl
       | suc j ↦ λ l. entry_some (n + 1) xs p (λ k s. let e : n + suc k ≡ (n + 1) + k = omega arith in ap p (sym e) ∙ h (suc k) s) j d (omega arith)

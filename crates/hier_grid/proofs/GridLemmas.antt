@@ -25,10 +25,10 @@ low_find p n (suc m) h = elim (p n) as (λ b. unwrap_or (cond b (Some n) (find p
 pub low_level : (b : Bounds) → level_of b < 11
 low_level b = low_find (λ level. nat_lt (longest_side b) (cell_side level)) 0 11 (omega arith)
 
-some_is : {x y : Bounds} → ◌≡◌ {A = Option Bounds} (Some x) (Some y) → x ≡ y
+pub some_is : {x y : Bounds} → ◌≡◌ {A = Option Bounds} (Some x) (Some y) → x ≡ y
 some_is e = cc
 
-none_some : (x : Bounds) → ◌≡◌ {A = Option Bounds} None (Some x) → ⊥
+pub none_some : (x : Bounds) → ◌≡◌ {A = Option Bounds} None (Some x) → ⊥
 none_some x e = true≢false (ap is_some (sym e))
 
 pub grid_put : (bodies : FinMap nat_cmp Bounds) (cells : FinMap nat_cmp CellKey) (s : ℕ) (b : Bounds) → IsGrid bodies cells → IsSized b

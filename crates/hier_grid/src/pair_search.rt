@@ -8,7 +8,7 @@ use crate::kept_boxes::KeptBoxes;
 use crate::partners::push_partners;
 use broad_index::{Pair, push_ordered_pairs};
 use cell_table::LEVELS;
-use fixed_box::{FBox, NoMemory, SLOTS};
+use fixed_box::{FBox, NoMemory};
 use std::alloc::Global;
 
 /// The pairs that were found, in any order, and room for the searches of slots.
@@ -39,7 +39,7 @@ pub(crate) fn find_pairs(
     ensures { OnOk result ((p : pair.Pair) → has_pair found.new.pairs.items p ≡ is_near kept.now p) }
 {
     found.pairs.clear();
-    'slots: for slot in 0..SLOTS {
+    'slots: for slot in 0..kept.boxes().end() {
         find_for(kept, slot, looked, found)?;
     }
     Ok(())
@@ -57,10 +57,11 @@ fn find_for(
     ensures more { OnOk result (HasPairs found.old.pairs.items found.new.pairs.items) }
     ensures found { OnOk result (FindsFor kept.now slot found.new.pairs.items) }
 {
-    match kept.boxes().box_of(slot) {
-        Some(body) => find_from(kept, slot, &body, looked, found),
-        None => Ok(()),
-    }
+    let Some(body) = kept.boxes().box_of(slot) else {
+        return Ok(());
+    };
+    find_from(kept, slot, &body, looked, found)?;
+    Ok(())
 }
 
 // Finds the pairs of a slot with its partners, at the level of its box and at those above it.

@@ -45,6 +45,13 @@ impl SlotBoxes {
         })
     }
 
+    /// A number above all present slots.
+    pub(crate) fn end(&self) -> u32
+        ensures { (slot : ℕ) → map.contains_key self.now slot ≡ true → slot < result }
+    {
+        self.boxes.len() as u32
+    }
+
     /// The box of a slot.
     pub(crate) fn box_of(&self, slot: u32) -> Option<FBox>
         ensures { result ≡ map.get self.now slot }
@@ -121,7 +128,8 @@ impl SlotBoxes {
         ensures few { IfOk result (λ slots. length slots.items ≤ SLOTS) }
         ensures present { IfOk result (λ slots. All (λ slot. map.contains_key self.now slot ≡ true) slots.items) }
     {
-        present_slots(alloc, &self.boxes)
+        let slots = present_slots(alloc, &self.boxes)?;
+        Ok(slots)
     }
 }
 

@@ -1,5 +1,5 @@
 -- A partner of this level, or of a lower one.
-use Rattle.std.proofs.Common.{◌≡◌, sym, true, subst, inl, inr, nat_lt}
+use Rattle.std.proofs.Common.{◌≡◌, sym, true, subst, inl, inr, nat_lt, arith}
 use Rattle.fixed_box.specs.Bounds.{level_of}
 use Rattle.broad_index.specs.Members.{has_pair}
 use Rattle.broad_index.specs.Touched.{ordered}
@@ -19,3 +19,6 @@ levels-preserved c = record {
         c.level-own.ensures.value c.in_ok-find_at.ensures.found) q b e at t
   ];
 }
+
+pub returns-clause-found : goal.returns-clause-found
+returns-clause-found c level lo lt = c.levels.invariant.found level lo (omega (arith, c.levels-test.false))
