@@ -1,0 +1,5 @@
+pub mod Beside
+pub mod BoxLists
+pub mod Crossing
+pub mod Masks
+pub mod SpanLists

@@ -18,9 +18,17 @@ spans_of los his = zip2 (λ lo hi. record { lo = lo; hi = hi }) los his
 abbrev pub box_of : Span → Span → Span → Bounds
 box_of x y z = record { lo = record { x = x.lo; y = y.lo; z = z.lo }; hi = record { x = x.hi; y = y.hi; z = z.hi } }
 
+-- the same, of an interval and a pair of them
+abbrev pub box_with : Span → Span × Span → Bounds
+box_with x t = box_of x t.0 t.1
+
+-- two axes side by side
+abbrev pub pairs_of : List Span → List Span → List (Span × Span)
+pairs_of ys zs = zip2 (λ y z. (y, z)) ys zs
+
 -- three axes side by side
 abbrev pub boxes_of : List Span → List Span → List Span → List Bounds
-boxes_of xs ys zs = zip2 (λ x (t : Span × Span). box_of x t.0 t.1) xs (zip2 (λ y z. (y, z)) ys zs)
+boxes_of xs ys zs = zip2 box_with xs (pairs_of ys zs)
 
 -- an interval of a box on each axis
 abbrev pub x_of : Bounds → Span

@@ -1,8 +1,9 @@
-ghost use Rattle.std.specs.Prelude.{◌≡◌, ◌+◌, ◌<◌, ◌≤◌, ◌^◌, pos, [], ◌∷◌, ◌++◌, IsTrue, int_le, OnOk, length, map, take, drop};
+ghost use Rattle.std.specs.Prelude.{◌≡◌, ◌+◌, ◌<◌, ◌≤◌, ◌^◌, [], ◌∷◌, ◌++◌, IsTrue, int_le, OnOk, length, map, take, drop};
 ghost use Rattle.std.specs.Prelude.{insert, remove, swap_remove, slice_set, slice_index_or};
 ghost use Rattle.std.specs.Prelude.{FitsSigned};
 ghost use Rattle.std.specs.Int.{w32};
 ghost use Rattle.std.specs.Simd.Lanes.{Each1};
+ghost use Rattle.lane_boxes.specs.declared.span.Span.{Span};
 ghost use Rattle.lane_boxes.specs.Spans.{crosses, lane};
 
 use crate::LANES;
@@ -116,7 +117,8 @@ impl Axis {
     // Puts the last interval at a place.
     pub(crate) fn swap_out(&mut self, at: usize)
         requires { at < length self.old.spans }
-        ensures spans { self.new.spans ≡ swap_remove self.old.spans at (slice_index_or self.old.spans at (record { lo = pos 0; hi = pos 0 })) }
+        ensures spans { (d : Span) → self.new.spans ≡ swap_remove self.old.spans at d }
+        ensures len { length self.new.spans + 1 ≡ length self.old.spans }
         ensures spare { self.new.spare ≡ self.old.spare + 1 }
         ensures bound { self.new.spare < 2 ^ 64 }
     {
@@ -126,11 +128,11 @@ impl Axis {
 
     // Which of the next eight intervals have a common number with this one.
     #[inline(always)]
-    pub(crate) fn crossing(&self, at: usize, span: &Span) -> Mask<i32, LANES>
+    pub(crate) fn crossing(&self, at: usize, span: Span) -> Mask<i32, LANES>
         requires { at + 8 ≤ length self.now.spans }
-        ensures { result ≡ map lane (map (crosses span.now) (take 8 (drop at self.now.spans))) }
+        ensures { result ≡ map lane (map (crosses span) (take 8 (drop at self.now.spans))) }
     {
-        at_most(&self.lo, at, span.hi) & at_least(&self.hi, at, span.lo)
+        at_least(&self.hi, at, span.lo) & at_most(&self.lo, at, span.hi)
     }
 }
 

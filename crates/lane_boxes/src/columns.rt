@@ -230,9 +230,9 @@ impl Columns {
         requires { at + LANES ≤ length self.now.boxes }
         ensures { result ≡ next_eight (meets body.now) at self.now.boxes }
     {
-        let x = self.x.crossing(at, &Span::on_x(body));
-        let y = self.y.crossing(at, &Span::on_y(body));
-        let z = self.z.crossing(at, &Span::on_z(body));
+        let x = self.x.crossing(at, Span::on_x(body));
+        let y = self.y.crossing(at, Span::on_y(body));
+        let z = self.z.crossing(at, Span::on_z(body));
         (x & y & z).to_bitmask() as u8
     }
 
@@ -261,10 +261,7 @@ impl Columns {
         let len = self.len();
         let mut at = from;
         'blocks: while at < len {
-            let mask = self.overlap_mask(at, body);
-            if mask != 0 {
-                push_places(mask, at as u32, out)?;
-            }
+            push_places(self.overlap_mask(at, body), at, out)?;
             at += LANES;
         }
         Ok(())
