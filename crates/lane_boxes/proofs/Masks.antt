@@ -88,7 +88,7 @@ module _ (test : Bounds → Bool) where
       rw (bit_test (test b) m, later_bits (test b) m, bits_are_places n (from + 1) boxes (omega arith))
       (elim (test b) as (λ t. cond t (from ∷ places test (from + 1) boxes) (places test (from + 1) boxes) ≡ map (λ e. e.0) (cond t ((from, b) ∷ filter (λ e. test e.1) (placed (from + 1) boxes)) (filter (λ e. test e.1) (placed (from + 1) boxes)))) [ true ↦ refl | false ↦ refl ])
 
-  one_more : (from : ℕ) (b : Bounds) (boxes : List Bounds) → places test from (b ∷ boxes) ≡ cond (test b) (from ∷ places test (from + 1) boxes) (places test (from + 1) boxes)
+  pub one_more : (from : ℕ) (b : Bounds) (boxes : List Bounds) → places test from (b ∷ boxes) ≡ cond (test b) (from ∷ places test (from + 1) boxes) (places test (from + 1) boxes)
   one_more from b boxes =
       elim (test b) as (λ t. map (λ e. e.0) (cond t ((from, b) ∷ filter (λ e. test e.1) (placed (from + 1) boxes)) (filter (λ e. test e.1) (placed (from + 1) boxes))) ≡ cond t (from ∷ places test (from + 1) boxes) (places test (from + 1) boxes)) [ true ↦ refl | false ↦ refl ]
 
