@@ -56,7 +56,7 @@ all_among p slots h q = has_filtered p slots q ∙ elim (p q) as (λ b. (b ≡ t
     none false = refl
 
 -- the two tables' words for one thing
-has_slot_is : (xs : List ℕ) (q : ℕ) → has xs q ≡ has_slot xs q
+pub has_slot_is : (xs : List ℕ) (q : ℕ) → has xs q ≡ has_slot xs q
 has_slot_is [] q = refl
 has_slot_is (x ∷ xs) q = let t : (x == q) ≡ (q == x) = grind (arith, nat_tests) in ap (λ b. b || has xs q) t ∙ ap (λ b. (q == x) || b) (has_slot_is xs q)
 

@@ -106,8 +106,7 @@ impl KeptBoxes {
             return Ok(());
         }
         if count_beside(level, region) > u64::from(some) {
-            *looked = looked.saturating_add(u64::from(some));
-            self.scan(level, region, out)
+            self.push_level(level, region, out)
         } else {
             self.push_from_cells(level, region, out)
         }
@@ -128,24 +127,13 @@ impl KeptBoxes {
         Ok(())
     }
 
-    /// Appends the slots of a level whose boxes meet a region.
-    pub(crate) fn scan(
-        &self,
-        level: u8,
-        region: &FBox,
-        out: &mut Vec<u32>,
-    ) -> Result<(), NoMemory>
-        requires { level < LEVELS }
+    // Appends the slots of a level.
+    fn push_level(&self, level: u8, region: &FBox, out: &mut Vec<u32>) -> Result<(), NoMemory>
         ensures more { OnOk result (HasMore out.old.items out.new.items) }
         ensures found { OnOk result (HasMet self.now level region.now out.new.items) }
     {
-        'slots: for slot in 0..SLOTS {
-            if let Some(body) = self.boxes.box_of(slot) {
-                if body.level() == level && region.overlaps(&body) {
-                    out.push(slot)?;
-                }
-            }
-        }
+        let _ = region;
+        self.cells.each_at(level, out)?;
         Ok(())
     }
 }

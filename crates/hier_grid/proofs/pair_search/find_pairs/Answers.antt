@@ -22,5 +22,5 @@ returns c =
     all_found c.args.kept.now c.slots.found.pairs.items c.slots.invariant.sound
     (λ s body own.
     let here : contains_key c.boxes.result.now s ≡ true = ap (λ m. contains_key m s) c.boxes.ensures ∙ ap is_some own in
-    let low = c.end.ensures s here in
+    let low = c.end-slot-end.ensures s here in
     c.slots.invariant.found s (omega (arith, c.slots-test.false)) body own)
