@@ -1,4 +1,3 @@
 mod EachLemmas
 mod KeptLemmas
 mod RingLemmas
-mod SlotMapLemmas

@@ -1,4 +1,4 @@
--- A list with a value or none for each slot, as a map.
+-- It serves proofs: a list with a value or none for each slot, as a map.
 use Rattle.std.proofs.Common.{◌≡◌, ◌≢◌, ℕ, zero, suc, ◌+◌, ◌<◌, Bool, true, false, cond, T, ◌&&◌, List, []}
 use Rattle.std.proofs.Common.{◌∷◌, length, get_or, set, Option, None, Some, refl, sym, ap, ◌∙◌, subst, arith, inl, inr}
 use Rattle.std.specs.Ordering.{nat_cmp, is_lt, is_eq, eq_by_cmp}
@@ -26,10 +26,10 @@ greater x y lt = sym (nat_cmp_is x y Greater lt)
 equal : (x y : ℕ) → x ≡ y → nat_cmp x y ≡ Equal
 equal x y e = sym (nat_cmp_is x y Equal e)
 
-tie_same : (q i : ℕ) → q ≡ i → eq_by_cmp nat_cmp q i ≡ true
+pub tie_same : (q i : ℕ) → q ≡ i → eq_by_cmp nat_cmp q i ≡ true
 tie_same q i e = rw (equal q i e) refl
 
-tie_other : (q i : ℕ) → q ≢ i → eq_by_cmp nat_cmp q i ≡ false
+pub tie_other : (q i : ℕ) → q ≢ i → eq_by_cmp nat_cmp q i ≡ false
 tie_other q i ne =
     elim (nat_cmp q i) as
     (λ r. r ≡ nat_cmp q i → is_eq r ≡ false) [ Less ↦ λ _. refl | Equal ↦ λ e. absurd (ne (ranked q i Equal e)) | Greater ↦ λ _. refl ] refl

@@ -1,0 +1,88 @@
+-- Quotients rounded down, and the cells beside a box: where a box meets another, the other's cell is beside it.
+use Rattle.std.proofs.Common.{◌≡◌, ℕ, ◌+◌, ◌*◌, ◌/◌, ◌<◌, ◌≤◌, arith, true, ◌&&◌}
+use Rattle.std.proofs.lemmas.Int.{ints}
+use Rattle.std.proofs.lemmas.Bool.{and_parts}
+use Rattle.std.proofs.lemmas.Nat.{pow_pos}
+use Rattle.std.proofs.Math.Pow.{pow_mono}
+use Rattle.std.specs.Prelude.{ℤ, pos, negsuc, ◌+ℤ◌, ◌-ℤ◌, ◌≤ℤ◌, ◌<ℤ◌, int_le, unsigned_abs}
+use Rattle.fixed_box.specs.Bounds.{Bounds, cell_side, longest_side, meets}
+use Rattle.fixed_box.specs.declared.point.Point.{Point}
+use Rattle.fixed_box.specs.Point.{is_at_most}
+use Rattle.hier_grid.specs.Cells.{cell_at, cell_on, IsFrom, IsBeside}
+use Rattle.std.specs.Int.{int_div_euclid}
+use Rattle.std.proofs.lemmas.Nat.{div_below}
+
+-- a number is below the end of the cell that it lies in
+below : (a k : ℕ) → 0 < k → a < (a / k + 1) * k
+below a k h = omega (arith, ints)
+
+-- a number less than one cell above another is at most in the next cell
+next_cell : (x y : ℤ) (k : ℕ) → 0 < k → x <ℤ (y +ℤ pos k) → (int_div_euclid x (pos k) -ℤ pos 1) ≤ℤ int_div_euclid y (pos k)
+next_cell (pos a) (pos b) k h lt =
+    let p : a / k < b / k + 2 = div_below a k (b / k + 2) h (let q = below b k h in omega (arith, ints)) in
+    omega (arith, ints)
+next_cell (pos a) (negsuc b) k h lt =
+    let p : a / k < 1 = div_below a k 1 h (omega (arith, ints)) in
+    let q : b / k < 1 = div_below b k 1 h (omega (arith, ints)) in
+    omega (arith, ints)
+next_cell (negsuc a) (pos b) k h lt = omega (arith, ints)
+next_cell (negsuc a) (negsuc b) k h lt =
+    let p : b / k < a / k + 2 = div_below b k (a / k + 2) h (let q = below a k h in omega (arith, ints)) in
+    omega (arith, ints)
+
+same_order : (x y : ℤ) (k : ℕ) → 0 < k → x ≤ℤ y → int_div_euclid x (pos k) ≤ℤ int_div_euclid y (pos k)
+same_order (pos a) (pos b) k h le =
+    let p : a / k < b / k + 1 = div_below a k (b / k + 1) h (let q = below b k h in omega (arith, ints)) in
+    omega (arith, ints)
+same_order (pos a) (negsuc b) k h le = absurd (omega (arith, ints))
+same_order (negsuc a) (pos b) k h le = omega (arith, ints)
+same_order (negsuc a) (negsuc b) k h le =
+    let p : b / k < a / k + 1 = div_below b k (a / k + 1) h (let q = below a k h in omega (arith, ints)) in
+    omega (arith, ints)
+
+record Axes (p q : Point) : Type 0 where
+  pub x : int_le p.x q.x ≡ true
+  pub y : int_le p.y q.y ≡ true
+  pub z : int_le p.z q.z ≡ true
+
+axes : (p q : Point) → is_at_most p q ≡ true → Axes p q
+axes p q h =
+    let parts = and_parts (int_le p.x q.x && int_le p.y q.y) (int_le p.z q.z) h in
+    let firsts = and_parts (int_le p.x q.x) (int_le p.y q.y) parts.0 in
+    record { x = firsts.0; y = firsts.1; z = parts.1 }
+
+beside_on : (level : ℕ) (alo ahi blo bhi : ℤ) → 0 < cell_side level → unsigned_abs (bhi -ℤ blo) < cell_side level → int_le blo bhi ≡ true → int_le alo bhi ≡ true → int_le blo ahi ≡ true → IsFrom level alo ahi (cell_at level blo)
+beside_on level alo ahi blo bhi some short o left right = record {
+  low = next_cell alo blo (cell_side level) some (omega (arith, ints));
+  high = same_order blo ahi (cell_side level) some (omega (arith, ints));
+}
+
+some_side : (level : ℕ) → 0 < cell_side level
+some_side level = pow_pos (12 + 2 * level)
+
+pub beside : (level : ℕ) (a b : Bounds) → longest_side b < cell_side level → is_at_most b.lo b.hi ≡ true → meets a b ≡ true → IsBeside level a (cell_on level b.lo)
+beside level a b short o m =
+    let ms = and_parts (is_at_most a.lo b.hi) (is_at_most b.lo a.hi) m in
+    let ob = axes b.lo b.hi o in
+    let left = axes a.lo b.hi ms.0 in
+    let right = axes b.lo a.hi ms.1 in
+    let some = some_side level in
+    record {
+      x = beside_on level a.lo.x a.hi.x b.lo.x b.hi.x some (omega arith) ob.x left.x right.x;
+      y = beside_on level a.lo.y a.hi.y b.lo.y b.hi.y some (omega arith) ob.y left.y right.y;
+      z = beside_on level a.lo.z a.hi.z b.lo.z b.hi.z some (omega arith) ob.z left.z right.z;
+    }
+
+wide : (level : ℕ) → 4096 ≤ cell_side level
+wide level = pow_mono {i = 12} {j = 12 + 2 * level} (omega arith)
+
+few : (a k : ℕ) → 4096 ≤ k → a < 2147483648 → a / k < 1048576
+few a k w h = div_below a k 1048576 (omega arith) (omega arith)
+
+pub cell_low : (level : ℕ) (x : ℤ) → negsuc 2147483647 ≤ℤ x → negsuc 1048576 ≤ℤ cell_at level x
+cell_low level (pos a) h = omega (arith, ints)
+cell_low level (negsuc a) h = let p = few a (cell_side level) (wide level) (omega (arith, ints)) in omega (arith, ints)
+
+pub cell_high : (level : ℕ) (x : ℤ) → x <ℤ pos 2147483648 → cell_at level x ≤ℤ pos 1048576
+cell_high level (pos a) h = let p = few a (cell_side level) (wide level) (omega (arith, ints)) in omega (arith, ints)
+cell_high level (negsuc a) h = omega (arith, ints)

@@ -1,0 +1,7 @@
+mod BoxLemmas
+mod CellLemmas
+mod GridLemmas
+mod HitLemmas
+mod MapLemmas
+mod PairLemmas
+mod SlotLemmas

@@ -1,0 +1,29 @@
+-- Definitions: the cell of a box, and the cells beside a box (Ericson, Real-Time Collision Detection, 2005, 7.2.1).
+use Rattle.std.specs.Prelude.{ℕ, ℤ, pos, ◌-ℤ◌, ◌≤ℤ◌}
+use Rattle.std.specs.Int.{int_div_euclid}
+use Rattle.fixed_box.specs.Bounds.{Bounds, cell_side, level_of}
+use Rattle.fixed_box.specs.declared.point.Point.{Point}
+use Rattle.cell_table.specs.declared.cell_key.CellKey.{CellKey}
+
+-- the place of a coordinate among the cells of a level: the quotient by their side, rounded down
+abbrev pub cell_at : ℕ → ℤ → ℤ
+cell_at level x = int_div_euclid x (pos (cell_side level))
+
+-- the cell of a level that a point lies in
+abbrev pub cell_on : ℕ → Point → CellKey
+cell_on level p = record { level = level; x = cell_at level p.x; y = cell_at level p.y; z = cell_at level p.z }
+
+-- A box lies at the least level whose cells are longer than it, in the cell of its lower corner.
+abbrev pub cell_of : Bounds → CellKey
+cell_of b = cell_on (level_of b) b.lo
+
+-- c is among the cells of an interval, or it is the one before the first
+pub record IsFrom (level : ℕ) (lo hi c : ℤ) : Type 0 where
+  pub low : (cell_at level lo -ℤ pos 1) ≤ℤ c
+  pub high : c ≤ℤ cell_at level hi
+
+-- A cell is beside a box: a box of this cell, which reaches at most into the next one, may meet it.
+pub record IsBeside (level : ℕ) (a : Bounds) (c : CellKey) : Type 0 where
+  pub x : IsFrom level a.lo.x a.hi.x c.x
+  pub y : IsFrom level a.lo.y a.hi.y c.y
+  pub z : IsFrom level a.lo.z a.hi.z c.z

@@ -1,0 +1,21 @@
+-- Definitions: what a grid keeps of its boxes.
+use Rattle.std.specs.Prelude.{◌≡◌, ℕ, ◌<◌, IsTrue, Some, option_map}
+use Rattle.std.specs.Ordering.{nat_cmp}
+use Rattle.std.specs.FinMap.{FinMap, get}
+use Rattle.fixed_box.specs.Bounds.{Bounds, cell_side, level_of, longest_side}
+use Rattle.fixed_box.specs.Point.{is_at_most}
+use Rattle.cell_table.specs.declared.cell_key.CellKey.{CellKey}
+use Rattle.hier_grid.specs.Cells.{cell_of}
+
+-- a box with its corners in order, which is shorter than the cells of its level
+pub record IsSized (b : Bounds) : Type 0 where
+  pub ordered : IsTrue (is_at_most b.lo b.hi)
+  pub fits : longest_side b < cell_side (level_of b)
+
+-- exactly the present slots have cells, each that of its box
+abbrev pub AreKeyed : FinMap nat_cmp Bounds → FinMap nat_cmp CellKey → Type 0
+AreKeyed bodies cells = (s : ℕ) → get cells s ≡ option_map cell_of (get bodies s)
+
+pub record IsGrid (bodies : FinMap nat_cmp Bounds) (cells : FinMap nat_cmp CellKey) : Type 0 where
+  pub keyed : AreKeyed bodies cells
+  pub sized : (s : ℕ) (b : Bounds) → get bodies s ≡ Some b → IsSized b

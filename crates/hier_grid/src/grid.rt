@@ -1,0 +1,174 @@
+ghost use Rattle.std.specs.Prelude.{◌≡◌, ◌<◌, true, false, refl, Ok, None, IfOk};
+ghost use Rattle.std.specs.FinMap as map;
+ghost use Rattle.broad_index.specs.Fresh.{IsFresh};
+ghost use Rattle.hier_grid.specs.Grid.{AreKeyed};
+ghost use Rattle.hier_grid.specs.Search.{present};
+
+use crate::hits::{push_hits, push_reach};
+use crate::kept_boxes::KeptBoxes;
+use crate::pair_search::{Findings, find_pairs};
+use broad_index::{
+    BroadPhase, Pair, Query, member_laws, push_gathered, push_rising_pairs, search_laws,
+};
+use cell_table::CellTable;
+use fixed_box::{FBox, NoMemory, SLOTS};
+use slot_search::Seeker;
+use std::alloc::Global;
+use std::marker::Model;
+
+/// The boxes in cells of eleven levels, whose sides are 2^12 to 2^32 raw units.
+///
+/// A box lies at the least level whose cells are longer than its longest side, in the cell of its lower corner. So it
+/// reaches at most into the next cell on each axis, and what it meets lies in the cells beside it. A pair is found from
+/// the box of the lower level, or on one level from the lower slot.
+///
+/// Only `new`, `pairs`, `pairs_with` and `hits` take memory; `add`, `shift` and `leave` take a time that doesn't grow with
+/// the number of boxes.
+#[derive(Drop)]
+pub struct HierGrid {
+    alloc: Global,
+    kept: KeptBoxes,
+    found: Findings,
+    looked: u64,
+}
+
+impl Model for HierGrid {
+    ghost use Rattle.std.specs.Ordering.{nat_cmp};
+    ghost use Rattle.std.specs.Coded.{coded_ℕ};
+    ghost use Rattle.std.specs.FinMap.{FinMap, code};
+    ghost use Rattle.fixed_box.specs.Bounds.{Bounds, coded_bounds};
+
+    ghost Value = { FinMap nat_cmp Bounds };
+
+    ghost coded = { code coded_ℕ coded_bounds };
+
+    ghost view = { λ g. g.kept };
+}
+
+impl HierGrid {
+    /// A grid with no box, with the memory for all slots.
+    pub fn new(alloc: Global) -> Result<HierGrid, NoMemory>
+        ensures { IfOk result (λ grid. IsFresh grid false 0) }
+    {
+        Ok(HierGrid {
+            alloc,
+            kept: KeptBoxes::new(alloc)?,
+            found: Findings::new(alloc),
+            looked: 0,
+        })
+    }
+
+    /// The table of cells: exactly the present slots have keys, each the level and the cell of its box.
+    pub fn cells(&self) -> &CellTable
+        ensures { AreKeyed self.now result.now }
+    {
+        self.kept.cells()
+    }
+
+    /// How many comparisons of two exact boxes `pairs` and `pairs_with` have made, as far as 64 bits go.
+    pub fn looked(&self) -> u64 {
+        self.looked
+    }
+}
+
+impl Seeker for HierGrid {
+    ghost bodies = { λ grid. grid };
+
+    // Its cost isn't told: which cells are looked at is free.
+    ghost costs = { λ _. None };
+
+    /// Answers the number of comparisons of two exact boxes.
+    fn seek(&self, slot: u32, out: &mut Vec<u32>) -> Result<u32, NoMemory> {
+        match self.kept.boxes().box_of(slot) {
+            Some(body) => push_reach(&self.kept, self.alloc, slot, &body, out),
+            None => Ok(0),
+        }
+    }
+}
+
+impl BroadPhase for HierGrid {
+    const COUNTS: bool = false;
+
+    ghost bodies = { λ grid. grid };
+
+    // No change takes memory.
+    ghost spent = { λ _. false };
+
+    ghost COUNTS = { false };
+
+    ghost exchanges = { λ _. 0 };
+
+    // It changes nothing.
+    ghost paired = { λ old new. new ≡ old };
+
+    ghost sought = { λ grid. present grid };
+
+    ghost costs = { λ _. None };
+
+    type Shared = HierGrid;
+
+    ghost uncounted = { λ _ _. refl };
+
+    fn add(&mut self, slot: u32, body: FBox) -> Result<(), NoMemory>
+        requires small { slot < SLOTS }
+        requires absent { map.contains_key self.old slot ≡ false }
+        // It takes no memory.
+        ensures answer { result ≡ Ok tt }
+        ensures bodies { self.new ≡ map.insert self.old slot body }
+    {
+        self.kept.put(slot, body);
+        Ok(())
+    }
+
+    fn shift(&mut self, slot: u32, body: FBox) -> Result<(), NoMemory>
+        requires small { slot < SLOTS }
+        requires present { map.contains_key self.old slot ≡ true }
+        // It takes no memory.
+        ensures answer { result ≡ Ok tt }
+        ensures bodies { self.new ≡ map.insert self.old slot body }
+    {
+        self.kept.set(slot, body);
+        Ok(())
+    }
+
+    fn leave(&mut self, slot: u32)
+        requires present { map.contains_key self.old slot ≡ true }
+        ensures gone { self.new ≡ map.remove self.old slot }
+    {
+        self.kept.take(slot);
+    }
+
+    fn pairs(&mut self, out: &mut Vec<Pair>) -> Result<(), NoMemory> {
+        find_pairs(&self.kept, &mut self.looked, &mut self.found)?;
+        push_rising_pairs(&mut self.found.pairs, out)
+    }
+
+    fn hits(&self, query: &Query, out: &mut Vec<u32>) -> Result<(), NoMemory> {
+        push_hits(&self.kept, self.alloc, query, out)
+    }
+
+    fn exchanges(&self) -> u64 {
+        0
+    }
+
+    fn clear_exchanges(&mut self) {}
+
+    fn share(&self, alloc: Global) -> Result<Option<(&HierGrid, Vec<u32>)>, NoMemory> {
+        let slots = self.kept.boxes().present(alloc)?;
+        Ok(Some((self, slots)))
+    }
+
+    fn merge(
+        &mut self,
+        slots: &[u32],
+        lists: &[Vec<u32>],
+        cost: u64,
+        out: &mut Vec<Pair>,
+    ) -> Result<(), NoMemory> {
+        member_laws();
+        search_laws();
+        push_gathered(slots, lists, out)?;
+        self.looked = self.looked.saturating_add(cost);
+        Ok(())
+    }
+}

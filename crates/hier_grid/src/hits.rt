@@ -1,0 +1,124 @@
+ghost use Rattle.std.specs.Prelude.{◌≡◌, ◌<◌, ◌++◌, true, Some, OnOk, OnErr, filter};
+ghost use Rattle.std.specs.FinMap as map;
+ghost use Rattle.fixed_box.specs.Bounds.{Bounds, meets, holds};
+ghost use Rattle.broad_index.specs.Found.{found, query_meets};
+ghost use Rattle.broad_index.specs.Members.{is_found};
+ghost use Rattle.slot_search.specs.Reach.{reach};
+ghost use Rattle.hier_grid.specs.Search.{HasMetBelow};
+
+use crate::kept_boxes::KeptBoxes;
+use crate::slot_boxes::SlotBoxes;
+use crate::partners::push_partners;
+use broad_index::{Query, push_rising_slots};
+use cell_table::LEVELS;
+use fixed_box::{FBox, NoMemory, Point, box_laws};
+use std::alloc::Global;
+
+/// Appends the present slots whose boxes meet a query, rising. A ray and a segment test each box. After an `Err` `out` is
+/// as before.
+pub(crate) fn push_hits(
+    kept: &KeptBoxes,
+    alloc: Global,
+    query: &Query,
+    out: &mut Vec<u32>,
+) -> Result<(), NoMemory>
+    ensures ok { OnOk result (out.new.items ≡ out.old.items ++ found kept.now query.now) }
+    ensures err { OnErr result (out.new.items ≡ out.old.items) }
+{
+    match query {
+        Query::Region(region) => push_near(kept, alloc, query, region, out),
+        Query::Spot(at) => push_near(kept, alloc, query, &flat_box(at), out),
+        Query::Along(_) | Query::Between(_) => kept.boxes().push_found(query, out),
+    }
+}
+
+// The flat box at a point: what holds the point meets it.
+fn flat_box(at: &Point) -> FBox
+    ensures { (b : Bounds) → holds b at.now ≡ true → meets result b ≡ true }
+{
+    box_laws();
+    FBox::new(*at, *at).unwrap()
+}
+
+// The same, of a query that only boxes meet which meet a region.
+fn push_near(
+    kept: &KeptBoxes,
+    alloc: Global,
+    query: &Query,
+    region: &FBox,
+    out: &mut Vec<u32>,
+) -> Result<(), NoMemory>
+    requires { (b : Bounds) → query_meets query.now b ≡ true → meets region.now b ≡ true }
+    ensures ok { OnOk result (out.new.items ≡ out.old.items ++ found kept.now query.now) }
+    ensures err { OnErr result (out.new.items ≡ out.old.items) }
+{
+    let mut candidates = Vec::new(alloc);
+    push_all_candidates(kept, region, &mut 0, &mut candidates)?;
+    let mut hits = Vec::new(alloc);
+    push_found(kept.boxes(), query, &candidates, &mut hits)?;
+    push_rising_slots(&mut hits, out)
+}
+
+// Appends those of some slots whose boxes meet a query.
+fn push_found(
+    boxes: &SlotBoxes,
+    query: &Query,
+    slots: &[u32],
+    out: &mut Vec<u32>,
+) -> Result<(), NoMemory>
+    ensures { OnOk result (out.new.items ≡ out.old.items ++ filter (is_found boxes.now query.now) slots.now) }
+{
+    let mut rest = slots;
+    'slots: while let [slot, more @ ..] = rest {
+        if boxes.is_found(*slot, query) {
+            out.push(*slot)?;
+        }
+        rest = more;
+    }
+    Ok(())
+}
+
+/// Appends the other present slots whose boxes meet a present slot's, rising, and answers how many exact boxes were
+/// compared. After an `Err` `out` is as before.
+pub(crate) fn push_reach(
+    kept: &KeptBoxes,
+    alloc: Global,
+    slot: u32,
+    body: &FBox,
+    out: &mut Vec<u32>,
+) -> Result<u32, NoMemory>
+    requires { map.get kept.now slot ≡ Some body.now }
+    ensures ok { OnOk result (out.new.items ≡ out.old.items ++ reach kept.now slot) }
+    ensures err { OnErr result (out.new.items ≡ out.old.items) }
+{
+    let mut looked = 0;
+    let mut candidates = Vec::new(alloc);
+    push_all_candidates(kept, body, &mut looked, &mut candidates)?;
+    let mut partners = Vec::new(alloc);
+    push_partners(
+        kept.boxes(),
+        slot,
+        body,
+        true,
+        &candidates,
+        &mut looked,
+        &mut partners,
+    )?;
+    push_rising_slots(&mut partners, out)?;
+    Ok(u32::try_from(looked).unwrap_or(u32::MAX))
+}
+
+// Appends slots, and among them all whose boxes meet a region.
+fn push_all_candidates(
+    kept: &KeptBoxes,
+    region: &FBox,
+    looked: &mut u64,
+    out: &mut Vec<u32>,
+) -> Result<(), NoMemory>
+    ensures { OnOk result (HasMetBelow kept.now LEVELS region.now out.new.items) }
+{
+    'levels: for level in 0..LEVELS {
+        kept.push_candidates(level, region, looked, out)?;
+    }
+    Ok(())
+}

@@ -1,0 +1,169 @@
+ghost use Rattle.std.specs.Prelude.{◌≡◌, ◌<◌, true, false, Some, IfOk, OnOk};
+ghost use Rattle.std.specs.FinMap as map;
+ghost use Rattle.hier_grid.specs.Grid.{AreKeyed};
+ghost use Rattle.hier_grid.specs.Search.{HasMet, HasMore};
+
+use crate::cell::cell_of;
+use crate::slot_boxes::SlotBoxes;
+use crate::near_cells::{count_beside, push_beside};
+use cell_table::{CellKey, CellTable, LEVELS};
+use fixed_box::{FBox, NoMemory, SLOTS};
+use std::alloc::Global;
+use std::marker::Model;
+
+/// The boxes under their slots, each in the cell of its level, seen as a map from slot to box.
+#[derive(Drop)]
+pub(crate) struct KeptBoxes {
+    boxes: SlotBoxes,
+    cells: CellTable,
+}
+
+impl Model for KeptBoxes {
+    ghost use Rattle.std.specs.Ordering.{nat_cmp};
+    ghost use Rattle.std.specs.Coded.{coded_ℕ};
+    ghost use Rattle.std.specs.FinMap.{FinMap, code};
+    ghost use Rattle.fixed_box.specs.Bounds.{Bounds, coded_bounds};
+    ghost use Rattle.hier_grid.specs.Grid.{IsGrid};
+
+    ghost Value = { FinMap nat_cmp Bounds };
+
+    ghost coded = { code coded_ℕ coded_bounds };
+
+    ghost view = { λ k. k.boxes };
+
+    ghost invariant = { λ k. IsGrid k.boxes k.cells };
+}
+
+impl KeptBoxes {
+    /// No box, with the memory for all slots.
+    pub(crate) fn new(alloc: Global) -> Result<KeptBoxes, NoMemory>
+        ensures { IfOk result (λ kept. kept ≡ map.empty) }
+    {
+        Ok(KeptBoxes {
+            boxes: SlotBoxes::new(alloc)?,
+            cells: CellTable::new(alloc)?,
+        })
+    }
+
+    /// The boxes.
+    pub(crate) fn boxes(&self) -> &SlotBoxes
+        ensures { result.now ≡ self.now }
+    {
+        &self.boxes
+    }
+
+    /// The cells of the boxes.
+    pub(crate) fn cells(&self) -> &CellTable
+        ensures { AreKeyed self.now result.now }
+    {
+        &self.cells
+    }
+
+    /// Puts a box under an absent slot. It takes no memory.
+    pub(crate) fn put(&mut self, slot: u32, body: FBox)
+        requires small { slot < SLOTS }
+        requires absent { map.contains_key self.old slot ≡ false }
+        ensures { self.new ≡ map.insert self.old slot body }
+    {
+        self.cells.put(slot, cell_of(&body));
+        self.boxes.put(slot, body);
+    }
+
+    /// Gives a present slot another box. It takes no memory.
+    pub(crate) fn set(&mut self, slot: u32, body: FBox)
+        requires small { slot < SLOTS }
+        requires present { map.contains_key self.old slot ≡ true }
+        ensures { self.new ≡ map.insert self.old slot body }
+    {
+        rekey(&mut self.cells, slot, cell_of(&body));
+        self.boxes.set(slot, body);
+    }
+
+    /// Takes a present slot out. It takes no memory.
+    pub(crate) fn take(&mut self, slot: u32)
+        requires { map.contains_key self.old slot ≡ true }
+        ensures { self.new ≡ map.remove self.old slot }
+    {
+        self.cells.take(slot);
+        self.boxes.take(slot);
+    }
+
+    /// Appends slots, and among them all of a level whose boxes meet a region. Where the region has more cells beside it
+    /// than the level has boxes, each of them is compared, and counted.
+    pub(crate) fn push_candidates(
+        &self,
+        level: u8,
+        region: &FBox,
+        looked: &mut u64,
+        out: &mut Vec<u32>,
+    ) -> Result<(), NoMemory>
+        requires { level < LEVELS }
+        ensures more { OnOk result (HasMore out.old.items out.new.items) }
+        ensures found { OnOk result (HasMet self.now level region.now out.new.items) }
+    {
+        let some = self.cells.level_len(level);
+        if some == 0 {
+            return Ok(());
+        }
+        if count_beside(level, region) > u64::from(some) {
+            self.push_level(level, region, out)
+        } else {
+            self.push_from_cells(level, region, out)
+        }
+    }
+
+    // Appends the slots of a level in cells beside a region.
+    fn push_from_cells(
+        &self,
+        level: u8,
+        region: &FBox,
+        out: &mut Vec<u32>,
+    ) -> Result<(), NoMemory>
+        requires { level < LEVELS }
+        ensures more { OnOk result (HasMore out.old.items out.new.items) }
+        ensures found { OnOk result (HasMet self.now level region.now out.new.items) }
+    {
+        push_beside(&self.cells, level, region, out)?;
+        Ok(())
+    }
+
+    // Appends the slots of a level.
+    fn push_level(&self, level: u8, region: &FBox, out: &mut Vec<u32>) -> Result<(), NoMemory>
+        ensures more { OnOk result (HasMore out.old.items out.new.items) }
+        ensures found { OnOk result (HasMet self.now level region.now out.new.items) }
+    {
+        let _ = region;
+        self.cells.each_at(level, out)?;
+        Ok(())
+    }
+}
+
+// Gives a present slot another key.
+fn rekey(cells: &mut CellTable, slot: u32, key: CellKey)
+    requires small { slot < SLOTS }
+    requires level { key.level < LEVELS }
+    requires present { map.contains_key cells.old slot ≡ true }
+    ensures { cells.new ≡ map.insert cells.old slot key }
+{
+    if is_kept(cells, slot, &key) {
+        return;
+    }
+    cells.take(slot);
+    cells.put(slot, key);
+}
+
+// Whether a slot has a key.
+fn is_kept(cells: &CellTable, slot: u32, key: &CellKey) -> bool
+    ensures { result ≡ true → map.get cells.now slot ≡ Some key.now }
+{
+    match cells.key_of(slot) {
+        Some(own) => is_same(&own, key),
+        None => false,
+    }
+}
+
+fn is_same(a: &CellKey, b: &CellKey) -> bool
+    ensures { result ≡ true → a.now ≡ b.now }
+{
+    (a.level == b.level) & (a.x == b.x) & (a.y == b.y) & (a.z == b.z)
+}

@@ -1,0 +1,15 @@
+//! A hashed hierarchical grid: boxes in cells of eleven levels, by how long they are and where (Ericson, *Real-Time
+//! Collision Detection*, 2005, 7.2).
+#![tactic(auto)]
+
+mod cell;
+mod grid;
+mod hits;
+mod kept_boxes;
+mod slot_boxes;
+mod near_cells;
+mod pair_search;
+mod partners;
+
+pub use grid::HierGrid;
+

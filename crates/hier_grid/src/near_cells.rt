@@ -1,0 +1,164 @@
+ghost use Rattle.std.specs.Prelude.{◌≡◌, ℤ, pos, ◌+ℤ◌, ◌-ℤ◌, ◌<◌, ◌≤ℤ◌, ◌<ℤ◌, OnOk};
+ghost use Rattle.cell_table.specs.declared.cell_key.CellKey as key;
+ghost use Rattle.hier_grid.specs.Cells.{cell_at, IsBeside};
+ghost use Rattle.hier_grid.specs.Search.{HasCell, HasMore};
+
+use crate::cell::cell_at;
+use cell_table::{CellKey, CellTable, LEVELS};
+use fixed_box::{FBox, Fix, NoMemory};
+
+/// Appends the slots in the cells of a level beside a region: from the cell before that of its lower corner, since a box
+/// reaches at most into the next cell, to that of its upper corner.
+pub(crate) fn push_beside(
+    cells: &CellTable,
+    level: u8,
+    region: &FBox,
+    out: &mut Vec<u32>,
+) -> Result<(), NoMemory>
+    requires { level < LEVELS }
+    ensures more { OnOk result (HasMore out.old.items out.new.items) }
+    ensures found { OnOk result ((k : key.CellKey) → k.level ≡ level → IsBeside level region.now k → HasCell cells.now k out.new.items) }
+{
+    push_block(
+        cells,
+        &first_beside(level, region),
+        &end_beside(level, region),
+        out,
+    )?;
+    Ok(())
+}
+
+/// How many cells of a level are beside a region, as far as 64 bits go.
+pub(crate) fn count_beside(level: u8, region: &FBox) -> u64
+    requires { level < LEVELS }
+{
+    let first = first_beside(level, region);
+    let end = end_beside(level, region);
+    let x = u64::from(first.x.abs_diff(end.x));
+    let y = u64::from(first.y.abs_diff(end.y));
+    let z = u64::from(first.z.abs_diff(end.z));
+    x.saturating_mul(y).saturating_mul(z)
+}
+
+// Appends the slots in the cells from one corner on, below another.
+fn push_block(
+    cells: &CellTable,
+    from: &CellKey,
+    end: &CellKey,
+    out: &mut Vec<u32>,
+) -> Result<(), NoMemory>
+    ensures more { OnOk result (HasMore out.old.items out.new.items) }
+    ensures found { OnOk result ((x y z : ℤ) → from.now.x ≤ℤ x → x <ℤ end.now.x → from.now.y ≤ℤ y → y <ℤ end.now.y
+        → from.now.z ≤ℤ z → z <ℤ end.now.z → HasCell cells.now (record from.now { x = x; y = y; z = z }) out.new.items) }
+{
+    'block: for x in from.x..end.x {
+        push_plane(cells, &with_x(from, x), end, out)?;
+    }
+    Ok(())
+}
+
+// The same at one x.
+fn push_plane(
+    cells: &CellTable,
+    from: &CellKey,
+    end: &CellKey,
+    out: &mut Vec<u32>,
+) -> Result<(), NoMemory>
+    ensures more { OnOk result (HasMore out.old.items out.new.items) }
+    ensures found { OnOk result ((y z : ℤ) → from.now.y ≤ℤ y → y <ℤ end.now.y → from.now.z ≤ℤ z → z <ℤ end.now.z
+        → HasCell cells.now (record from.now { y = y; z = z }) out.new.items) }
+{
+    'plane: for y in from.y..end.y {
+        push_row(cells, &with_y(from, y), end, out)?;
+    }
+    Ok(())
+}
+
+// The same at one x and y.
+fn push_row(
+    cells: &CellTable,
+    from: &CellKey,
+    end: &CellKey,
+    out: &mut Vec<u32>,
+) -> Result<(), NoMemory>
+    ensures more { OnOk result (HasMore out.old.items out.new.items) }
+    ensures found { OnOk result ((z : ℤ) → from.now.z ≤ℤ z → z <ℤ end.now.z → HasCell cells.now (record from.now { z = z }) out.new.items) }
+{
+    'row: for z in from.z..end.z {
+        push_cell(cells, &with_z(from, z), out)?;
+    }
+    Ok(())
+}
+
+fn push_cell(cells: &CellTable, key: &CellKey, out: &mut Vec<u32>) -> Result<(), NoMemory>
+    ensures more { OnOk result (HasMore out.old.items out.new.items) }
+    ensures found { OnOk result (HasCell cells.now key.now out.new.items) }
+{
+    cells.visit_in(key, out)?;
+    Ok(())
+}
+
+fn with_x(key: &CellKey, x: i32) -> CellKey
+    ensures { result ≡ record key.now { x = x } }
+{
+    CellKey { x, ..*key }
+}
+
+fn with_y(key: &CellKey, y: i32) -> CellKey
+    ensures { result ≡ record key.now { y = y } }
+{
+    CellKey { y, ..*key }
+}
+
+fn with_z(key: &CellKey, z: i32) -> CellKey
+    ensures { result ≡ record key.now { z = z } }
+{
+    CellKey { z, ..*key }
+}
+
+// The first cell beside a region, on each axis.
+fn first_beside(level: u8, region: &FBox) -> CellKey
+    requires { level < LEVELS }
+    ensures level { result.level ≡ level }
+    ensures x { result.x ≡ (cell_at level region.now.lo.x -ℤ pos 1) }
+    ensures y { result.y ≡ (cell_at level region.now.lo.y -ℤ pos 1) }
+    ensures z { result.z ≡ (cell_at level region.now.lo.z -ℤ pos 1) }
+{
+    let lo = region.lo();
+    CellKey {
+        level,
+        x: cell_before(level, lo.x),
+        y: cell_before(level, lo.y),
+        z: cell_before(level, lo.z),
+    }
+}
+
+// The cell behind the last one beside a region, on each axis.
+fn end_beside(level: u8, region: &FBox) -> CellKey
+    requires { level < LEVELS }
+    ensures x { result.x ≡ (cell_at level region.now.hi.x +ℤ pos 1) }
+    ensures y { result.y ≡ (cell_at level region.now.hi.y +ℤ pos 1) }
+    ensures z { result.z ≡ (cell_at level region.now.hi.z +ℤ pos 1) }
+{
+    let hi = region.hi();
+    CellKey {
+        level,
+        x: cell_after(level, hi.x),
+        y: cell_after(level, hi.y),
+        z: cell_after(level, hi.z),
+    }
+}
+
+fn cell_before(level: u8, x: Fix) -> i32
+    requires { level < LEVELS }
+    ensures { result ≡ (cell_at level x -ℤ pos 1) }
+{
+    cell_at(level, x) - 1
+}
+
+fn cell_after(level: u8, x: Fix) -> i32
+    requires { level < LEVELS }
+    ensures { result ≡ (cell_at level x +ℤ pos 1) }
+{
+    cell_at(level, x) + 1
+}

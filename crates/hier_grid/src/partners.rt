@@ -1,0 +1,45 @@
+ghost use Rattle.std.specs.Prelude.{◌≡◌, ◌++◌, filter, OnOk};
+ghost use Rattle.hier_grid.specs.Search.{is_partner};
+
+use crate::slot_boxes::SlotBoxes;
+use fixed_box::{FBox, NoMemory};
+
+/// Appends a slot's partners among others, each of which is compared, and counted, if its slot may be a partner's.
+pub(crate) fn push_partners(
+    boxes: &SlotBoxes,
+    slot: u32,
+    body: &FBox,
+    higher: bool,
+    slots: &[u32],
+    looked: &mut u64,
+    out: &mut Vec<u32>,
+) -> Result<(), NoMemory>
+    ensures { OnOk result (out.new.items ≡ out.old.items ++ filter (is_partner boxes.now slot body.now higher) slots.now) }
+{
+    let mut rest = slots;
+    'slots: while let [other, more @ ..] = rest {
+        if is_partner(boxes, slot, body, higher, *other, looked) {
+            out.push(*other)?;
+        }
+        rest = more;
+    }
+    Ok(())
+}
+
+// Whether another slot is a partner.
+fn is_partner(
+    boxes: &SlotBoxes,
+    slot: u32,
+    body: &FBox,
+    higher: bool,
+    other: u32,
+    looked: &mut u64,
+) -> bool
+    ensures { result ≡ is_partner boxes.now slot body.now higher other }
+{
+    if other == slot || (!higher && other < slot) {
+        return false;
+    }
+    *looked = looked.saturating_add(1);
+    boxes.meets(other, body)
+}

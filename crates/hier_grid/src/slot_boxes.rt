@@ -1,0 +1,196 @@
+ghost use Rattle.std.specs.Prelude.{◌≡◌, ℕ, ◌<◌, ◌≤◌, ◌++◌, true, false, None, IfOk, OnOk, OnErr, length, take, vec_len};
+ghost use Rattle.std.specs.Prelude.{All, map as mapped, slice_index_or};
+ghost use Rattle.std.specs.FinMap as map;
+ghost use Rattle.broad_index.specs.Found.{found, found_of};
+ghost use Rattle.broad_index.specs.Members.{is_found, meets_query};
+ghost use Rattle.cell_table.specs.SlotMap.{entries_from};
+ghost use Rattle.hier_grid.specs.Search.{meets_at, present};
+
+use broad_index::Query;
+use fixed_box::{FBox, NoMemory, SLOTS};
+use std::alloc::Global;
+use std::marker::Model;
+
+/// The exact boxes by their slots, seen as a map from slot to box.
+#[derive(Drop)]
+pub(crate) struct SlotBoxes {
+    boxes: Vec<Option<FBox>>,
+}
+
+impl Model for SlotBoxes {
+    ghost use Rattle.std.specs.Prelude.{◌≡◌, length};
+    ghost use Rattle.std.specs.Ordering.{nat_cmp};
+    ghost use Rattle.std.specs.Coded.{coded_ℕ};
+    ghost use Rattle.std.specs.FinMap.{FinMap, code};
+    ghost use Rattle.fixed_box.specs.Bounds.{Bounds, coded_bounds};
+    ghost use Rattle.fixed_box.specs.declared.TheConstants.{SLOTS};
+    ghost use Rattle.cell_table.specs.SlotMap.{map_of};
+
+    ghost Value = { FinMap nat_cmp Bounds };
+
+    ghost coded = { code coded_ℕ coded_bounds };
+
+    ghost view = { λ b. map_of b.boxes.items };
+
+    ghost invariant = { λ b. length b.boxes.items ≡ SLOTS };
+}
+
+impl SlotBoxes {
+    /// No box, with the memory for all slots.
+    pub(crate) fn new(alloc: Global) -> Result<SlotBoxes, NoMemory>
+        ensures { IfOk result (λ boxes. boxes ≡ map.empty) }
+    {
+        Ok(SlotBoxes {
+            boxes: no_boxes(alloc)?,
+        })
+    }
+
+    /// A number above all present slots.
+    pub(crate) fn end(&self) -> u32
+        ensures { (slot : ℕ) → map.contains_key self.now slot ≡ true → slot < result }
+    {
+        self.boxes.len() as u32
+    }
+
+    /// The box of a slot.
+    pub(crate) fn box_of(&self, slot: u32) -> Option<FBox>
+        ensures { result ≡ map.get self.now slot }
+    {
+        let slot = slot as usize;
+        if slot < self.boxes.len() {
+            self.boxes[slot]
+        } else {
+            None
+        }
+    }
+
+    /// Whether the box of a slot meets another box.
+    pub(crate) fn meets(&self, slot: u32, body: &FBox) -> bool
+        ensures { result ≡ meets_at self.now body.now slot }
+    {
+        match self.box_of(slot) {
+            Some(other) => body.overlaps(&other),
+            None => false,
+        }
+    }
+
+    /// Whether the box of a slot meets a query.
+    pub(crate) fn is_found(&self, slot: u32, query: &Query) -> bool
+        ensures { result ≡ is_found self.now query.now slot }
+    {
+        match self.box_of(slot) {
+            Some(body) => query.meets(&body),
+            None => false,
+        }
+    }
+
+    /// Puts a box under an absent slot. It takes no memory.
+    pub(crate) fn put(&mut self, slot: u32, body: FBox)
+        requires small { slot < SLOTS }
+        requires absent { map.contains_key self.old slot ≡ false }
+        ensures { self.new ≡ map.insert self.old slot body }
+    {
+        self.boxes[slot as usize] = Some(body);
+    }
+
+    /// Gives a present slot another box. It takes no memory.
+    pub(crate) fn set(&mut self, slot: u32, body: FBox)
+        requires { map.contains_key self.old slot ≡ true }
+        ensures { self.new ≡ map.insert self.old slot body }
+    {
+        self.boxes[slot as usize] = Some(body);
+    }
+
+    /// Takes a present slot out. It takes no memory.
+    pub(crate) fn take(&mut self, slot: u32)
+        requires { map.contains_key self.old slot ≡ true }
+        ensures { self.new ≡ map.remove self.old slot }
+    {
+        self.boxes[slot as usize] = None;
+    }
+
+    /// Appends the present slots whose boxes meet a query, rising. It tests each box. After an `Err` `out` is as before.
+    pub(crate) fn push_found(&self, query: &Query, out: &mut Vec<u32>) -> Result<(), NoMemory>
+        ensures ok { OnOk result (out.new.items ≡ out.old.items ++ found self.now query.now) }
+        ensures err { OnErr result (out.new.items ≡ out.old.items) }
+    {
+        let before = out.len();
+        let pushed = push_met(&self.boxes, query, out);
+        if pushed.is_err() {
+            out.truncate(before);
+        }
+        pushed
+    }
+
+    /// The present slots, rising.
+    pub(crate) fn present(&self, alloc: Global) -> Result<Vec<u32>, NoMemory>
+        ensures slots { IfOk result (λ slots. slots.items ≡ present self.now) }
+        ensures few { IfOk result (λ slots. length slots.items ≤ SLOTS) }
+        ensures present { IfOk result (λ slots. All (λ slot. map.contains_key self.now slot ≡ true) slots.items) }
+    {
+        let slots = present_slots(alloc, &self.boxes)?;
+        Ok(slots)
+    }
+}
+
+// No slot has a box.
+fn no_boxes(alloc: Global) -> Result<Vec<Option<FBox>>, NoMemory>
+    ensures len { IfOk result (λ boxes. length boxes.items ≡ SLOTS) }
+    ensures none { IfOk result (λ boxes. (k : ℕ) → slice_index_or boxes.items k None ≡ None) }
+{
+    let mut boxes = Vec::with_capacity(alloc, SLOTS as usize)?;
+    'boxes: for _slot in 0..SLOTS {
+        boxes.push(None)?;
+    }
+    Ok(boxes)
+}
+
+// Appends the slots whose boxes meet a query. What was there stays, after an `Err` too.
+fn push_met(
+    boxes: &[Option<FBox>],
+    query: &Query,
+    out: &mut Vec<u32>,
+) -> Result<(), NoMemory>
+    requires { length boxes.now ≡ SLOTS }
+    ensures ok { OnOk result (out.new.items ≡ out.old.items ++ found_of (entries_from 0 boxes.now) query.now) }
+    ensures kept { take (vec_len out.old) out.new.items ≡ out.old.items }
+{
+    let mut rest = boxes;
+    let mut slot = 0;
+    'slots: while let [body, more @ ..] = rest {
+        if is_met(body, query) {
+            out.push(slot)?;
+        }
+        slot += 1;
+        rest = more;
+    }
+    Ok(())
+}
+
+fn is_met(body: &Option<FBox>, query: &Query) -> bool
+    ensures { result ≡ meets_query query.now body.now }
+{
+    match body {
+        Some(body) => query.meets(body),
+        None => false,
+    }
+}
+
+// The slots that have boxes.
+fn present_slots(alloc: Global, boxes: &[Option<FBox>]) -> Result<Vec<u32>, NoMemory>
+    requires { length boxes.now ≡ SLOTS }
+    ensures slots { IfOk result (λ slots. slots.items ≡ mapped (λ e. e.0) (entries_from 0 boxes.now)) }
+    ensures few { IfOk result (λ slots. length slots.items ≤ SLOTS) }
+{
+    let mut slots = Vec::with_capacity(alloc, SLOTS as usize)?;
+    let mut rest = boxes;
+    let mut slot = 0;
+    'slots: while let [body, more @ ..] = rest {
+        if body.is_some() {
+            slots.push(slot)?;
+        }
+        slot += 1;
+        rest = more;
+    }
+    Ok(slots)
+}

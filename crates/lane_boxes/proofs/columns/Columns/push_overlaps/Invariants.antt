@@ -1,0 +1,15 @@
+-- What was appended, with what a plain filter keeps from `at` on, is the whole.
+use Rattle.std.proofs.Common.{◌≡◌, ◌+◌, ◌-◌, ◌<◌, ◌≤◌, ◌^◌, ◌++◌, drop, take, vec_len}
+use Rattle.fixed_box.specs.Bounds.{meets}
+use Rattle.lane_boxes.specs.Places.{places}
+use Rattle.lane_boxes.proofs.columns.Columns.push_overlaps.Given as goal
+
+abbrev pub invariant-blocks-2 : goal.invariant-blocks-2
+invariant-blocks-2 l = record {
+  after : l.from ≤ l.at;
+  whole : l.out.items ++ places (meets l.body) l.at (drop l.at l.self.boxes) ≡ l.fn.out.items ++ places (meets l.body) l.from (drop l.from l.self.boxes);
+  kept : take (vec_len l.fn.out) l.out.items ≡ l.fn.out.items
+}
+
+abbrev pub decreases-blocks-2 : goal.decreases-blocks-2
+decreases-blocks-2 l = l.len - l.at

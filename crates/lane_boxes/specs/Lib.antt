@@ -1,0 +1,4 @@
+pub mod Bits
+pub mod Boxes
+pub mod Places
+pub mod Spans

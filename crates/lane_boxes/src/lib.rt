@@ -1,0 +1,17 @@
+//! Boxes in six columns, tested eight at a time by the lanes of vectors.
+#![tactic(auto)]
+
+mod axis;
+mod columns;
+mod laws;
+mod places;
+mod span;
+
+pub use columns::Columns;
+pub use laws::{beside_laws, place_laws};
+
+/// How many boxes are tested at once.
+pub const LANES: usize = 8;
+
+#[cfg(test)]
+mod tests;
