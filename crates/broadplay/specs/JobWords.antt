@@ -4,14 +4,16 @@ use Rattle.std.specs.Prelude.{◌∷◌, codes, bytes_eq, if◌then◌else◌, i
 use Rattle.broadplay.specs.declared.job.Choices.{Choices}
 use Rattle.broadplay.specs.declared.job.Job.{Job}
 use Rattle.broadplay.specs.declared.job.Structure.{Structure}
-use Rattle.broadplay.specs.declared.job.Structure.TheVariants.{Plain, Sap}
+use Rattle.broadplay.specs.declared.job.Structure.TheVariants.{Plain, Sap, Tree, Grid}
 use Rattle.broadplay.specs.declared.job.Task.TheVariants.{Play}
 
 -- a structure by its word
 abbrev pub structure_of : List ℕ → Option Structure
 structure_of word =
     if bytes_eq word (codes "plain") then Some Plain
-    else (if bytes_eq word (codes "sap") then Some Sap else None)
+    else (if bytes_eq word (codes "sap") then Some Sap
+    else (if bytes_eq word (codes "tree") then Some Tree
+    else (if bytes_eq word (codes "grid") then Some Grid else None)))
 
 -- whether a structure counts exchanges
 abbrev pub counts : Structure → Bool

@@ -16,6 +16,10 @@ pub enum Structure {
     Plain,
     /// Sweep and prune over three sorted lists of endpoints.
     Sap,
+    /// A balanced tree of fat boxes.
+    Tree,
+    /// A hashed hierarchical grid.
+    Grid,
 }
 
 /// What a command line asks for.
@@ -138,6 +142,8 @@ fn read_structure(word: &str) -> Option<Structure>
     match word {
         "plain" => Some(Structure::Plain),
         "sap" => Some(Structure::Sap),
+        "tree" => Some(Structure::Tree),
+        "grid" => Some(Structure::Grid),
         _ => None,
     }
 }

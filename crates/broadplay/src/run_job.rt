@@ -6,9 +6,11 @@ ghost use Rattle.frame_player.specs.Play.{played};
 ghost use Rattle.broadplay.specs.JobWords.{job, shows_exchanges};
 
 use crate::job::{Structure, read_words};
+use box_tree::BoxTree;
 use broad_index::{BroadPhase, NoGate, PlainIndex};
 use fixed_box::NoMemory;
 use frame_player::{Limits, Options, Status, play};
+use hier_grid::HierGrid;
 use play_io::{Sink, Source};
 use scene_lines::MOST_LINES;
 use std::alloc::Global;
@@ -49,6 +51,8 @@ pub fn broadplay<R: Threads + Sync, S: Source, K: Sink>(
     match job.structure {
         Structure::Plain => play_over(rt, alloc, PlainIndex::new(alloc), job.options, source, sink),
         Structure::Sap => play_over(rt, alloc, Sap::new(alloc), job.options, source, sink),
+        Structure::Tree => play_over(rt, alloc, BoxTree::new(alloc), job.options, source, sink),
+        Structure::Grid => play_over(rt, alloc, HierGrid::new(alloc), job.options, source, sink),
     }
 }
 

@@ -126,12 +126,16 @@ fn scenes_give_their_reports(rt: HostRuntime) -> Result<(), Fail> {
             Status::Done,
         ),
     ];
-    let words: [&[&str]; 5] = [
+    let words: [&[&str]; 9] = [
         &["play"],
         &["play", "--workers", "4"],
         &["play", "--with", "sap"],
         &["play", "--with", "plain"],
         &["play", "--workers", "16", "--with", "plain"],
+        &["play", "--with", "tree"],
+        &["play", "--with", "tree", "--workers", "4"],
+        &["play", "--with", "grid"],
+        &["play", "--with", "grid", "--workers", "4"],
     ];
     for (scene, report, status) in rows {
         for list in words {
