@@ -12,7 +12,8 @@ use std::env;
 use std::process::ExitCode;
 use std::rt::Env;
 
-const USAGE: &str = "usage: broadplay play, then --with plain, sap, tree or grid, --workers N, --exchanges";
+const USAGE: &str =
+    "usage: broadplay play, then --with plain, sap, tree or grid, --workers N, --exchanges";
 
 fn main(rt: HostRuntime) -> ExitCode {
     let status = match words_of(&rt) {

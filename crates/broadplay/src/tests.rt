@@ -293,23 +293,29 @@ fn exchanges_are_told_at_each_frame(rt: HostRuntime) -> Result<(), Fail> {
     Ok(())
 }
 
-// 300 boxes alike, of which one moves away.
-#[test]
-fn boxes_alike_pass_one_another(rt: HostRuntime) -> Result<(), Fail> {
-    let mut scene = String::from_str(rt.alloc(), "scene 1\n")?;
-    let mut report = String::new(rt.alloc());
+// 300 boxes alike, of which the first may move away, with the numbers of exchanges if they are told.
+fn boxes_alike<R: Threads + Sync + Abort>(
+    rt: &R,
+    alloc: Global,
+    words: &[&str],
+    first: &str,
+    corners: &str,
+    exchanges: [&str; 2],
+) -> Result<(), Fail> {
+    let mut scene = String::from_str(alloc, "scene 1\n")?;
+    let mut report = String::new(alloc);
     for slot in 0..300 {
-        writeln!(scene, "add 0 0 0 1 1 1")?;
+        writeln!(scene, "add {corners}")?;
         writeln!(report, "add {slot}:0")?;
     }
-    writeln!(scene, "frame\nmove 0:0 5 5 5 6 6 6\nframe")?;
+    writeln!(scene, "frame\nmove 0:0 {first}\nframe")?;
     writeln!(report, "frame 1 44850")?;
     for a in 0..300 {
         for b in a + 1..300 {
             writeln!(report, "begin {a}:0 {b}:0")?;
         }
     }
-    writeln!(report, "exchanges 134550\nframe 2 44551")?;
+    writeln!(report, "{}frame 2 44551", exchanges[0])?;
     for a in 1..300 {
         for b in a + 1..300 {
             writeln!(report, "stay {a}:0 {b}:0")?;
@@ -318,14 +324,59 @@ fn boxes_alike_pass_one_another(rt: HostRuntime) -> Result<(), Fail> {
     for b in 1..300 {
         writeln!(report, "over 0:0 {b}:0")?;
     }
-    writeln!(report, "exchanges 2691\nend 304 2 300")?;
+    writeln!(report, "{}end 304 2 300", exchanges[1])?;
     written(
-        &rt,
-        rt.alloc(),
-        &["play", "--exchanges"],
+        rt,
+        alloc,
+        words,
         scene.as_bytes(),
         report.as_bytes(),
         Status::Done,
+    )
+}
+
+#[test]
+fn boxes_alike_are_all_pairs(rt: HostRuntime) -> Result<(), Fail> {
+    let words: [&[&str]; 5] = [
+        &["play", "--with", "plain"],
+        &["play", "--with", "sap"],
+        &["play", "--with", "tree"],
+        &["play", "--with", "grid"],
+        &["play", "--with", "tree", "--workers", "4"],
+    ];
+    for list in words {
+        boxes_alike(
+            &rt,
+            rt.alloc(),
+            list,
+            "5 5 5 6 6 6",
+            "0 0 0 1 1 1",
+            ["", ""],
+        )?;
+    }
+    // At the end of the coordinates.
+    for list in words {
+        boxes_alike(
+            &rt,
+            rt.alloc(),
+            list,
+            "-32768 5 5 6 6 6",
+            "32767 32767 32767 32767 32767 32767",
+            ["", ""],
+        )?;
+    }
+    Ok(())
+}
+
+#[test]
+fn boxes_alike_pass_one_another(rt: HostRuntime) -> Result<(), Fail> {
+    boxes_alike(
+        &rt,
+        rt.alloc(),
+        &["play", "--exchanges"],
+        "5 5 5 6 6 6",
+        "0 0 0 1 1 1",
+        ["exchanges 134550\n", "exchanges 2691\n"],
     )
 }
 
