@@ -176,11 +176,7 @@ fn queries(state: &mut u32) -> Option<[Query; 4]> {
 }
 
 // The slots whose boxes meet a query, by a test of each.
-fn tested_hits(
-    bodies: &[Option<FBox>],
-    query: &Query,
-    out: &mut Vec<u32>,
-) -> Result<(), NoMemory> {
+fn tested_hits(bodies: &[Option<FBox>], query: &Query, out: &mut Vec<u32>) -> Result<(), NoMemory> {
     for slot in 0..SLOTS {
         if let Some(Some(body)) = bodies.get(slot as usize) {
             if query.meets(body) {
@@ -260,28 +256,48 @@ fn pairs_and_hits_rise_by_slot(rt: HostRuntime) -> Result<(), Fail> {
     Ok(())
 }
 
+// The six coordinates of a slot's fat box.
+fn fat_corners(tree: &BoxTree, slot: u32) -> Option<[i32; 6]> {
+    let fat = tree.fat_of(slot)?;
+    let (lo, hi) = (fat.lo(), fat.hi());
+    Some([lo.x, lo.y, lo.z, hi.x, hi.y, hi.z])
+}
+
 #[test]
-fn a_box_moves_inside_its_fat_box_up_to_the_margin(rt: HostRuntime) -> Result<(), Fail> {
+fn a_fat_box_has_the_margin_around_its_box(rt: HostRuntime) -> Result<(), Fail> {
     let here = cube(0).ok_or("a box")?;
     let mut tree = BoxTree::new(rt.alloc())?;
     put(&mut tree, 0, here)?;
-    let fat = tree.fat_of(0).ok_or("a fat box")?;
-    let (lo, hi) = (fat.lo(), fat.hi());
-    assert_eq!(rt; [lo.x, lo.y, lo.z].as_slice(), [-8_192, -8_192, -8_192].as_slice());
-    assert_eq!(rt; [hi.x, hi.y, hi.z].as_slice(), [73_728, 73_728, 73_728].as_slice());
-    assert!(rt; tree.fat_of(1).is_none());
-    let at_margin = cube(8_192).ok_or("a box")?;
-    assert!(rt; told(&mut tree, 0, at_margin) == Some(Moved::Inside));
-    assert!(rt; tree.fat_of(0) == Some(fat));
-    put(&mut tree, 0, here)?;
-    let past_margin = cube(8_193).ok_or("a box")?;
-    assert!(rt; told(&mut tree, 0, past_margin) == Some(Moved::Relinked));
-    let fat = tree.fat_of(0).ok_or("a fat box")?;
-    assert_eq!(rt; fat.lo().x, 1);
-    assert_eq!(rt; fat.hi().x, 81_921);
+    let wanted = Some([-8_192, -8_192, -8_192, 73_728, 73_728, 73_728]);
+    assert!(rt; fat_corners(&tree, 0) == wanted);
+    assert!(rt; fat_corners(&tree, 1).is_none());
     assert_eq!(rt; tree.height(), 0);
     assert!(rt; tree.nodes().root().is_some());
     Ok(())
+}
+
+#[test]
+fn a_box_moves_inside_its_fat_box_up_to_the_margin(rt: HostRuntime) -> Result<(), Fail> {
+    let here = cube(0).ok_or("a box")?;
+    let at_margin = cube(8_192).ok_or("a box")?;
+    let past_margin = cube(8_193).ok_or("a box")?;
+    let mut tree = BoxTree::new(rt.alloc())?;
+    put(&mut tree, 0, here)?;
+    assert!(rt; told(&mut tree, 0, at_margin) == Some(Moved::Inside));
+    assert!(rt; told(&mut tree, 0, past_margin) == Some(Moved::Relinked));
+    let wanted = Some([1, -8_192, -8_192, 81_921, 73_728, 73_728]);
+    assert!(rt; fat_corners(&tree, 0) == wanted);
+    Ok(())
+}
+
+// The edit before each of four calls for pairs.
+fn edit(tree: &mut BoxTree, call: u32, here: FBox, there: FBox) -> Result<(), NoMemory> {
+    match call {
+        0 => put(tree, 0, here),
+        1 => put(tree, 1, there),
+        2 => Ok(()),
+        _ => put(tree, 0, there),
+    }
 }
 
 #[test]
@@ -290,18 +306,13 @@ fn each_touched_slot_costs_one_descent(rt: HostRuntime) -> Result<(), Fail> {
     let there = cube(900_000).ok_or("a box")?;
     let mut tree = BoxTree::new(rt.alloc())?;
     let mut pairs = Vec::new(rt.alloc());
-    assert_eq!(rt; tree.looked(), 0);
-    put(&mut tree, 0, here)?;
-    tree.pairs(&mut pairs)?;
-    assert_eq!(rt; tree.looked(), 1);
-    put(&mut tree, 1, there)?;
-    tree.pairs(&mut pairs)?;
-    assert_eq!(rt; tree.looked(), 4);
-    tree.pairs(&mut pairs)?;
-    assert_eq!(rt; tree.looked(), 4);
-    put(&mut tree, 0, there)?;
-    tree.pairs(&mut pairs)?;
-    assert_eq!(rt; tree.looked(), 7);
+    let mut call = 0u32;
+    for looked in [1, 4, 4, 7] {
+        edit(&mut tree, call, here, there)?;
+        tree.pairs(&mut pairs)?;
+        assert_eq!(rt; tree.looked(), looked);
+        call = call.saturating_add(1);
+    }
     assert_eq!(rt; pairs.as_slice(), [Pair { a: 0, b: 1 }].as_slice());
     Ok(())
 }
@@ -312,17 +323,13 @@ fn each_touched_slot_costs_one_descent_on_two_threads(rt: HostRuntime) -> Result
     let there = cube(900_000).ok_or("a box")?;
     let mut tree = BoxTree::new(rt.alloc())?;
     let mut pairs = Vec::new(rt.alloc());
-    put(&mut tree, 0, here)?;
-    tree.pairs_with(&rt, 2, &NoGate, &mut pairs)?;
-    assert_eq!(rt; tree.looked(), 1);
-    put(&mut tree, 1, there)?;
-    tree.pairs_with(&rt, 2, &NoGate, &mut pairs)?;
-    assert_eq!(rt; tree.looked(), 4);
-    tree.pairs_with(&rt, 2, &NoGate, &mut pairs)?;
-    assert_eq!(rt; tree.looked(), 4);
-    put(&mut tree, 0, there)?;
-    tree.pairs_with(&rt, 2, &NoGate, &mut pairs)?;
-    assert_eq!(rt; tree.looked(), 7);
+    let mut call = 0u32;
+    for looked in [1, 4, 4, 7] {
+        edit(&mut tree, call, here, there)?;
+        tree.pairs_with(&rt, 2, &NoGate, &mut pairs)?;
+        assert_eq!(rt; tree.looked(), looked);
+        call = call.saturating_add(1);
+    }
     assert_eq!(rt; pairs.as_slice(), [Pair { a: 0, b: 1 }].as_slice());
     Ok(())
 }
@@ -354,30 +361,39 @@ fn slots_are_sought_on_two_threads(rt: HostRuntime) -> Result<(), Fail> {
     Ok(())
 }
 
+// How many pairs there are now.
+fn count_pairs(tree: &mut BoxTree, alloc: Global) -> Result<usize, NoMemory> {
+    let mut pairs = Vec::new(alloc);
+    tree.pairs(&mut pairs)?;
+    Ok(pairs.len())
+}
+
 #[test]
 fn a_slot_that_is_given_again_has_no_old_pairs(rt: HostRuntime) -> Result<(), Fail> {
     let here = cube(0).ok_or("a box")?;
     let there = cube(900_000).ok_or("a box")?;
     let mut tree = BoxTree::new(rt.alloc())?;
-    let mut pairs = Vec::new(rt.alloc());
     put(&mut tree, 0, here)?;
     put(&mut tree, 1, here)?;
-    tree.pairs(&mut pairs)?;
-    assert_eq!(rt; pairs.as_slice(), [Pair { a: 0, b: 1 }].as_slice());
+    assert_eq!(rt; count_pairs(&mut tree, rt.alloc())?, 1);
     take(&mut tree, 1);
     put(&mut tree, 1, there)?;
-    pairs.clear();
-    tree.pairs(&mut pairs)?;
-    assert!(rt; pairs.is_empty());
+    assert_eq!(rt; count_pairs(&mut tree, rt.alloc())?, 0);
+    Ok(())
+}
+
+#[test]
+fn a_slot_that_is_given_again_and_moved_back_has_its_pairs(rt: HostRuntime) -> Result<(), Fail> {
+    let here = cube(0).ok_or("a box")?;
+    let there = cube(900_000).ok_or("a box")?;
+    let mut tree = BoxTree::new(rt.alloc())?;
+    put(&mut tree, 0, here)?;
+    put(&mut tree, 1, here)?;
+    assert_eq!(rt; count_pairs(&mut tree, rt.alloc())?, 1);
     take(&mut tree, 1);
     put(&mut tree, 1, there)?;
     put(&mut tree, 1, here)?;
-    tree.pairs(&mut pairs)?;
-    assert_eq!(rt; pairs.as_slice(), [Pair { a: 0, b: 1 }].as_slice());
-    take(&mut tree, 0);
-    pairs.clear();
-    tree.pairs(&mut pairs)?;
-    assert!(rt; pairs.is_empty());
+    assert_eq!(rt; count_pairs(&mut tree, rt.alloc())?, 1);
     Ok(())
 }
 
