@@ -79,8 +79,20 @@ module _ (bodies : List (Option Bounds)) where
           by_list (u ∷ us) st low wi fo co =
               let p = same_from_push rest (tops us) at (top u) (sym e ∙ st) in
               record {
-                t = s.t; u = u; us = us; is = s.is; is_tree = s.is_tree; inside = s.inside; at_is = p.1; rest_is = p.0; low_here = low.0; low = low.1;
-                here = wi.0; within = wi.1; found_is = fo; count_is = co
+                t = s.t;
+                u = u;
+                us = us;
+                is = s.is;
+                is_tree = s.is_tree;
+                inside = s.inside;
+                at_is = p.1;
+                rest_is = p.0;
+                low_here = low.0;
+                low = low.1;
+                here = wi.0;
+                within = wi.1;
+                found_is = fo;
+                count_is = co;
               }
 
       pub popped_shown : (o : Option Tree) (rest before now : List ℕ) (at count : ℕ) → (p : Popped o bodies q rest at before now count)
@@ -113,9 +125,16 @@ module _ (bodies : List (Option Bounds)) where
               let x : Leaf = record { node = n; slot = s; fat = f } in
               let at_leaf : List ℕ = cond (meets_query q (get_or bodies s None)) (s ∷ []) [] in
               record {
-                t = p.t; us = p.us; is = p.is; is_tree = p.is_tree; inside = p.inside; stack_is = append-nil rest ∙ p.rest_is; low = p.low; within = p.within;
+                t = p.t;
+                us = p.us;
+                is = p.is;
+                is_tree = p.is_tree;
+                inside = p.inside;
+                stack_is = append-nil rest ∙ p.rest_is;
+                low = p.low;
+                within = p.within;
                 found_is = append_assoc now at_leaf (met (all_leaves p.us)) ∙ ap (λ xs. now ++ xs) (sym (first_met x (all_leaves p.us))) ∙ fo;
-                count_is = omega arith
+                count_is = omega arith;
               }
           by_tree (fork n h k l r) bal inside low here fo co =
               let parted : now ++ (met (leaves l ++ leaves r) ++ met (all_leaves p.us)) ≡ before ++ met (leaves p.t) =
@@ -127,21 +146,31 @@ module _ (bodies : List (Option Bounds)) where
                     let kk : k ≡ 1 + max (height l) (height r) = bal.0.height_is in
                     let c = w.children n k h l r in
                     record {
-                      t = p.t; us = l ∷ r ∷ p.us; is = p.is; is_tree = p.is_tree; inside = p.inside;
+                      t = p.t;
+                      us = l ∷ r ∷ p.us;
+                      is = p.is;
+                      is_tree = p.is_tree;
+                      inside = p.inside;
                       stack_is = sym (append_assoc rest (top r ∷ []) (top l ∷ [])) ∙ ap (λ xs. (xs ++ top r ∷ []) ++ top l ∷ []) p.rest_is;
                       low = (grind (arith), (grind (arith), p.low));
                       within = (w.deeper p.t (fork n h k l r) l here c.0, (w.deeper p.t (fork n h k l r) r here c.1, p.within));
                       found_is = rw (append-nil now) (ap (λ xs. now ++ met xs) (sym (append_assoc (leaves l) (leaves r) (all_leaves p.us))) ∙ fo);
-                      count_is = omega arith
+                      count_is = omega arith;
                     }
                 | false ↦ λ m co.
                     let none : met (leaves l ++ leaves r) ≡ [] = none_met (fork n h k l r) bal inside m in
                     record {
-                      t = p.t; us = p.us; is = p.is; is_tree = p.is_tree; inside = p.inside; stack_is = append-nil rest ∙ p.rest_is; low = p.low;
+                      t = p.t;
+                      us = p.us;
+                      is = p.is;
+                      is_tree = p.is_tree;
+                      inside = p.inside;
+                      stack_is = append-nil rest ∙ p.rest_is;
+                      low = p.low;
                       within = p.within;
                       found_is = ap (λ xs. xs ++ met (all_leaves p.us)) (append-nil now)
                           ∙ (ap (λ xs. now ++ (xs ++ met (all_leaves p.us))) (sym none) ∙ parted);
-                      count_is = omega arith
+                      count_is = omega arith;
                     }
               ] refl co
 
@@ -149,9 +178,16 @@ module _ (bodies : List (Option Bounds)) where
       pub begun : (o : Option Tree) (stack before : List ℕ) (root : ℕ) (t : Tree) → o ≡ Some t → root ≡ top t → IsTree t → IsInside bodies t
           → stack ≡ root ∷ [] → Stands o bodies q stack before before 0
       begun o stack before root t is at is_tree inside e = record {
-        t = t; us = t ∷ []; is = is; is_tree = is_tree; inside = inside; stack_is = e ∙ ap (λ x. x ∷ []) at;
-        low = (let l = is_tree.low in omega arith, tt); within = (w.itself t, tt);
-        found_is = ap (λ xs. before ++ met xs) (append-nil (leaves t)); count_is = omega arith
+        t = t;
+        us = t ∷ [];
+        is = is;
+        is_tree = is_tree;
+        inside = inside;
+        stack_is = e ∙ ap (λ x. x ∷ []) at;
+        low = (let l = is_tree.low in omega arith, tt);
+        within = (w.itself t, tt);
+        found_is = ap (λ xs. before ++ met xs) (append-nil (leaves t));
+        count_is = omega arith;
       }
 
       -- the end

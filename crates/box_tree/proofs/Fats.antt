@@ -27,9 +27,10 @@ module _ (fats : List (Option Bounds)) where
   module _ (bodies : List (Option Bounds)) (fat : AreFat fats bodies) where
     module _ (m : FinMap nat_cmp Bounds) (view : map_of bodies ≡ m) (slot : ℕ) (r : Option Bounds) (e : r ≡ get_or fats slot None) where
       pub none_viewed : (r ≡ None → contains_key m slot ≡ false) × (contains_key m slot ≡ false → r ≡ None)
-      none_viewed =
-          ((λ n. has_viewed bodies m view slot ∙ sym (fat.same slot) ∙ ap is_some (sym e ∙ n)),
-            (λ n. e ∙ none_there (get_or fats slot None) (fat.same slot ∙ sym (has_viewed bodies m view slot) ∙ n)))
+      none_viewed = (
+        (λ n. has_viewed bodies m view slot ∙ sym (fat.same slot) ∙ ap is_some (sym e ∙ n)),
+        (λ n. e ∙ none_there (get_or fats slot None) (fat.same slot ∙ sym (has_viewed bodies m view slot) ∙ n)),
+      )
 
       pub inside_viewed : (body : Bounds) → get m slot ≡ Some body → IfSome r (λ f. encloses f body ≡ true)
       inside_viewed body h = at r e
@@ -67,5 +68,5 @@ fats_held o t same fats numbers ties m view = subst (λ u. Holds m (map fat_entr
       get_viewed fats m view k ∙ subst (λ (x : ℕ × Bounds). get_or fats x.0 None ≡ Some x.1) r.2 e;
   whole = λ k b e.
       contains_map (leaves_in o) (record { node = get_or numbers k 0; slot = k; fat = b })
-      (ties.whole k b (sym (get_viewed fats m view k) ∙ e))
+      (ties.whole k b (sym (get_viewed fats m view k) ∙ e));
 })

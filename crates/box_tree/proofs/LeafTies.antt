@@ -111,8 +111,8 @@ module _ (o : Option Tree) (fats : List (Option Bounds)) (numbers : List ℕ) (t
         let x : Leaf = record { node = n; slot = slot; fat = fat } in
         let before : (y : Leaf) → Contains (leaves_in p) y → (y ≡ x) ⊎ Contains (leaves_in o) y =
         λ y c. ⊎_elim (λ a. inl (only_one y x a)) (λ b. inr b)
-            (Contains-append_cases (x ∷ []) (leaves_in o) y
-            (Contains-permutation (leaves_in p) (x ∷ leaves_in o) y (IsPermutation-sym (x ∷ leaves_in o) (leaves_in p) perm) c))
+        (Contains-append_cases (x ∷ []) (leaves_in o) y
+        (Contains-permutation (leaves_in p) (x ∷ leaves_in o) y (IsPermutation-sym (x ∷ leaves_in o) (leaves_in p) perm) c))
         in
         record {
           is_tree = tree;
@@ -131,20 +131,20 @@ module _ (o : Option Tree) (fats : List (Option Bounds)) (numbers : List ℕ) (t
               (λ h. get_or-set_other numbers slot y.slot n 0 (other y h) ∙ ties.number_is y h) (before y c);
           whole = λ k f e. ⊎_elim
               (λ same.
-                let at : get_or (set fats slot (Some fat)) slot None ≡ Some f = subst (λ j. get_or (set fats slot (Some fat)) j None ≡ Some f) same e in
-                let is : fat ≡ f = some_same fat f (sym (get_or-set_same fats slot (Some fat) None in_fats) ∙ at) in
-                let here : Contains (leaves_in p) x = Contains-permutation (x ∷ leaves_in o) (leaves_in p) x perm (0, omega arith, refl) in
-                let num : get_or (set numbers slot n) slot 0 ≡ n = get_or-set_same numbers slot n 0 in_numbers in
-                subst (λ j. Contains (leaves_in p) (record { node = get_or (set numbers slot n) j 0; slot = j; fat = f })) (sym same)
-                (subst (λ m. Contains (leaves_in p) (record { node = m; slot = slot; fat = f })) (sym num)
-                (subst (λ b. Contains (leaves_in p) (record { node = n; slot = slot; fat = b })) is here)))
+              let at : get_or (set fats slot (Some fat)) slot None ≡ Some f = subst (λ j. get_or (set fats slot (Some fat)) j None ≡ Some f) same e in
+              let is : fat ≡ f = some_same fat f (sym (get_or-set_same fats slot (Some fat) None in_fats) ∙ at) in
+              let here : Contains (leaves_in p) x = Contains-permutation (x ∷ leaves_in o) (leaves_in p) x perm (0, omega arith, refl) in
+              let num : get_or (set numbers slot n) slot 0 ≡ n = get_or-set_same numbers slot n 0 in_numbers in
+              subst (λ j. Contains (leaves_in p) (record { node = get_or (set numbers slot n) j 0; slot = j; fat = f })) (sym same)
+              (subst (λ m. Contains (leaves_in p) (record { node = m; slot = slot; fat = f })) (sym num)
+              (subst (λ b. Contains (leaves_in p) (record { node = n; slot = slot; fat = b })) is here)))
               (λ ne.
-                let was : get_or fats k None ≡ Some f = sym (get_or-set_other fats slot k (Some fat) None ne) ∙ e in
-                let y : Leaf = record { node = get_or numbers k 0; slot = k; fat = f } in
-                let here : Contains (leaves_in p) y =
-                Contains-permutation (x ∷ leaves_in o) (leaves_in p) y perm (Contains-append_right (x ∷ []) (leaves_in o) y (ties.whole k f was)) in
-                subst (λ m. Contains (leaves_in p) (record { node = m; slot = k; fat = f })) (sym (get_or-set_other numbers slot k n 0 ne)) here)
-              (cases_eq k slot)
+              let was : get_or fats k None ≡ Some f = sym (get_or-set_other fats slot k (Some fat) None ne) ∙ e in
+              let y : Leaf = record { node = get_or numbers k 0; slot = k; fat = f } in
+              let here : Contains (leaves_in p) y =
+              Contains-permutation (x ∷ leaves_in o) (leaves_in p) y perm (Contains-append_right (x ∷ []) (leaves_in o) y (ties.whole k f was)) in
+              subst (λ m. Contains (leaves_in p) (record { node = m; slot = k; fat = f })) (sym (get_or-set_other numbers slot k n 0 ne)) here)
+              (cases_eq k slot);
         }
 
   module _ (f0 : Bounds) (present : get_or fats slot None ≡ Some f0) where
@@ -165,12 +165,12 @@ module _ (o : Option Tree) (fats : List (Option Bounds)) (numbers : List ℕ) (t
         in
         let other : (y : Leaf) → Contains (leaves_in p) y → y.slot ≢ slot =
         λ y c same.
-            let all = slots_apart o ties.is_tree slot in
-            let sum = sum_by_pushed (λ (x : Leaf). one x.slot slot) own (leaves_in p) (leaves_in o) perm in
-            let here = in_sum (λ (x : Leaf). one x.slot slot) (leaves_in p) y c.0 c.1 c.2 in
-            let a : one slot slot ≡ 1 = one_same slot in
-            let b : one y.slot slot ≡ 1 = subst (λ j. one j slot ≡ 1) (sym same) a in
-            absurd (omega (arith, all, sum, here, a, b))
+        let all = slots_apart o ties.is_tree slot in
+        let sum = sum_by_pushed (λ (x : Leaf). one x.slot slot) own (leaves_in p) (leaves_in o) perm in
+        let here = in_sum (λ (x : Leaf). one x.slot slot) (leaves_in p) y c.0 c.1 c.2 in
+        let a : one slot slot ≡ 1 = one_same slot in
+        let b : one y.slot slot ≡ 1 = subst (λ j. one j slot ≡ 1) (sym same) a in
+        absurd (omega (arith, all, sum, here, a, b))
         in
         record {
           is_tree = tree;
@@ -184,16 +184,16 @@ module _ (o : Option Tree) (fats : List (Option Bounds)) (numbers : List ℕ) (t
           number_is = λ y c. ties.number_is y (before y c);
           whole = λ k f e. ⊎_elim
               (λ same.
-                let at : get_or (set fats slot None) slot None ≡ Some f = subst (λ j. get_or (set fats slot None) j None ≡ Some f) same e in
-                let none : ◌≡◌ {A = Option Bounds} None (Some f) = sym (get_or-set_same fats slot None None in_fats) ∙ at in
-                cc)
+              let at : get_or (set fats slot None) slot None ≡ Some f = subst (λ j. get_or (set fats slot None) j None ≡ Some f) same e in
+              let none : ◌≡◌ {A = Option Bounds} None (Some f) = sym (get_or-set_same fats slot None None in_fats) ∙ at in
+              cc)
               (λ ne.
-                let was : get_or fats k None ≡ Some f = sym (get_or-set_other fats slot k None None ne) ∙ e in
-                let y : Leaf = record { node = get_or numbers k 0; slot = k; fat = f } in
-                ⊎_elim (λ a. absurd (ne (ap (λ (z : Leaf). z.slot) (only_one y own a)))) (λ b. b)
-                (Contains-append_cases (own ∷ []) (leaves_in p) y
-                (Contains-permutation (leaves_in o) (own ∷ leaves_in p) y (IsPermutation-sym (own ∷ leaves_in p) (leaves_in o) perm) (ties.whole k f was))))
-              (cases_eq k slot)
+              let was : get_or fats k None ≡ Some f = sym (get_or-set_other fats slot k None None ne) ∙ e in
+              let y : Leaf = record { node = get_or numbers k 0; slot = k; fat = f } in
+              ⊎_elim (λ a. absurd (ne (ap (λ (z : Leaf). z.slot) (only_one y own a)))) (λ b. b)
+              (Contains-append_cases (own ∷ []) (leaves_in p) y
+              (Contains-permutation (leaves_in o) (own ∷ leaves_in p) y (IsPermutation-sym (own ∷ leaves_in p) (leaves_in o) perm) (ties.whole k f was))))
+              (cases_eq k slot);
         }
 
     module _ (law : LeafLaw) (fat : Bounds) where
@@ -262,27 +262,27 @@ module _ (o : Option Tree) (fats : List (Option Bounds)) (numbers : List ℕ) (t
                 subst (λ (x : Leaf). get_or (set fats slot (Some fat)) x.slot None ≡ Some x.fat) r.2
                 (⊎_elim
                 (λ same.
-                  subst (λ j. get_or (set fats slot (Some fat)) j None ≡ Some (g r.0).fat) (sym same)
-                  (get_or-set_same fats slot (Some fat) None in_fats ∙ ap Some (sym (own_is r.0 r.1 same))))
+                subst (λ j. get_or (set fats slot (Some fat)) j None ≡ Some (g r.0).fat) (sym same)
+                (get_or-set_same fats slot (Some fat) None in_fats ∙ ap Some (sym (own_is r.0 r.1 same))))
                 (λ ne.
-                  get_or-set_other fats slot (r.0).slot (Some fat) None ne ∙ ties.fat_is r.0 r.1
-                  ∙ ap (λ (x : Leaf). Some x.fat) (sym (other_stays r.0 r.1 ne)))
+                get_or-set_other fats slot (r.0).slot (Some fat) None ne ∙ ties.fat_is r.0 r.1
+                ∙ ap (λ (x : Leaf). Some x.fat) (sym (other_stays r.0 r.1 ne)))
                 (cases_eq (r.0).slot slot));
             number_is = λ y c.
                 let r = before y c in
                 subst (λ (x : Leaf). get_or numbers x.slot 0 ≡ x.node) r.2 (ties.number_is r.0 r.1);
             whole = λ k f h. ⊎_elim
                 (λ same.
-                  let at : get_or (set fats slot (Some fat)) slot None ≡ Some f = subst (λ j. get_or (set fats slot (Some fat)) j None ≡ Some f) same h in
-                  let is : fat ≡ f = some_same fat f (sym (get_or-set_same fats slot (Some fat) None in_fats) ∙ at) in
-                  subst (λ j. Contains (leaves_in p) (record { node = get_or numbers j 0; slot = j; fat = f })) (sym same)
-                  (subst (λ b. Contains (leaves_in p) (record { node = get_or numbers slot 0; slot = slot; fat = b })) is
-                  (subst (λ (x : Leaf). Contains (leaves_in p) x) own_moved (after own own_there))))
+                let at : get_or (set fats slot (Some fat)) slot None ≡ Some f = subst (λ j. get_or (set fats slot (Some fat)) j None ≡ Some f) same h in
+                let is : fat ≡ f = some_same fat f (sym (get_or-set_same fats slot (Some fat) None in_fats) ∙ at) in
+                subst (λ j. Contains (leaves_in p) (record { node = get_or numbers j 0; slot = j; fat = f })) (sym same)
+                (subst (λ b. Contains (leaves_in p) (record { node = get_or numbers slot 0; slot = slot; fat = b })) is
+                (subst (λ (x : Leaf). Contains (leaves_in p) x) own_moved (after own own_there))))
                 (λ ne.
-                  let was : get_or fats k None ≡ Some f = sym (get_or-set_other fats slot k (Some fat) None ne) ∙ h in
-                  let y : Leaf = record { node = get_or numbers k 0; slot = k; fat = f } in
-                  subst (λ (x : Leaf). Contains (leaves_in p) x) (other_stays y (ties.whole k f was) ne) (after y (ties.whole k f was)))
-                (cases_eq k slot)
+                let was : get_or fats k None ≡ Some f = sym (get_or-set_other fats slot k (Some fat) None ne) ∙ h in
+                let y : Leaf = record { node = get_or numbers k 0; slot = k; fat = f } in
+                subst (λ (x : Leaf). Contains (leaves_in p) x) (other_stays y (ties.whole k f was) ne) (after y (ties.whole k f was)))
+                (cases_eq k slot);
           }
 
 -- a slot that has a value

@@ -41,14 +41,15 @@ module _ (o : Option Tree) (bodies fats : List (Option Bounds)) (numbers : List 
       let e = s.ties.fat_is x c in
       record {
         small = within bodies x.slot (sym (s.fat.same x.slot) ∙ ap is_some e);
-        inside = λ b h. s.fat.inside x.slot x.fat b e h
+        inside = λ b h. s.fat.inside x.slot x.fat b e h;
       }
 
   tree_inside : (t : Tree) → ((x : Leaf) → Contains (leaves t) x → IsLeafInside bodies x.slot x.fat) → IsInside bodies t
   tree_inside (tip n sl f) h = h (record { node = n; slot = sl; fat = f }) (0, omega arith, refl)
-  tree_inside (fork n hu k l r) h =
-      (tree_inside l (λ x c. h x (Contains-append_left (leaves l) (leaves r) x c)),
-        tree_inside r (λ x c. h x (Contains-append_right (leaves l) (leaves r) x c)))
+  tree_inside (fork n hu k l r) h = (
+    tree_inside l (λ x c. h x (Contains-append_left (leaves l) (leaves r) x c)),
+    tree_inside r (λ x c. h x (Contains-append_right (leaves l) (leaves r) x c)),
+  )
 
   -- the fat boxes of the leaves enclose their boxes
   pub all_inside : IsInsideIn bodies o
@@ -99,7 +100,7 @@ module _ (o : Option Tree) (bodies fats : List (Option Bounds)) (numbers : List 
         let h : get_or bodies k None ≡ Some b = sym (get_map bodies k) ∙ e in
         let f = some_there (get_or fats k None) (s.fat.same k ∙ ap is_some h) in
         let c = s.ties.whole k f.0 f.1 in
-        there_exact (leaves_in o) (record { node = get_or numbers k 0; slot = k; fat = f.0 }) b c.0 c.1 c.2 h
+        there_exact (leaves_in o) (record { node = get_or numbers k 0; slot = k; fat = f.0 }) b c.0 c.1 c.2 h;
   })
 
   others_of : (slot : ℕ) (body : Bounds) (es : List (ℕ × Bounds))
@@ -167,27 +168,27 @@ has_marked mark (e ∷ es) k =
     let h : Bool = has_slot (map (λ (e : ℕ × Bounds). e.0) es) k in
     ⊎_elim
     (λ same.
-      let yes : (k == e.0) ≡ true = eq-eqb k e.0 same in
-      elim (cases_Bool (mark k)) as
-      (λ _. has_slot (map (λ (e : ℕ × Bounds). e.0) (cond (mark e.0) (e ∷ more) more)) k ≡ (mark k && ((k == e.0) || h))) [
-        | inl t ↦
-            let at : mark e.0 ≡ true = subst (λ j. mark j ≡ true) same t in
-            ap (λ b. has_slot (map (λ (e : ℕ × Bounds). e.0) (cond b (e ∷ more) more)) k) at
-            ∙ ap (λ b. b || has_slot (map (λ (e : ℕ × Bounds). e.0) more) k) yes
-            ∙ sym (ap (λ b. b && ((k == e.0) || h)) t ∙ ap (λ b. b || h) yes)
-        | inr f ↦
-            let at : mark e.0 ≡ false = subst (λ j. mark j ≡ false) same f in
-            ap (λ b. has_slot (map (λ (e : ℕ × Bounds). e.0) (cond b (e ∷ more) more)) k) at
-            ∙ rest ∙ ap (λ b. b && h) f
-            ∙ sym (ap (λ b. b && ((k == e.0) || h)) f)
-      ])
+    let yes : (k == e.0) ≡ true = eq-eqb k e.0 same in
+    elim (cases_Bool (mark k)) as
+    (λ _. has_slot (map (λ (e : ℕ × Bounds). e.0) (cond (mark e.0) (e ∷ more) more)) k ≡ (mark k && ((k == e.0) || h))) [
+      | inl t ↦
+          let at : mark e.0 ≡ true = subst (λ j. mark j ≡ true) same t in
+          ap (λ b. has_slot (map (λ (e : ℕ × Bounds). e.0) (cond b (e ∷ more) more)) k) at
+          ∙ ap (λ b. b || has_slot (map (λ (e : ℕ × Bounds). e.0) more) k) yes
+          ∙ sym (ap (λ b. b && ((k == e.0) || h)) t ∙ ap (λ b. b || h) yes)
+      | inr f ↦
+          let at : mark e.0 ≡ false = subst (λ j. mark j ≡ false) same f in
+          ap (λ b. has_slot (map (λ (e : ℕ × Bounds). e.0) (cond b (e ∷ more) more)) k) at
+          ∙ rest ∙ ap (λ b. b && h) f
+          ∙ sym (ap (λ b. b && ((k == e.0) || h)) f)
+    ])
     (λ ne.
-      let no : (k == e.0) ≡ false = eqb_other k e.0 ne in
-      elim (mark e.0) as
-      (λ b. has_slot (map (λ (e : ℕ × Bounds). e.0) (cond b (e ∷ more) more)) k ≡ (mark k && ((k == e.0) || h))) [
-        | true ↦ ap (λ b. b || has_slot (map (λ (e : ℕ × Bounds). e.0) more) k) no ∙ rest ∙ sym (ap (λ b. mark k && (b || h)) no)
-        | false ↦ rest ∙ sym (ap (λ b. mark k && (b || h)) no)
-      ])
+    let no : (k == e.0) ≡ false = eqb_other k e.0 ne in
+    elim (mark e.0) as
+    (λ b. has_slot (map (λ (e : ℕ × Bounds). e.0) (cond b (e ∷ more) more)) k ≡ (mark k && ((k == e.0) || h))) [
+      | true ↦ ap (λ b. b || has_slot (map (λ (e : ℕ × Bounds). e.0) more) k) no ∙ rest ∙ sym (ap (λ b. mark k && (b || h)) no)
+      | false ↦ rest ∙ sym (ap (λ b. mark k && (b || h)) no)
+    ])
     (cases_eq k e.0)
 
 tied : (k : ℕ) (xs : List ℕ) → list_any (eq_by_cmp nat_cmp k) xs ≡ list_any (λ x. k == x) xs
@@ -251,7 +252,7 @@ pub costs_viewed : (o : Option Tree) (bodies fats : List (Option Bounds)) (marks
     → n ≡ raised v.looked (sum (map (cost v) (sought v)))
 costs_viewed o bodies fats marks looked n v view e =
     e ∙ ap (λ l. raised looked (sum l))
-        (ap (map (λ k. visits_for o (get_or bodies k None))) (marked_is marks bodies) ∙ same_costs o bodies (marked_of marks (map_of bodies)))
+    (ap (map (λ k. visits_for o (get_or bodies k None))) (marked_is marks bodies) ∙ same_costs o bodies (marked_of marks (map_of bodies)))
     ∙ ap (λ (b : Boxes). raised b.looked (sum (map (cost b) (sought b)))) view
 
 abbrev pub FoundLaw : Type 0

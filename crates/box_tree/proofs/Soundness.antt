@@ -46,15 +46,15 @@ module _ (fats bodies : List (Option Bounds)) (fat : AreFat fats bodies) (slot :
   fat_inside f b is e = record {
     same = λ k. ⊎_elim
         (λ s. subst (λ j. is_some (get_or fats j None) ≡ is_some (get_or (set bodies slot (Some b)) j None)) (sym s)
-          (ap is_some is ∙ sym (ap is_some (get_or-set_same bodies slot (Some b) None in_bodies))))
+        (ap is_some is ∙ sym (ap is_some (get_or-set_same bodies slot (Some b) None in_bodies))))
         (λ ne. fat.same k ∙ sym (ap is_some (get_or-set_other bodies slot k (Some b) None ne))) (fat_cases k);
     inside = λ k g c eg ec. ⊎_elim
         (λ s.
-          let g_is : f ≡ g = some_eq f g (sym is ∙ subst (λ j. get_or fats j None ≡ Some g) s eg) in
-          let c_is : b ≡ c = some_eq b c (sym (get_or-set_same bodies slot (Some b) None in_bodies)
-              ∙ subst (λ j. get_or (set bodies slot (Some b)) j None ≡ Some c) s ec) in
-          subst (λ x. encloses x c ≡ true) g_is (subst (λ x. encloses f x ≡ true) c_is e))
-        (λ ne. fat.inside k g c eg (sym (get_or-set_other bodies slot k (Some b) None ne) ∙ ec)) (fat_cases k)
+        let g_is : f ≡ g = some_eq f g (sym is ∙ subst (λ j. get_or fats j None ≡ Some g) s eg) in
+        let c_is : b ≡ c = some_eq b c (sym (get_or-set_same bodies slot (Some b) None in_bodies)
+        ∙ subst (λ j. get_or (set bodies slot (Some b)) j None ≡ Some c) s ec) in
+        subst (λ x. encloses x c ≡ true) g_is (subst (λ x. encloses f x ≡ true) c_is e))
+        (λ ne. fat.inside k g c eg (sym (get_or-set_other bodies slot k (Some b) None ne) ∙ ec)) (fat_cases k);
   }
 
   module _ (in_fats : slot < length fats) where
@@ -63,18 +63,18 @@ module _ (fats bodies : List (Option Bounds)) (fat : AreFat fats bodies) (slot :
     fat_put f b e = record {
       same = λ k. ⊎_elim
           (λ s. subst (λ j. is_some (get_or (set fats slot (Some f)) j None) ≡ is_some (get_or (set bodies slot (Some b)) j None)) (sym s)
-            (ap is_some (get_or-set_same fats slot (Some f) None in_fats) ∙ sym (ap is_some (get_or-set_same bodies slot (Some b) None in_bodies))))
+          (ap is_some (get_or-set_same fats slot (Some f) None in_fats) ∙ sym (ap is_some (get_or-set_same bodies slot (Some b) None in_bodies))))
           (λ ne. ap is_some (get_or-set_other fats slot k (Some f) None ne) ∙ fat.same k
-            ∙ sym (ap is_some (get_or-set_other bodies slot k (Some b) None ne))) (fat_cases k);
+          ∙ sym (ap is_some (get_or-set_other bodies slot k (Some b) None ne))) (fat_cases k);
       inside = λ k g c eg ec. ⊎_elim
           (λ s.
-            let g_is : f ≡ g = some_eq f g (sym (get_or-set_same fats slot (Some f) None in_fats)
-                ∙ subst (λ j. get_or (set fats slot (Some f)) j None ≡ Some g) s eg) in
-            let c_is : b ≡ c = some_eq b c (sym (get_or-set_same bodies slot (Some b) None in_bodies)
-                ∙ subst (λ j. get_or (set bodies slot (Some b)) j None ≡ Some c) s ec) in
-            subst (λ x. encloses x c ≡ true) g_is (subst (λ x. encloses f x ≡ true) c_is e))
+          let g_is : f ≡ g = some_eq f g (sym (get_or-set_same fats slot (Some f) None in_fats)
+          ∙ subst (λ j. get_or (set fats slot (Some f)) j None ≡ Some g) s eg) in
+          let c_is : b ≡ c = some_eq b c (sym (get_or-set_same bodies slot (Some b) None in_bodies)
+          ∙ subst (λ j. get_or (set bodies slot (Some b)) j None ≡ Some c) s ec) in
+          subst (λ x. encloses x c ≡ true) g_is (subst (λ x. encloses f x ≡ true) c_is e))
           (λ ne. fat.inside k g c (sym (get_or-set_other fats slot k (Some f) None ne) ∙ eg)
-            (sym (get_or-set_other bodies slot k (Some b) None ne) ∙ ec)) (fat_cases k)
+          (sym (get_or-set_other bodies slot k (Some b) None ne) ∙ ec)) (fat_cases k);
     }
 
     -- both are wiped
@@ -82,16 +82,16 @@ module _ (fats bodies : List (Option Bounds)) (fat : AreFat fats bodies) (slot :
     fat_taken = record {
       same = λ k. ⊎_elim
           (λ s. subst (λ j. is_some (get_or (set fats slot None) j None) ≡ is_some (get_or (set bodies slot None) j None)) (sym s)
-            (ap is_some (get_or-set_same fats slot None None in_fats) ∙ sym (ap is_some (get_or-set_same bodies slot None None in_bodies))))
+          (ap is_some (get_or-set_same fats slot None None in_fats) ∙ sym (ap is_some (get_or-set_same bodies slot None None in_bodies))))
           (λ ne. ap is_some (get_or-set_other fats slot k None None ne) ∙ fat.same k
-            ∙ sym (ap is_some (get_or-set_other bodies slot k None None ne))) (fat_cases k);
+          ∙ sym (ap is_some (get_or-set_other bodies slot k None None ne))) (fat_cases k);
       inside = λ k g c eg ec. ⊎_elim
           (λ s.
-            let none : ◌≡◌ {A = Option Bounds} None (Some g) = sym (get_or-set_same fats slot None None in_fats)
-                ∙ subst (λ j. get_or (set fats slot None) j None ≡ Some g) s eg in
-            cc)
+          let none : ◌≡◌ {A = Option Bounds} None (Some g) = sym (get_or-set_same fats slot None None in_fats)
+          ∙ subst (λ j. get_or (set fats slot None) j None ≡ Some g) s eg in
+          cc)
           (λ ne. fat.inside k g c (sym (get_or-set_other fats slot k None None ne) ∙ eg)
-            (sym (get_or-set_other bodies slot k None None ne) ∙ ec)) (fat_cases k)
+          (sym (get_or-set_other bodies slot k None None ne) ∙ ec)) (fat_cases k);
     }
 
 eqb_no : (a b : ℕ) → a ≢ b → (a == b) ≡ false
@@ -106,7 +106,7 @@ unmarked_before : (marks : List Bool) (slot k : ℕ) → slot < length marks →
     → (k ≢ slot) × (not (get_or marks k false) ≡ true)
 unmarked_before marks slot k lt h = ⊎_elim
     (λ s. absurd (false≢true (sym (unmarked true (subst (λ b. not b ≡ true) (get_or-set_same marks slot true false lt)
-      (subst (λ j. not (get_or (set marks slot true) j false) ≡ true) s h))))))
+    (subst (λ j. not (get_or (set marks slot true) j false) ≡ true) s h))))))
     (λ ne. (ne, subst (λ b. not b ≡ true) (get_or-set_other marks slot k true false ne) h)) (cases_eq k slot)
 
 -- pairs of untouched slots stay as they are
@@ -134,7 +134,7 @@ sound_changed o p bodies bodies' fats fats' numbers numbers' marks kept slot lt 
   ties = ties;
   fat = fat;
   kept_rise = s.kept_rise;
-  kept_are = kept_on (map_of bodies) (map_of bodies') marks kept slot lt same s.kept_are
+  kept_are = kept_on (map_of bodies) (map_of bodies') marks kept slot lt same s.kept_are;
 }
 
 -- and once the pairs were asked for
@@ -150,7 +150,7 @@ sound_paired o bodies fats numbers marks kept s rise members = record {
   ties = s.ties;
   fat = s.fat;
   kept_rise = rise;
-  kept_are = λ p _. members p
+  kept_are = λ p _. members p;
 }
 
 none_counted : (xs : List (Option Bounds)) → ((k : ℕ) → get_or xs k None ≡ None) → count_by is_some xs ≡ 0
@@ -183,14 +183,14 @@ sound_none o bodies fats numbers marks kept is lb nb lf nf ln lm none =
         counted = sym (none_counted fats nf);
         fat_is = λ x h. let lt : h.0 < 0 = h.1 in absurd (omega arith);
         number_is = λ x h. let lt : h.0 < 0 = h.1 in absurd (omega arith);
-        whole = λ k f e. let n : ◌≡◌ {A = Option Bounds} None (Some f) = sym (nf k) ∙ e in cc
+        whole = λ k f e. let n : ◌≡◌ {A = Option Bounds} None (Some f) = sym (nf k) ∙ e in cc;
       };
       fat = record {
         same = λ k. ap is_some (nf k) ∙ sym (ap is_some (nb k));
-        inside = λ k f b ef eb. let n : ◌≡◌ {A = Option Bounds} None (Some f) = sym (nf k) ∙ ef in cc
+        inside = λ k f b ef eb. let n : ◌≡◌ {A = Option Bounds} None (Some f) = sym (nf k) ∙ ef in cc;
       };
       kept_rise = refl;
-      kept_are = λ p _. no_pair (map_of bodies) p (get_map bodies p.a ∙ nb p.a)
+      kept_are = λ p _. no_pair (map_of bodies) p (get_map bodies p.a ∙ nb p.a);
     }))
 
 -- and as clauses see it

@@ -79,5 +79,5 @@ searched b = record {
   fats = b.fats;
   tree = b.tree;
   touched = untouched;
-  looked = raised b.looked (sum (map (cost b) (sought b)))
+  looked = raised b.looked (sum (map (cost b) (sought b)));
 }

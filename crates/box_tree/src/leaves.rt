@@ -1,4 +1,4 @@
-ghost use Rattle.std.specs.Prelude.{◌≡◌, ◌<◌, true, None, Some, length, is_some, slice_index_or, slice_set};
+ghost use Rattle.std.specs.Prelude.{◌≡◌, ◌<◌, ◌≤◌, true, None, Some, length, is_some, slice_index_or, slice_set};
 ghost use Rattle.fixed_box.specs.declared.TheConstants.{SLOTS};
 ghost use Rattle.box_tree.specs.Ties.{Ties};
 
@@ -27,7 +27,12 @@ pub(crate) fn add_leaf(
 }
 
 // Takes the leaf of a slot away.
-pub(crate) fn drop_leaf(nodes: &mut Nodes, fats: &mut Vec<Option<FBox>>, numbers: &[usize], slot: u32)
+pub(crate) fn drop_leaf(
+    nodes: &mut Nodes,
+    fats: &mut Vec<Option<FBox>>,
+    numbers: &[usize],
+    slot: u32,
+)
     requires fats_len { length fats.old.items ≡ SLOTS }
     requires numbers_len { length numbers.now ≡ SLOTS }
     requires ties { Ties nodes.old fats.old.items numbers.now }
@@ -42,7 +47,13 @@ pub(crate) fn drop_leaf(nodes: &mut Nodes, fats: &mut Vec<Option<FBox>>, numbers
 }
 
 // Gives the leaf of a slot another box in its place.
-fn move_leaf(nodes: &mut Nodes, fats: &mut Vec<Option<FBox>>, numbers: &[usize], slot: u32, fat: FBox)
+fn move_leaf(
+    nodes: &mut Nodes,
+    fats: &mut Vec<Option<FBox>>,
+    numbers: &[usize],
+    slot: u32,
+    fat: FBox,
+)
     requires fats_len { length fats.old.items ≡ SLOTS }
     requires numbers_len { length numbers.now ≡ SLOTS }
     requires ties { Ties nodes.old fats.old.items numbers.now }
@@ -56,7 +67,7 @@ fn move_leaf(nodes: &mut Nodes, fats: &mut Vec<Option<FBox>>, numbers: &[usize],
     fats[slot as usize] = Some(fat);
 }
 
-// Gives the leaf of a slot another box: in its place where the new box meets the old one, and else where it fits best.
+// Gives the leaf of a slot another box: in its place where the box stays near, and else where it fits best.
 pub(crate) fn relink(
     nodes: &mut Nodes,
     fats: &mut Vec<Option<FBox>>,
@@ -81,10 +92,22 @@ pub(crate) fn relink(
     }
 }
 
-// Whether a leaf may stay in its place, for speed alone: the new box meets the old one.
+// Whether a leaf may stay in its place, for speed alone: in a grid whose cells are longer than the box, its lower corner
+// stays in its cell. So no leaf that is only moved goes far from where it was put, however often it moves.
 fn is_near(old: &Option<FBox>, fat: &FBox) -> bool {
-    match old {
-        Some(old) => old.overlaps(fat),
-        None => false,
-    }
+    let Some(old) = old else {
+        return false;
+    };
+    let bits = 32 - fat.longest_side().leading_zeros();
+    let (from, to) = (old.lo(), fat.lo());
+    is_one_cell(from.x, to.x, bits)
+        && is_one_cell(from.y, to.y, bits)
+        && is_one_cell(from.z, to.z, bits)
+}
+
+// Whether two coordinates lie in one cell of a grid with sides of `2^bits` raw units.
+fn is_one_cell(a: i32, b: i32, bits: u32) -> bool
+    requires { bits ≤ 32 }
+{
+    i64::from(a) >> bits == i64::from(b) >> bits
 }

@@ -48,7 +48,13 @@ pub(crate) fn renew(
     ensures marks { OnOk result (marks.new.items ≡ replicate (length marks.old.items) false) }
     ensures err { OnErr result ((out.new.items ≡ out.old.items) × (kept.new.items ≡ kept.old.items) × (marks.new.items ≡ marks.old.items)) }
 {
-    renew_pairs(kept, marks, &mut room.found, &mut room.staying, &mut room.near)?;
+    renew_pairs(
+        kept,
+        marks,
+        &mut room.found,
+        &mut room.staying,
+        &mut room.near,
+    )?;
     out.extend_from_slice(&room.near)?;
     mem::swap(kept, &mut room.near);
     marks.fill(false);

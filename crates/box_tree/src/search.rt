@@ -13,7 +13,11 @@ use fixed_box::{FBox, NoMemory, SLOTS, box_laws};
 use tree_nodes::Nodes;
 
 // Appends the touched slots that are present, in rising order.
-pub(crate) fn push_sought(bodies: &[Option<FBox>], marks: &[bool], out: &mut Vec<u32>) -> Result<(), NoMemory>
+pub(crate) fn push_sought(
+    bodies: &[Option<FBox>],
+    marks: &[bool],
+    out: &mut Vec<u32>,
+) -> Result<(), NoMemory>
     requires bodies { length bodies.now ≡ SLOTS }
     requires marks { length marks.now ≡ SLOTS }
     requires empty { out.old.items ≡ [] }

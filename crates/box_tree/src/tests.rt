@@ -1,14 +1,14 @@
-ghost use Rattle.std.specs.Prelude.{◌≡◌, ◌<◌, true, false, IfOk};
-ghost use Rattle.std.specs.FinMap as map;
+ghost use Rattle.std.specs.Prelude.{◌<◌};
 
 use super::*;
-use broad_index::{BroadPhase, Gate, NoGate, Pair, PlainIndex, Query};
+use broad_index::{BroadPhase, Gate, NoGate, Pair, Query};
 use fixed_box::{FBox, NoMemory, Point, SLOTS};
 use ray_slabs::{Ray, Seg, WPoint};
-use slot_search::{Seeker, seek_many};
+use slot_search::seek_many;
 use std::alloc::Global;
 use std::sync::atomic::{AtomicBool, AtomicU32, Ordering};
 use std::test::Fail;
+use std::thread::Threads;
 
 fn at(x: i32) -> Point {
     Point { x, y: 0, z: 0 }
@@ -20,59 +20,41 @@ fn body(lo: i32, hi: i32) -> Option<FBox> {
 }
 
 // A cube of 65,536 raw units, so far along the x axis.
-fn cube(x: i32) -> Option<FBox>
-    requires { x < 1000000 }
-{
+fn cube(x: i32) -> Option<FBox> {
     let hi = Point {
-        x: x + 65_536,
+        x: x.saturating_add(65_536),
         y: 65_536,
         z: 65_536,
     };
     FBox::new(at(x), hi)
 }
 
-// A tree and a plain list with the same boxes.
-#[derive(Drop)]
-struct Twins {
-    tree: BoxTree,
-    plain: PlainIndex,
-    ghost same: { plain.spent ≡ false → plain.bodies ≡ tree.bodies },
+// Gives a slot a box, whether it has one or not.
+fn put(tree: &mut BoxTree, slot: u32, body: FBox) -> Result<(), NoMemory>
+    requires { slot < SLOTS }
+{
+    if tree.fat_of(slot).is_none() {
+        tree.add(slot, body)
+    } else {
+        tree.shift(slot, body)
+    }
 }
 
-impl Twins {
-    fn new(alloc: Global) -> Result<Twins, NoMemory> {
-        Ok(Twins {
-            tree: BoxTree::new(alloc)?,
-            plain: PlainIndex::new(alloc)?,
-        })
+// Takes a slot out where it is present.
+fn take(tree: &mut BoxTree, slot: u32)
+    requires { slot < SLOTS }
+{
+    if tree.fat_of(slot).is_some() {
+        tree.leave(slot);
     }
+}
 
-    // Gives a slot a box, whether it has one or not. Every third of those that have one takes it out first.
-    fn put(&mut self, slot: u32, body: FBox, again: bool) -> Result<(), NoMemory>
-        requires { slot < SLOTS }
-    {
-        if self.tree.fat_of(slot).is_none() {
-            self.tree.add(slot, body)?;
-            return self.plain.add(slot, body);
-        }
-        if !again {
-            self.tree.shift(slot, body)?;
-            return self.plain.shift(slot, body);
-        }
-        self.tree.leave(slot);
-        self.plain.leave(slot);
-        self.tree.add(slot, body)?;
-        self.plain.add(slot, body)
-    }
-
-    // Takes a slot out where it is present.
-    fn take(&mut self, slot: u32)
-        requires { slot < SLOTS }
-    {
-        if self.tree.fat_of(slot).is_some() {
-            self.tree.leave(slot);
-            self.plain.leave(slot);
-        }
+// What a shift tells, where the slot is present.
+fn told(tree: &mut BoxTree, slot: u32, body: FBox) -> Option<Moved> {
+    if tree.fat_of(slot).is_some() {
+        Some(tree.shift_told(slot, body))
+    } else {
+        None
     }
 }
 
@@ -117,35 +99,65 @@ fn moved(at: &Point, by: &Point) -> Point {
     }
 }
 
-// Some boxes come, most that are there move a little, some go, and some go and come again elsewhere.
-fn change(twins: &mut Twins, bodies: &mut [Option<FBox>], state: &mut u32, odds: u32) -> Result<(), NoMemory> {
-    let mut slot = 0;
-    for body in bodies {
-        if slot >= SLOTS {
-            break;
-        }
+// The next box of a slot: most that are there move a little, some go, and some are elsewhere.
+fn next_box(old: &Option<FBox>, word: u32, state: &mut u32) -> Option<FBox> {
+    let Some(old) = old else {
+        return scattered(state);
+    };
+    match word % 16 {
+        0 | 1 => None,
+        2 | 3 => scattered(state),
+        _ => stepped(old, state),
+    }
+}
+
+// Gives each slot its next box. One in eight goes before it comes again.
+fn change(
+    tree: &mut BoxTree,
+    bodies: &mut Vec<Option<FBox>>,
+    state: &mut u32,
+) -> Result<(), NoMemory> {
+    for slot in 0..SLOTS {
+        let Some(place) = bodies.get_mut(slot as usize) else {
+            return Ok(());
+        };
         let word = next_word(state);
-        let again = word % 16 == 1;
-        match body {
-            Some(old) if word % odds == 0 => {
-                twins.take(slot);
-                *body = None;
-            }
-            Some(old) => {
-                let next = if again { scattered(state) } else { stepped(old, state) };
-                if let Some(next) = next {
-                    twins.put(slot, next, again)?;
-                    *body = Some(next);
-                }
-            }
-            None => {
-                if let Some(next) = scattered(state) {
-                    twins.put(slot, next, false)?;
-                    *body = Some(next);
-                }
+        *place = next_box(place, word, state);
+        if word % 8 < 2 {
+            take(tree, slot);
+        }
+        if let Some(body) = place {
+            put(tree, slot, *body)?;
+        }
+    }
+    Ok(())
+}
+
+// The pairs of boxes that meet, by a test of each two.
+fn tested_pairs(bodies: &[Option<FBox>], out: &mut Vec<Pair>) -> Result<(), NoMemory> {
+    for a in 0..SLOTS {
+        if let Some(Some(body)) = bodies.get(a as usize) {
+            test_later(bodies, a, body, out)?;
+        }
+    }
+    Ok(())
+}
+
+// Those of one slot with later ones.
+fn test_later(
+    bodies: &[Option<FBox>],
+    a: u32,
+    body: &FBox,
+    out: &mut Vec<Pair>,
+) -> Result<(), NoMemory>
+    requires { a < SLOTS }
+{
+    for b in a + 1..SLOTS {
+        if let Some(Some(other)) = bodies.get(b as usize) {
+            if body.overlaps(other) {
+                out.push(Pair { a, b })?;
             }
         }
-        slot += 1;
     }
     Ok(())
 }
@@ -163,51 +175,63 @@ fn queries(state: &mut u32) -> Option<[Query; 4]> {
     ])
 }
 
-// Whether both find the same, and how much.
-fn find_alike(twins: &Twins, alloc: Global, state: &mut u32) -> Result<Option<usize>, NoMemory> {
-    let Some(queries) = queries(state) else {
-        return Ok(None);
-    };
-    let mut all = 0usize;
-    for query in &queries {
-        let mut found = Vec::new(alloc);
-        let mut wanted = Vec::new(alloc);
-        twins.tree.hits(query, &mut found)?;
-        twins.plain.hits(query, &mut wanted)?;
-        if found.as_slice() != wanted.as_slice() {
-            return Ok(None);
+// The slots whose boxes meet a query, by a test of each.
+fn tested_hits(bodies: &[Option<FBox>], query: &Query, out: &mut Vec<u32>) -> Result<(), NoMemory> {
+    for slot in 0..SLOTS {
+        if let Some(Some(body)) = bodies.get(slot as usize) {
+            if query.meets(body) {
+                out.push(slot)?;
+            }
         }
-        all = all.saturating_add(found.len());
     }
-    Ok(Some(all))
+    Ok(())
 }
 
 #[test]
-fn many_boxes_are_paired_as_by_the_plain_list(rt: HostRuntime) -> Result<(), Fail> {
+fn pairs_of_8192_boxes_are_those_of_a_test_of_each_two(rt: HostRuntime) -> Result<(), Fail> {
     let alloc = rt.alloc();
-    let mut twins = Twins::new(alloc)?;
-    let mut bodies = vec![in alloc; None; 2_048]?;
+    let mut tree = BoxTree::new(alloc)?;
+    let mut bodies = vec![in alloc; None; SLOTS as usize]?;
     let mut state = 42;
-    let mut all = 0usize;
     let mut pairs = Vec::new(alloc);
-    let mut wanted = Vec::new(alloc);
-    for frame in 0..12u32 {
-        change(&mut twins, &mut bodies, &mut state, 2 + frame)?;
+    let mut tested = Vec::new(alloc);
+    for frame in 0..4u32 {
+        change(&mut tree, &mut bodies, &mut state)?;
         pairs.clear();
-        wanted.clear();
-        if frame % 3 == 2 {
-            twins.tree.pairs_with(&rt, 4, &NoGate, &mut pairs)?;
+        tested.clear();
+        if frame < 2 {
+            tree.pairs(&mut pairs)?;
+        } else if frame == 2 {
+            tree.pairs_with(&rt, 1, &NoGate, &mut pairs)?;
         } else {
-            twins.tree.pairs(&mut pairs)?;
+            tree.pairs_with(&rt, 4, &NoGate, &mut pairs)?;
         }
-        twins.plain.pairs(&mut wanted)?;
-        assert_eq!(rt; pairs.as_slice(), wanted.as_slice());
-        assert!(rt; twins.tree.height() <= 18);
-        let found = find_alike(&twins, alloc, &mut state)?;
-        all = all.saturating_add(found.ok_or("the same hits")?);
-        all = all.saturating_add(pairs.len());
+        tested_pairs(&bodies, &mut tested)?;
+        assert!(rt; tested.len() > 1_000);
+        assert!(rt; pairs.as_slice() == tested.as_slice());
+        assert!(rt; tree.height() <= 18);
     }
-    assert!(rt; all > 1_000);
+    Ok(())
+}
+
+#[test]
+fn hits_of_8192_boxes_are_those_of_a_test_of_each(rt: HostRuntime) -> Result<(), Fail> {
+    let alloc = rt.alloc();
+    let mut tree = BoxTree::new(alloc)?;
+    let mut bodies = vec![in alloc; None; SLOTS as usize]?;
+    let mut state = 7;
+    change(&mut tree, &mut bodies, &mut state)?;
+    change(&mut tree, &mut bodies, &mut state)?;
+    let mut hits = Vec::new(alloc);
+    let mut tested = Vec::new(alloc);
+    for _ in 0..50u32 {
+        for query in &queries(&mut state).ok_or("queries")? {
+            tree.hits(query, &mut hits)?;
+            tested_hits(&bodies, query, &mut tested)?;
+        }
+    }
+    assert!(rt; tested.len() > 100);
+    assert!(rt; hits.as_slice() == tested.as_slice());
     Ok(())
 }
 
@@ -217,13 +241,13 @@ fn pairs_and_hits_rise_by_slot(rt: HostRuntime) -> Result<(), Fail> {
     let mut tree = BoxTree::new(rt.alloc())?;
     let mut pairs = Vec::new(rt.alloc());
     let mut slots = Vec::new(rt.alloc());
-    tree.add(4, here)?;
-    tree.add(2, here)?;
+    put(&mut tree, 4, here)?;
+    put(&mut tree, 2, here)?;
     tree.pairs(&mut pairs)?;
     tree.hits(&Query::Spot(at(0)), &mut slots)?;
     assert_eq!(rt; pairs.as_slice(), [Pair { a: 2, b: 4 }].as_slice());
     assert_eq!(rt; slots.as_slice(), [2, 4].as_slice());
-    tree.leave(2);
+    take(&mut tree, 2);
     pairs.clear();
     tree.pairs(&mut pairs)?;
     assert!(rt; pairs.is_empty());
@@ -232,28 +256,48 @@ fn pairs_and_hits_rise_by_slot(rt: HostRuntime) -> Result<(), Fail> {
     Ok(())
 }
 
+// The six coordinates of a slot's fat box.
+fn fat_corners(tree: &BoxTree, slot: u32) -> Option<[i32; 6]> {
+    let fat = tree.fat_of(slot)?;
+    let (lo, hi) = (fat.lo(), fat.hi());
+    Some([lo.x, lo.y, lo.z, hi.x, hi.y, hi.z])
+}
+
 #[test]
-fn a_box_moves_inside_its_fat_box_up_to_the_margin(rt: HostRuntime) -> Result<(), Fail> {
+fn a_fat_box_has_the_margin_around_its_box(rt: HostRuntime) -> Result<(), Fail> {
     let here = cube(0).ok_or("a box")?;
     let mut tree = BoxTree::new(rt.alloc())?;
-    tree.add(0, here)?;
-    let fat = tree.fat_of(0).ok_or("a fat box")?;
-    let (lo, hi) = (fat.lo(), fat.hi());
-    assert_eq!(rt; [lo.x, lo.y, lo.z].as_slice(), [-8_192, -8_192, -8_192].as_slice());
-    assert_eq!(rt; [hi.x, hi.y, hi.z].as_slice(), [73_728, 73_728, 73_728].as_slice());
-    assert!(rt; tree.fat_of(1).is_none());
-    let at_margin = cube(8_192).ok_or("a box")?;
-    assert!(rt; tree.shift_told(0, at_margin) == Moved::Inside);
-    assert!(rt; tree.fat_of(0) == Some(fat));
-    tree.shift(0, here)?;
-    let past_margin = cube(8_193).ok_or("a box")?;
-    assert!(rt; tree.shift_told(0, past_margin) == Moved::Relinked);
-    let fat = tree.fat_of(0).ok_or("a fat box")?;
-    assert_eq!(rt; fat.lo().x, 1);
-    assert_eq!(rt; fat.hi().x, 81_921);
+    put(&mut tree, 0, here)?;
+    let wanted = Some([-8_192, -8_192, -8_192, 73_728, 73_728, 73_728]);
+    assert!(rt; fat_corners(&tree, 0) == wanted);
+    assert!(rt; fat_corners(&tree, 1).is_none());
     assert_eq!(rt; tree.height(), 0);
     assert!(rt; tree.nodes().root().is_some());
     Ok(())
+}
+
+#[test]
+fn a_box_moves_inside_its_fat_box_up_to_the_margin(rt: HostRuntime) -> Result<(), Fail> {
+    let here = cube(0).ok_or("a box")?;
+    let at_margin = cube(8_192).ok_or("a box")?;
+    let past_margin = cube(8_193).ok_or("a box")?;
+    let mut tree = BoxTree::new(rt.alloc())?;
+    put(&mut tree, 0, here)?;
+    assert!(rt; told(&mut tree, 0, at_margin) == Some(Moved::Inside));
+    assert!(rt; told(&mut tree, 0, past_margin) == Some(Moved::Relinked));
+    let wanted = Some([1, -8_192, -8_192, 81_921, 73_728, 73_728]);
+    assert!(rt; fat_corners(&tree, 0) == wanted);
+    Ok(())
+}
+
+// The edit before each of four calls for pairs.
+fn edit(tree: &mut BoxTree, call: u32, here: FBox, there: FBox) -> Result<(), NoMemory> {
+    match call {
+        0 => put(tree, 0, here),
+        1 => put(tree, 1, there),
+        2 => Ok(()),
+        _ => put(tree, 0, there),
+    }
 }
 
 #[test]
@@ -262,18 +306,13 @@ fn each_touched_slot_costs_one_descent(rt: HostRuntime) -> Result<(), Fail> {
     let there = cube(900_000).ok_or("a box")?;
     let mut tree = BoxTree::new(rt.alloc())?;
     let mut pairs = Vec::new(rt.alloc());
-    assert_eq!(rt; tree.looked(), 0);
-    tree.add(0, here)?;
-    tree.pairs(&mut pairs)?;
-    assert_eq!(rt; tree.looked(), 1);
-    tree.add(1, there)?;
-    tree.pairs(&mut pairs)?;
-    assert_eq!(rt; tree.looked(), 4);
-    tree.pairs(&mut pairs)?;
-    assert_eq!(rt; tree.looked(), 4);
-    tree.shift(0, there)?;
-    tree.pairs(&mut pairs)?;
-    assert_eq!(rt; tree.looked(), 7);
+    let mut call = 0u32;
+    for looked in [1, 4, 4, 7] {
+        edit(&mut tree, call, here, there)?;
+        tree.pairs(&mut pairs)?;
+        assert_eq!(rt; tree.looked(), looked);
+        call = call.saturating_add(1);
+    }
     assert_eq!(rt; pairs.as_slice(), [Pair { a: 0, b: 1 }].as_slice());
     Ok(())
 }
@@ -284,35 +323,49 @@ fn each_touched_slot_costs_one_descent_on_two_threads(rt: HostRuntime) -> Result
     let there = cube(900_000).ok_or("a box")?;
     let mut tree = BoxTree::new(rt.alloc())?;
     let mut pairs = Vec::new(rt.alloc());
-    tree.add(0, here)?;
-    tree.pairs_with(&rt, 2, &NoGate, &mut pairs)?;
-    assert_eq!(rt; tree.looked(), 1);
-    tree.add(1, there)?;
-    tree.pairs_with(&rt, 2, &NoGate, &mut pairs)?;
-    assert_eq!(rt; tree.looked(), 4);
-    tree.pairs_with(&rt, 2, &NoGate, &mut pairs)?;
-    assert_eq!(rt; tree.looked(), 4);
-    tree.shift(0, there)?;
-    tree.pairs_with(&rt, 2, &NoGate, &mut pairs)?;
-    assert_eq!(rt; tree.looked(), 7);
+    let mut call = 0u32;
+    for looked in [1, 4, 4, 7] {
+        edit(&mut tree, call, here, there)?;
+        tree.pairs_with(&rt, 2, &NoGate, &mut pairs)?;
+        assert_eq!(rt; tree.looked(), looked);
+        call = call.saturating_add(1);
+    }
     assert_eq!(rt; pairs.as_slice(), [Pair { a: 0, b: 1 }].as_slice());
     Ok(())
+}
+
+// What slots 4 and 2 reach, where both are present.
+fn seek_both<R: Threads + Sync>(
+    rt: &R,
+    alloc: Global,
+    tree: &BoxTree,
+) -> Result<(Vec<Vec<u32>>, u64), NoMemory> {
+    if tree.fat_of(4).is_some() && tree.fat_of(2).is_some() {
+        seek_many(rt, alloc, tree, &[4, 2], 2, &NoGate)
+    } else {
+        Ok((Vec::new(alloc), 0))
+    }
 }
 
 #[test]
 fn slots_are_sought_on_two_threads(rt: HostRuntime) -> Result<(), Fail> {
     let here = body(0, 2).ok_or("a box")?;
     let mut tree = BoxTree::new(rt.alloc())?;
-    tree.add(4, here)?;
-    tree.add(2, here)?;
-    let (lists, cost) = seek_many(&rt, rt.alloc(), &tree, &[4, 2], 2, &NoGate)?;
+    put(&mut tree, 4, here)?;
+    put(&mut tree, 2, here)?;
+    let (lists, cost) = seek_both(&rt, rt.alloc(), &tree)?;
     assert_eq!(rt; lists.len(), 2);
     assert_eq!(rt; lists[0].as_slice(), [2].as_slice());
     assert_eq!(rt; lists[1].as_slice(), [4].as_slice());
     assert_eq!(rt; cost, 6);
-    let mut reached = Vec::new(rt.alloc());
-    assert_eq!(rt; tree.seek(4, &mut reached)?, 3);
     Ok(())
+}
+
+// How many pairs there are now.
+fn count_pairs(tree: &mut BoxTree, alloc: Global) -> Result<usize, NoMemory> {
+    let mut pairs = Vec::new(alloc);
+    tree.pairs(&mut pairs)?;
+    Ok(pairs.len())
 }
 
 #[test]
@@ -320,25 +373,27 @@ fn a_slot_that_is_given_again_has_no_old_pairs(rt: HostRuntime) -> Result<(), Fa
     let here = cube(0).ok_or("a box")?;
     let there = cube(900_000).ok_or("a box")?;
     let mut tree = BoxTree::new(rt.alloc())?;
-    let mut pairs = Vec::new(rt.alloc());
-    tree.add(0, here)?;
-    tree.add(1, here)?;
-    tree.pairs(&mut pairs)?;
-    assert_eq!(rt; pairs.as_slice(), [Pair { a: 0, b: 1 }].as_slice());
-    tree.leave(1);
-    tree.add(1, there)?;
-    pairs.clear();
-    tree.pairs(&mut pairs)?;
-    assert!(rt; pairs.is_empty());
-    tree.leave(1);
-    tree.add(1, there)?;
-    tree.shift(1, here)?;
-    tree.pairs(&mut pairs)?;
-    assert_eq!(rt; pairs.as_slice(), [Pair { a: 0, b: 1 }].as_slice());
-    tree.leave(0);
-    pairs.clear();
-    tree.pairs(&mut pairs)?;
-    assert!(rt; pairs.is_empty());
+    put(&mut tree, 0, here)?;
+    put(&mut tree, 1, here)?;
+    assert_eq!(rt; count_pairs(&mut tree, rt.alloc())?, 1);
+    take(&mut tree, 1);
+    put(&mut tree, 1, there)?;
+    assert_eq!(rt; count_pairs(&mut tree, rt.alloc())?, 0);
+    Ok(())
+}
+
+#[test]
+fn a_slot_that_is_given_again_and_moved_back_has_its_pairs(rt: HostRuntime) -> Result<(), Fail> {
+    let here = cube(0).ok_or("a box")?;
+    let there = cube(900_000).ok_or("a box")?;
+    let mut tree = BoxTree::new(rt.alloc())?;
+    put(&mut tree, 0, here)?;
+    put(&mut tree, 1, here)?;
+    assert_eq!(rt; count_pairs(&mut tree, rt.alloc())?, 1);
+    take(&mut tree, 1);
+    put(&mut tree, 1, there)?;
+    put(&mut tree, 1, here)?;
+    assert_eq!(rt; count_pairs(&mut tree, rt.alloc())?, 1);
     Ok(())
 }
 
@@ -381,8 +436,8 @@ impl Gate for Meeting {
 fn two_pieces_of_a_search_run_at_once(rt: HostRuntime) -> Result<(), Fail> {
     let here = cube(0).ok_or("a box")?;
     let mut tree = BoxTree::new(rt.alloc())?;
-    tree.add(0, here)?;
-    tree.add(1, here)?;
+    put(&mut tree, 0, here)?;
+    put(&mut tree, 1, here)?;
     let gate = Meeting::new();
     let mut pairs = Vec::new(rt.alloc());
     tree.pairs_with(&rt, 2, &gate, &mut pairs)?;

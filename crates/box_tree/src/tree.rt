@@ -12,7 +12,8 @@ use crate::renewal::{Room, renew};
 use crate::search::{push_sought, reach, search_all};
 use crate::{MARGIN, Moved};
 use broad_index::{
-    BroadPhase, Pair, Query, holding_laws, keeping_laws, member_laws, push_gathered_with, push_rising_slots,
+    BroadPhase, Pair, Query, holding_laws, keeping_laws, member_laws, push_gathered_with,
+    push_rising_slots,
 };
 use fixed_box::{FBox, NoMemory, SLOTS};
 use slot_search::Seeker;
@@ -91,7 +92,13 @@ impl BoxTree {
         if is_inside(&self.fats[at], &body) {
             return Moved::Inside;
         }
-        relink(&mut self.nodes, &mut self.fats, &mut self.numbers, slot, body.fatten(MARGIN));
+        relink(
+            &mut self.nodes,
+            &mut self.fats,
+            &mut self.numbers,
+            slot,
+            body.fatten(MARGIN),
+        );
         Moved::Relinked
     }
 
@@ -102,7 +109,11 @@ impl BoxTree {
         ensures inside { (body : Bounds) → map.get self.now.bodies slot ≡ Some body → IfSome result (λ fat. IsTrue (encloses fat body)) }
     {
         let slot = slot as usize;
-        if slot < self.fats.len() { self.fats[slot] } else { None }
+        if slot < self.fats.len() {
+            self.fats[slot]
+        } else {
+            None
+        }
     }
 
     /// The kept tree. Its leaves have exactly the present slots, each with its fat box.
@@ -164,10 +175,16 @@ impl BroadPhase for BoxTree {
         ensures looked { self.new.looked ≡ self.old.looked }
     {
         keeping_laws();
-        let at = slot as usize;
-        self.bodies[at] = Some(body);
-        self.marks[at] = true;
-        add_leaf(&mut self.nodes, &mut self.fats, &mut self.numbers, slot, body.fatten(MARGIN));
+        let place = slot as usize;
+        self.bodies[place] = Some(body);
+        self.marks[place] = true;
+        add_leaf(
+            &mut self.nodes,
+            &mut self.fats,
+            &mut self.numbers,
+            slot,
+            body.fatten(MARGIN),
+        );
         Ok(())
     }
 

@@ -10,5 +10,5 @@ returns c query = record {
   deeper = c.tree_laws.ensures.deeper;
   children = λ n k h l r. c.tree_laws.ensures.children n k h l r;
   within = c.tree_laws.ensures.within;
-  shown = c.tree_laws.ensures.shown
+  shown = c.tree_laws.ensures.shown;
 }

@@ -12,7 +12,7 @@ walk-init c =
     record {
       stands = begun c.args.bodies.now c.args.query.now w c.args.nodes.now c.push_reserved.new.self.items c.args.out.now.items c.args.root
           p.0 p.1 p.2 p.3 p.4 (rw (c.push_reserved.ensures.items, c.new-stack.ensures.items) refl);
-      room = c.push_reserved.ensures.capacity ∙ c.new-stack.ensures.capacity
+      room = c.push_reserved.ensures.capacity ∙ c.new-stack.ensures.capacity;
     }
 
 off : (c : In-Some)
@@ -73,7 +73,7 @@ walk-preserved c =
       stands = subst (λ xs. Stands o bs q xs c.args.out.now.items c.look.new.out.items (c.walk.count + 1)) (sym c.in_ok-look.ensures.next)
           (subst (λ ys. Stands o bs q (c.pop.new.self.items ++ next_at q c.view.result) c.args.out.now.items ys (c.walk.count + 1))
           (sym c.in_ok-look.ensures.ok) s);
-      room = c.look.ensures.capacity ∙ (c.pop.ensures.capacity ∙ c.walk.invariant.room)
+      room = c.look.ensures.capacity ∙ (c.pop.ensures.capacity ∙ c.walk.invariant.room);
     }
 
 no_items : (xs : List ℕ) → (0 < length xs → false ≡ true) → xs ≡ []

@@ -5,9 +5,12 @@ use Rattle.box_tree.proofs.leaves.move_leaf.Goals as goal
 
 pub move_leaf-requires : goal.move_leaf-requires
 move_leaf-requires c =
-    let f = some_there (get_or c.args.fats.now.items c.args.slot None) c.requires.present in
-    (c.args.slot, f.0, own_viewed c.args.nodes.now c.args.fats.now.items c.args.numbers.now c.requires.ties c.requires.fats_len c.requires.numbers_len
-    c.args.slot c.requires.small f.0 f.1 c.tree_laws.ensures.leaf)
+    let f = some_there (get_or c.args.fats.now.items c.args.slot None) c.requires.present in (
+      c.args.slot,
+      f.0,
+      own_viewed c.args.nodes.now c.args.fats.now.items c.args.numbers.now c.requires.ties c.requires.fats_len c.requires.numbers_len
+          c.args.slot c.requires.small f.0 f.1 c.tree_laws.ensures.leaf,
+    )
 
 pub returns-clause-ties : goal.returns-clause-ties
 returns-clause-ties c =

@@ -10,7 +10,7 @@ returns-clause-enclosed c = enclosed (record {
   met = c.box_laws.ensures.met;
   held = c.box_laws.ensures.held;
   on_ray = c.ray_law.ensures.enclosed;
-  on_seg = c.seg_law.ensures.enclosed
+  on_seg = c.seg_law.ensures.enclosed;
 })
 
 pub returns-clause-missed : goal.returns-clause-missed
@@ -19,5 +19,5 @@ returns-clause-missed c query outer inner e out = missed (query_meets query oute
   met = c.box_laws.ensures.met;
   held = c.box_laws.ensures.held;
   on_ray = c.ray_law.ensures.enclosed;
-  on_seg = c.seg_law.ensures.enclosed
+  on_seg = c.seg_law.ensures.enclosed;
 }) query outer inner e) out
