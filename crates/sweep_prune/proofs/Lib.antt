@@ -12,3 +12,4 @@ pub mod QuitLemmas
 pub mod SapLemmas
 pub mod PairsAre
 pub mod KeyedLemmas
+pub mod TwinLemmas

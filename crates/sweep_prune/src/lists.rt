@@ -1,4 +1,4 @@
-ghost use Rattle.std.specs.Prelude.{◌≡◌, ◌<◌, ◌+◌, ◌*◌, true, false, ◌++◌, ◌∷◌, [], ℕ, List, IfOk};
+ghost use Rattle.std.specs.Prelude.{◌≡◌, ◌<◌, ◌+◌, ◌*◌, true, false, ◌++◌, ◌∷◌, [], ℕ, List, IfOk, OnOk, take, vec_len};
 ghost use Rattle.endpoint_list.specs.NodeList.{has, IsDistinct};
 ghost use Rattle.sweep_prune.specs.Core.{appended, entered, withdrawn, left};
 ghost use Rattle.sweep_prune.specs.Places.{on, with_on};
@@ -100,4 +100,17 @@ fn withdraw(list: &mut EndList, slot: u32)
 {
     list.unlink(2 * slot);
     list.unlink(2 * slot + 1);
+}
+
+// Appends the nodes of a list in its order. What was there stays, after an `Err` too.
+pub(crate) fn push_nodes(list: &EndList, out: &mut Vec<u32>) -> Result<(), NoMemory>
+    ensures ok { OnOk result (out.new.items ≡ out.old.items ++ list.now) }
+    ensures kept { take (vec_len out.old) out.new.items ≡ out.old.items }
+{
+    let mut at = list.first();
+    'nodes: while let Some(node) = at {
+        out.push(node)?;
+        at = list.next(node);
+    }
+    Ok(())
 }
