@@ -131,8 +131,8 @@ fn one_of_300_like_boxes_leaves_the_others(rt: HostRuntime) -> Result<(), Fail> 
     Ok(())
 }
 
-const BOXES: u32 = 200;
-const FRAMES: u32 = 4;
+const BOXES: u32 = 2_000;
+const FRAMES: u32 = 6;
 
 // A box moves, or leaves, or comes.
 fn change(rt: &impl Abort, twin: Twin, slot: u32, random: &mut Random) -> Result<Twin, NoMemory>
