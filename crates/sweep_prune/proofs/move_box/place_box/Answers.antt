@@ -2,17 +2,20 @@ use Rattle.std.proofs.Common.{◌≡◌, ℕ, ap, sym, subst, ◌∙◌, arith, 
 use Rattle.sweep_prune.specs.declared.axis.Axis.TheVariants.{X, Y, Z}
 use Rattle.sweep_prune.specs.Keyed.{coord}
 use Rattle.sweep_prune.specs.Sweep.{AxisKeeps, SweepKeeps, SweepAdded}
-use Rattle.sweep_prune.proofs.SapLemmas.{swept_added, on_ok_three}
+use Rattle.sweep_prune.proofs.SweepLemmas.{swept_added}
+use Rattle.sweep_prune.proofs.WalkLemmas.{on_ok_three}
 use Rattle.sweep_prune.proofs.move_box.place_box.Goals as goal
 
 pub place_axis-requires-clause-ready : goal.place_axis-requires-clause-ready
 place_axis-requires-clause-ready c = let r = c.requires.ready in (r.0, r.1.x, r.2.on_x, r.3, ap (λ l. l.x) r.4)
 
 pub place_axis-requires-2-clause-ready : goal.place_axis-requires-2-clause-ready
-place_axis-requires-2-clause-ready c = let r = c.requires.ready in (r.0, r.1.y, r.2.on_y, r.3, ap (λ l. l.y) c.in_ok-place_axis.ensures.others ∙ ap (λ l. l.y) r.4)
+place_axis-requires-2-clause-ready c = let r = c.requires.ready in (r.0, r.1.y, r.2.on_y, r.3, ap (λ l. l.y) c.in_ok-place_axis.ensures.others
+    ∙ ap (λ l. l.y) r.4)
 
 pub place_axis-requires-3-clause-ready : goal.place_axis-requires-3-clause-ready
-place_axis-requires-3-clause-ready c = let r = c.requires.ready in (r.0, r.1.z, r.2.on_z, r.3, ap (λ l. l.z) c.in_ok-place_axis-2.ensures.others ∙ ap (λ l. l.z) c.in_ok-place_axis.ensures.others ∙ ap (λ l. l.z) r.4)
+place_axis-requires-3-clause-ready c = let r = c.requires.ready in (r.0, r.1.z, r.2.on_z, r.3, ap (λ l. l.z) c.in_ok-place_axis-2.ensures.others
+    ∙ ap (λ l. l.z) c.in_ok-place_axis.ensures.others ∙ ap (λ l. l.z) r.4)
 
 pub returns : goal.returns
 returns c =

@@ -4,8 +4,8 @@ use Rattle.std.specs.FinMap.{contains_key}
 use Rattle.sweep_prune.specs.Keyed.{keyed}
 use Rattle.sweep_prune.specs.Overlaps.{axes}
 use Rattle.sweep_prune.proofs.KeyedLemmas.{keyed_is}
-use Rattle.sweep_prune.proofs.PairsAre.{places_are}
-use Rattle.sweep_prune.proofs.SapLemmas.{min_known}
+use Rattle.sweep_prune.proofs.FullLemmas.{places_are}
+use Rattle.sweep_prune.proofs.SweepLemmas.{min_known}
 use Rattle.sweep_prune.proofs.sap.Sap.core.Goals as goal
 
 pub returns-clause-lists : goal.returns-clause-lists

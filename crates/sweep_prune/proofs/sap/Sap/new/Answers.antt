@@ -4,7 +4,7 @@ use Rattle.sweep_prune.specs.declared.axis.Axis.TheVariants.{X, Y, Z}
 use Rattle.sweep_prune.specs.Core.{CoreState}
 use Rattle.sweep_prune.specs.Keyed.{coord}
 use Rattle.sweep_prune.specs.Sweep.{SweepKeeps}
-use Rattle.sweep_prune.proofs.SapLemmas.{axis_empty}
+use Rattle.sweep_prune.proofs.LeaveLemmas.{axis_empty}
 use Rattle.sweep_prune.proofs.sap.Sap.new.Goals as goal
 
 pub invariant_of-result : goal.invariant_of-result

@@ -1,7 +1,7 @@
 use Rattle.std.proofs.Common.{◌≡◌, ◌++◌, ap, sym, ◌∙◌}
 use Rattle.std.proofs.lemmas.Result.{on_ok_weaker}
 use Rattle.broad_index.specs.Near.{near}
-use Rattle.sweep_prune.proofs.PairsAre.{near_are}
+use Rattle.sweep_prune.proofs.FullLemmas.{near_are}
 use Rattle.sweep_prune.proofs.sap.SapBroadPhase.pairs.Goals as goal
 
 pub returns-clause-ok : goal.returns-clause-ok

@@ -2,7 +2,7 @@
 use Rattle.std.proofs.Common.{◌≡◌, ◌<◌, ◌++◌, ◌∷◌, true, List, ℕ, ap, sym, ◌∙◌, arith}
 use Rattle.endpoint_list.specs.NodeList.{has}
 use Rattle.sweep_prune.specs.Places.{on}
-use Rattle.sweep_prune.proofs.WalkLemmas.{first_split}
+use Rattle.sweep_prune.proofs.NodeLists.{first_split}
 use Rattle.sweep_prune.proofs.tests.by_hand.exchange_at.Goals as goal
 
 pub next-requires : goal.next-requires
