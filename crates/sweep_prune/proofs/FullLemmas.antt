@@ -31,11 +31,11 @@ overlap_is : (f : Point → ℤ) (k : ℕ → ℕ) (xs : List ℕ) (a b : ℕ) (
     → overlap_in xs a b ≡ overlaps_on f x y
 overlap_is f k xs a b x y r an ax bn bx ka kb =
     let one : stands_before xs (2 * a) (2 * b + 1) ≡ int_le (f x.lo) (f y.hi) =
-          rising_before k xs (2 * a) (2 * b + 1) r an bx ∙ ap (λ n. nat_lt n (k (2 * b + 1))) ka.min_is ∙ ap (nat_lt (number (min_key f a x))) kb.max_is
-              ∙ number_lt (min_key f a x) (max_key f b y) ka.min_small kb.max_small ∙ min_max_lt f a b x y in
+    rising_before k xs (2 * a) (2 * b + 1) r an bx ∙ ap (λ n. nat_lt n (k (2 * b + 1))) ka.min_is ∙ ap (nat_lt (number (min_key f a x))) kb.max_is
+    ∙ number_lt (min_key f a x) (max_key f b y) ka.min_small kb.max_small ∙ min_max_lt f a b x y in
     let two : stands_before xs (2 * b) (2 * a + 1) ≡ int_le (f y.lo) (f x.hi) =
-          rising_before k xs (2 * b) (2 * a + 1) r bn ax ∙ ap (λ n. nat_lt n (k (2 * a + 1))) kb.min_is ∙ ap (nat_lt (number (min_key f b y))) ka.max_is
-              ∙ number_lt (min_key f b y) (max_key f a x) kb.min_small ka.max_small ∙ min_max_lt f b a y x in
+    rising_before k xs (2 * b) (2 * a + 1) r bn ax ∙ ap (λ n. nat_lt n (k (2 * a + 1))) kb.min_is ∙ ap (nat_lt (number (min_key f b y))) ka.max_is
+    ∙ number_lt (min_key f b y) (max_key f a x) kb.min_small ka.max_small ∙ min_max_lt f b a y x in
     ap (λ t. t && stands_before xs (2 * b) (2 * a + 1)) one ∙ ap (λ t. int_le (f x.lo) (f y.hi) && t) two
 
 all_three : (x y z : Bool) → ((one_if x + one_if y) + one_if z == 3) ≡ ((x && y) && z)

@@ -1,5 +1,5 @@
 -- It serves the tests: two maps with the same slots still have the same slots when both get a box under one, or lose one.
-use Rattle.std.proofs.Common.{ℕ, Bool, true, false, refl, sym, ap, Option, Some, None, is_some, ◌≡◌, ◌-◌, ◌∙◌, if◌then◌else◌}
+use Rattle.std.proofs.Common.{ℕ, Bool, true, false, refl, sym, ap, Option, Some, None, is_some, ◌≡◌, ◌∙◌, if◌then◌else◌}
 use Rattle.std.specs.Cmp.{nat_cmp_total}
 use Rattle.std.specs.FinMap.{FinMap, contains_key, get-insert, get-remove, insert, remove}
 use Rattle.std.specs.Ordering.{nat_cmp}

@@ -32,7 +32,7 @@ pub(crate) fn move_axis(
     ensures moved { OnOk result ((bodies : FinMap nat_cmp Bounds) (was : Bounds)
         → AxisKeeps bodies (coord axis) keys.old.items (on axis core.old.lists) → get bodies slot ≡ Some was
         → AxisMoved bodies slot was body (coord axis) keys.new.items (on axis core.new.lists)
-            (core.new.exchanged - core.old.exchanged)) }
+        (core.new.exchanged - core.old.exchanged)) }
 {
     let (lo, hi) = key_numbers(body, axis, slot);
     move_ends(core, axis, keys, slot, lo, hi)
@@ -56,7 +56,7 @@ pub(crate) fn place_axis(
     ensures added { OnOk result ((bodies : FinMap nat_cmp Bounds) (l : List ℕ) → AxisKeeps bodies (coord axis) keys.old.items l
         → contains_key bodies slot ≡ false → on axis core.old.lists ≡ appended slot l
         → AxisAdded bodies slot body (coord axis) keys.new.items (on axis core.new.lists)
-            (core.new.exchanged - core.old.exchanged)) }
+        (core.new.exchanged - core.old.exchanged)) }
 {
     keys[(2 * slot) as usize] = u64::MAX - 1;
     keys[(2 * slot + 1) as usize] = u64::MAX;

@@ -8,8 +8,8 @@ mod twin;
 use super::*;
 use crate::lists::push_nodes;
 use crate::walk::{Core, clear};
-use by_hand::{enter_slot, exchange_at, quit_slot};
 use broad_index::{BroadPhase, NoGate, Pair, Query};
+use by_hand::{enter_slot, exchange_at, quit_slot};
 use fixed_box::{FBox, NoMemory, Point, SLOTS};
 use random::Random;
 use std::process::Abort;
@@ -73,7 +73,9 @@ fn pairs_and_hits_rise_by_slot(rt: HostRuntime) -> Result<(), Fail> {
 fn a_box_that_leaves_is_in_no_pair(rt: HostRuntime) -> Result<(), Fail> {
     let here = unit_at(0).ok_or("a box")?;
     let mut pairs = Vec::new(rt.alloc());
-    let twin = Twin::new(rt.alloc(), 5)?.put(&rt, 4, here)?.put(&rt, 2, here)?;
+    let twin = Twin::new(rt.alloc(), 5)?
+        .put(&rt, 4, here)?
+        .put(&rt, 2, here)?;
     let mut sap = twin.take(2).into_sap();
     sap.pairs(&mut pairs)?;
     assert!(rt; pairs.is_empty());
@@ -114,8 +116,20 @@ fn counts_follow_each_single_exchange(rt: HostRuntime) -> Result<(), Fail> {
 #[test]
 fn one_of_300_like_boxes_leaves_the_others(rt: HostRuntime) -> Result<(), Fail> {
     let here = unit_at(0).ok_or("a box")?;
-    let five = Point { x: 5 * 65_536, y: 5 * 65_536, z: 5 * 65_536 };
-    let there = FBox::new(five, Point { x: 6 * 65_536, y: 6 * 65_536, z: 6 * 65_536 }).ok_or("a box")?;
+    let five = Point {
+        x: 5 * 65_536,
+        y: 5 * 65_536,
+        z: 5 * 65_536,
+    };
+    let there = FBox::new(
+        five,
+        Point {
+            x: 6 * 65_536,
+            y: 6 * 65_536,
+            z: 6 * 65_536,
+        },
+    )
+    .ok_or("a box")?;
     let mut twin = Twin::new(rt.alloc(), 300)?;
     let mut exchanges = 0u64;
     for slot in 0..300 {
@@ -132,6 +146,7 @@ fn one_of_300_like_boxes_leaves_the_others(rt: HostRuntime) -> Result<(), Fail> 
 }
 
 const BOXES: u32 = 2_000;
+
 const FRAMES: u32 = 6;
 
 // A box moves, or leaves, or comes.

@@ -56,7 +56,11 @@ impl Twin {
         let mut bodies = self.bodies;
         sap.clear_exchanges();
         put_both(&mut sap, &mut plain, slot, body, present)?;
-        assert_eq!(rt; sap.exchanges(), plainly::exchanges(&bodies, slot, &body), "slot {slot}");
+        assert_eq!(rt;
+            sap.exchanges(),
+            plainly::exchanges(&bodies, slot, &body),
+            "slot {slot}"
+        );
         if let Some(place) = bodies.get_mut(slot as usize) {
             *place = Some(body);
         }
@@ -109,7 +113,11 @@ impl Twin {
                 for a in 0..b {
                     if let Some(first) = self.body(a) {
                         if self.holds(a) && self.holds(b) {
-                            assert_eq!(rt; self.sap.overlap(a, b), plainly::axes(&first, &second), "slots {a} {b}");
+                            assert_eq!(rt;
+                                self.sap.overlap(a, b),
+                                plainly::axes(&first, &second),
+                                "slots {a} {b}"
+                            );
                         }
                     }
                 }

@@ -8,6 +8,6 @@ returns c =
     let lo : to_z w32 (of_z w32 c.coordinate.result) ≡ c.coordinate.result = search rules in
     let hi : to_z w32 (of_z w32 c.coordinate-2.result) ≡ c.coordinate-2.result = search rules in
     new_keys c.args.axis c.args.slot c.args.body c.lo.result c.hi.result (to_z w32 (of_z w32 c.coordinate.result))
-        (to_z w32 (of_z w32 c.coordinate-2.result))
+    (to_z w32 (of_z w32 c.coordinate-2.result))
     c.key_number-lo.result c.key_number-hi.result c.requires (lo ∙ c.coordinate.ensures) c.lo.ensures.lo (hi ∙ c.coordinate-2.ensures) c.hi.ensures.hi
     c.lo.ensures.ordered c.key_number-lo.ensures.number c.key_number-lo.ensures.range c.key_number-hi.ensures.number c.key_number-hi.ensures.range

@@ -1,5 +1,5 @@
 -- The maximum is absent once the minimum is put last.
-use Rattle.std.proofs.Common.{◌≡◌, ◌++◌, ◌∷◌, [], ◌*◌, ◌+◌, false, ap, ◌∙◌, arith, ne_eqb, ◌==◌, refl}
+use Rattle.std.proofs.Common.{◌≡◌, ◌∷◌, [], ◌*◌, ◌+◌, false, ap, ◌∙◌, arith, ne_eqb, ◌==◌, refl}
 use Rattle.endpoint_list.specs.NodeList.{has}
 use Rattle.sweep_prune.proofs.NodeLists.{has_append}
 use Rattle.sweep_prune.proofs.lists.append.Goals as goal

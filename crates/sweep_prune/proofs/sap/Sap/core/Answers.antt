@@ -1,5 +1,5 @@
 -- The lists are the map's endpoints in order, and their places the boxes' axes.
-use Rattle.std.proofs.Common.{◌≡◌, refl, ap, ◌∙◌}
+use Rattle.std.proofs.Common.{refl, ap, ◌∙◌}
 use Rattle.std.specs.FinMap.{contains_key}
 use Rattle.sweep_prune.specs.Keyed.{keyed}
 use Rattle.sweep_prune.specs.Overlaps.{axes}

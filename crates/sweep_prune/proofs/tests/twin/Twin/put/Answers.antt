@@ -1,5 +1,5 @@
 -- Both have the box afterwards.
-use Rattle.std.proofs.Common.{◌≡◌, ◌≤◌, ◌^◌, ap, sym, ◌∙◌, arith}
+use Rattle.std.proofs.Common.{ap, sym, ◌∙◌, arith}
 use Rattle.std.specs.FinMap.{contains_key, insert}
 use Rattle.sweep_prune.proofs.TwinLemmas.{same_put}
 use Rattle.sweep_prune.proofs.tests.twin.Twin.put.Goals as goal
