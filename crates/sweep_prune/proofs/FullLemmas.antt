@@ -106,7 +106,7 @@ pub places_are : (bodies : FinMap nat_cmp Bounds) (kx ky kz : List ℕ) (ls : Li
     → places ls a b ≡ axes bodies a b
 places_are bodies kx ky kz ls a b k = places_of bodies kx ky kz ls a b k (get bodies a) (get bodies b) refl refl
 
-meets_of : (o q : Option Bounds) → (axes_of o q == 3) ≡ both_meet o q
+pub meets_of : (o q : Option Bounds) → (axes_of o q == 3) ≡ both_meet o q
 meets_of None q = refl
 meets_of (Some x) None = refl
 meets_of (Some x) (Some y) = meets_three x y

@@ -4,6 +4,7 @@
 
 mod axis;
 mod key_number;
+mod laws;
 mod lists;
 mod move_axis;
 mod move_box;
@@ -15,7 +16,7 @@ mod walk_down;
 mod walk_up;
 
 pub use axis::Axis;
-pub use lists::Lists;
+pub use laws::overlap_laws;
 pub use sap::Sap;
 
 #[cfg(test)]

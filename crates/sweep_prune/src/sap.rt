@@ -92,7 +92,8 @@ impl Sap {
     pub fn core(&self) -> &Core
         requires sound { self.now.spent ≡ false }
         ensures lists { (axis : Axis) → on axis result.now.lists ≡ keyed self.now.bodies axis }
-        ensures present { (axis : Axis) (slot : ℕ) → has (2 * slot) (on axis result.now.lists) ≡ map.contains_key self.now.bodies slot }
+        ensures present { (axis : Axis) (slot : ℕ) → has (2 * slot) (on axis result.now.lists)
+            ≡ map.contains_key self.now.bodies slot }
         ensures counts { (a b : ℕ) → places result.now.lists a b ≡ axes self.now.bodies a b }
         ensures exchanged { result.now.exchanged ≡ self.now.exchanges }
     {
