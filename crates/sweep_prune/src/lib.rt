@@ -1,5 +1,5 @@
-//! Sweep and prune: a broad phase that keeps the endpoints of all boxes sorted on each axis, and for each pair of boxes the
-//! number of axes on which they overlap (Cohen, Lin, Manocha, Ponamgi, *I-COLLIDE*, 1995).
+//! Sweep and prune: a broad phase that keeps the endpoints of all boxes sorted on each axis, and for each pair of
+//! boxes the number of axes on which they overlap (Cohen, Lin, Manocha, Ponamgi, *I-COLLIDE*, 1995).
 #![tactic(auto)]
 
 mod axis;

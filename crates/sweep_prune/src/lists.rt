@@ -42,7 +42,8 @@ impl Lists {
 
     // A node changes places with the next one on an axis.
     pub(crate) fn exchange(&mut self, axis: Axis, node: u32)
-        requires next { (before : List ℕ) × (after : List ℕ) × (other : ℕ) × (on axis self.old ≡ before ++ node ∷ other ∷ after) }
+        requires next { (before : List ℕ) × (after : List ℕ) × (other : ℕ)
+            × (on axis self.old ≡ before ++ node ∷ other ∷ after) }
         ensures { (before after : List ℕ) (other : ℕ) → on axis self.old ≡ before ++ node ∷ other ∷ after
             → self.new ≡ with_on axis (before ++ other ∷ node ∷ after) self.old }
     {

@@ -23,7 +23,8 @@ pub(crate) fn move_axis(
     body: FBox,
 ) -> Result<(), NoMemory>
     requires slot { slot < SLOTS }
-    requires ready { (bodies : FinMap nat_cmp Bounds) × AxisKeeps bodies (coord axis) keys.old.items (on axis core.old.lists)
+    requires ready { (bodies : FinMap nat_cmp Bounds)
+        × AxisKeeps bodies (coord axis) keys.old.items (on axis core.old.lists)
         × (contains_key bodies slot ≡ true) }
     requires countable { core.old.exchanged + 2 * NODES < 2 ^ 64 - 1 }
     ensures counted { OnOk result (core.old.exchanged ≤ core.new.exchanged) }
@@ -53,7 +54,8 @@ pub(crate) fn place_axis(
     ensures counted { OnOk result (core.old.exchanged ≤ core.new.exchanged) }
     ensures bounded { OnOk result (core.new.exchanged ≤ core.old.exchanged + 2 * NODES) }
     ensures others { OnOk result (core.new.lists ≡ with_on axis (on axis core.new.lists) core.old.lists) }
-    ensures added { OnOk result ((bodies : FinMap nat_cmp Bounds) (l : List ℕ) → AxisKeeps bodies (coord axis) keys.old.items l
+    ensures added { OnOk result ((bodies : FinMap nat_cmp Bounds) (l : List ℕ)
+        → AxisKeeps bodies (coord axis) keys.old.items l
         → contains_key bodies slot ≡ false → on axis core.old.lists ≡ appended slot l
         → AxisAdded bodies slot body (coord axis) keys.new.items (on axis core.new.lists)
         (core.new.exchanged - core.old.exchanged)) }

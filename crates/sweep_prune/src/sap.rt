@@ -18,7 +18,8 @@ use slot_search::NoSeeker;
 use std::alloc::Global;
 use std::marker::Model;
 
-/// Boxes whose endpoints stand sorted on each axis. Where endpoints change places, the counts of overlaps change with them.
+/// Boxes whose endpoints stand sorted on each axis. Where endpoints change places, the counts of overlaps change with
+/// them.
 ///
 /// A change costs its exchanges, so boxes that move little between calls cost little, and `pairs` reads the counts. The
 /// boxes themselves stand in a plain list, and a query tests each of them.

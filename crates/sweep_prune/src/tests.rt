@@ -42,7 +42,7 @@ fn boxes_that_touch_overlap_until_one_moves_away(rt: HostRuntime) -> Result<(), 
     twin.sap.order(Axis::Y, &mut order)?;
     assert_eq!(rt; order.as_slice(), [0, 2, 1, 3, 0, 2, 1, 3].as_slice());
     assert_eq!(rt; twin.sap.exchanges(), 3);
-    twin.compare_counts(&rt);
+    twin.compare_counts(&rt, 2);
     twin = twin.put(&rt, 0, unit_at(3).ok_or("a box")?)?;
     order.clear();
     twin.sap.order(Axis::X, &mut order)?;
@@ -174,7 +174,7 @@ fn moving_boxes_keep_orders_counts_and_exchanges(rt: HostRuntime) -> Result<(), 
         }
         twin.compare_pairs(&rt, rt.alloc())?;
         twin.compare_orders(&rt, rt.alloc())?;
-        twin.compare_counts(&rt);
+        twin.compare_counts(&rt, BOXES);
     }
     Ok(())
 }

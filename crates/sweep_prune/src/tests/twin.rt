@@ -106,22 +106,33 @@ impl Twin {
         Ok(())
     }
 
-    // The kept counts of all pairs, and on how many axes the boxes overlap.
-    pub(super) fn compare_counts(&self, rt: &impl Abort) {
-        for b in 0..SLOTS {
-            if let Some(second) = self.body(b) {
-                for a in 0..b {
-                    if let Some(first) = self.body(a) {
-                        if self.holds(a) && self.holds(b) {
-                            assert_eq!(rt;
-                                self.sap.overlap(a, b),
-                                plainly::axes(&first, &second),
-                                "slots {a} {b}"
-                            );
-                        }
-                    }
-                }
+    // The kept counts of all pairs of the first slots, and on how many axes the boxes overlap.
+    pub(super) fn compare_counts(&self, rt: &impl Abort, slots: u32)
+        requires { slots ≤ SLOTS }
+    {
+        for b in 0..slots {
+            for a in 0..b {
+                self.compare_count(rt, a, b);
             }
+        }
+    }
+
+    fn compare_count(&self, rt: &impl Abort, a: u32, b: u32)
+        requires order { a < b }
+        requires small { b < SLOTS }
+    {
+        let Some(first) = self.body(a) else {
+            return;
+        };
+        let Some(second) = self.body(b) else {
+            return;
+        };
+        if self.holds(a) && self.holds(b) {
+            assert_eq!(rt;
+                self.sap.overlap(a, b),
+                plainly::axes(&first, &second),
+                "slots {a} {b}"
+            );
         }
     }
 }
