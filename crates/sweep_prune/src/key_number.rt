@@ -1,12 +1,26 @@
 ghost use Rattle.std.specs.Prelude.{◌≡◌, ◌+◌, ◌*◌, ◌/◌, ◌%◌, ◌<◌};
 ghost use Rattle.endpoint_list.specs.declared.TheConstants.{NODES};
+ghost use Rattle.sweep_prune.specs.Endpoints.{NewKeys};
+ghost use Rattle.sweep_prune.specs.Keyed.{coord};
 ghost use Rattle.sweep_prune.specs.KeyNumbers.{biased, IsInRange};
 
+use crate::Axis;
+use crate::axis::coordinate;
 use endpoint_list::NODES;
-use fixed_box::{Fix, SLOTS};
+use fixed_box::{FBox, Fix, SLOTS};
+
+// The numbers of the two keys that a box gives a slot on an axis.
+pub(crate) fn key_numbers(body: FBox, axis: Axis, slot: u32) -> (u64, u64)
+    requires { slot < SLOTS }
+    ensures { NewKeys (coord axis) slot body result.0 result.1 }
+{
+    let lo = key_number(coordinate(body.lo(), axis), 2 * slot);
+    let hi = key_number(coordinate(body.hi(), axis), 2 * slot + 1);
+    (lo, hi)
+}
 
 // A node's key at a value, as one number whose order is the order of keys: the value above the side above the slot.
-pub(crate) fn key_number(value: Fix, node: u32) -> u64
+fn key_number(value: Fix, node: u32) -> u64
     requires { node < NODES }
     ensures number { result ≡ biased value * 4294967296 + (node % 2 * SLOTS + node / 2) }
     ensures range { IsInRange value }

@@ -1,4 +1,4 @@
-ghost use Rattle.std.specs.Prelude.{◌≡◌, ◌<◌, ◌+◌, ◌*◌, true, false, ◌++◌, ◌∷◌, [], ℕ, List, IfOk};
+ghost use Rattle.std.specs.Prelude.{◌≡◌, ◌<◌, ◌+◌, ◌*◌, true, false, ◌++◌, ◌∷◌, [], ℕ, List, IfOk, OnOk, take, vec_len};
 ghost use Rattle.endpoint_list.specs.NodeList.{has, IsDistinct};
 ghost use Rattle.sweep_prune.specs.Core.{appended, entered, withdrawn, left};
 ghost use Rattle.sweep_prune.specs.Places.{on, with_on};
@@ -42,7 +42,8 @@ impl Lists {
 
     // A node changes places with the next one on an axis.
     pub(crate) fn exchange(&mut self, axis: Axis, node: u32)
-        requires next { (before : List ℕ) × (after : List ℕ) × (other : ℕ) × (on axis self.old ≡ before ++ node ∷ other ∷ after) }
+        requires next { (before : List ℕ) × (after : List ℕ) × (other : ℕ)
+            × (on axis self.old ≡ before ++ node ∷ other ∷ after) }
         ensures { (before after : List ℕ) (other : ℕ) → on axis self.old ≡ before ++ node ∷ other ∷ after
             → self.new ≡ with_on axis (before ++ other ∷ node ∷ after) self.old }
     {
@@ -100,4 +101,17 @@ fn withdraw(list: &mut EndList, slot: u32)
 {
     list.unlink(2 * slot);
     list.unlink(2 * slot + 1);
+}
+
+// Appends the nodes of a list in its order. What was there stays, after an `Err` too.
+pub(crate) fn push_nodes(list: &EndList, out: &mut Vec<u32>) -> Result<(), NoMemory>
+    ensures ok { OnOk result (out.new.items ≡ out.old.items ++ list.now) }
+    ensures kept { take (vec_len out.old) out.new.items ≡ out.old.items }
+{
+    let mut at = list.first();
+    'nodes: while let Some(node) = at {
+        out.push(node)?;
+        at = list.next(node);
+    }
+    Ok(())
 }

@@ -28,10 +28,12 @@ pub(crate) fn move_box(
 ) -> Result<(), NoMemory>
     requires slot { slot < SLOTS }
     requires ready { (bodies : FinMap nat_cmp Bounds)
-        × SweepKeeps bodies keys.old.x.items keys.old.y.items keys.old.z.items core.old.lists × (contains_key bodies slot ≡ true) }
+        × SweepKeeps bodies keys.old.x.items keys.old.y.items keys.old.z.items core.old.lists
+        × (contains_key bodies slot ≡ true) }
     requires countable { core.old.exchanged ≤ 2 ^ 63 }
     ensures { OnOk result ((bodies : FinMap nat_cmp Bounds) (was : Bounds)
-        → SweepKeeps bodies keys.old.x.items keys.old.y.items keys.old.z.items core.old.lists → get bodies slot ≡ Some was
+        → SweepKeeps bodies keys.old.x.items keys.old.y.items keys.old.z.items core.old.lists
+        → get bodies slot ≡ Some was
         → SweepMoved bodies slot was body keys.new.x.items keys.new.y.items keys.new.z.items core.old core.new) }
 {
     move_axis(core, Axis::X, &mut keys.x, slot, body)?;

@@ -20,7 +20,7 @@ pub(crate) fn move_ends(
     requires keys { length keys.old ≡ NODES }
     requires slot { slot < SLOTS }
     requires ready { MayMove (λ n. slice_index keys.old n) slot lo hi (on axis core.old.lists) }
-    requires countable { core.old.exchanged + 40000 < 2 ^ 64 - 1 }
+    requires countable { core.old.exchanged + 2 * NODES < 2 ^ 64 - 1 }
     requires short { length (on axis core.old.lists) ≤ NODES }
     ensures counted { OnOk result (core.old.exchanged ≤ core.new.exchanged) }
     ensures keys { OnOk result (keys.new ≡ slice_set (slice_set keys.old (2 * slot) lo) (2 * slot + 1) hi) }
@@ -51,7 +51,7 @@ fn rekey_two(
     requires a { a < NODES }
     requires b { b < NODES }
     requires ready { MayMoveTwo (λ n. slice_index keys.old n) (a / 2) a b to then (on axis core.old.lists) }
-    requires countable { core.old.exchanged + 40000 < 2 ^ 64 - 1 }
+    requires countable { core.old.exchanged + 2 * NODES < 2 ^ 64 - 1 }
     requires short { length (on axis core.old.lists) ≤ NODES }
     ensures counted { OnOk result (core.old.exchanged ≤ core.new.exchanged) }
     ensures keys { OnOk result (keys.new ≡ slice_set (slice_set keys.old a to) b then) }

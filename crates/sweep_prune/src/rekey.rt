@@ -26,8 +26,8 @@ pub(crate) fn rekey(
     requires countable { core.old.exchanged + length (on axis core.old.lists) < 2 ^ 64 - 1 }
     ensures counted { OnOk result (core.old.exchanged ≤ core.new.exchanged) }
     ensures keys { keys.new ≡ slice_set keys.old node key }
-    ensures rekeyed { OnOk result (Rekeyed (λ n. slice_index keys.old n) (λ n. slice_index (slice_set keys.old node key) n) node
-        (on axis core.old.lists) (on axis core.new.lists) (core.new.exchanged - core.old.exchanged)) }
+    ensures rekeyed { OnOk result (Rekeyed (λ n. slice_index keys.old n) (λ n. slice_index (slice_set keys.old node key) n)
+        node (on axis core.old.lists) (on axis core.new.lists) (core.new.exchanged - core.old.exchanged)) }
     ensures others { OnOk result (core.new.lists ≡ with_on axis (on axis core.new.lists) core.old.lists) }
 {
     let down = key < keys[node as usize];

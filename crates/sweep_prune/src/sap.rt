@@ -1,22 +1,25 @@
-ghost use Rattle.std.specs.Prelude.{◌≡◌, ◌<◌, ◌++◌, ℕ, true, false, IfOk, OnOk, OnErr, take, vec_len};
+ghost use Rattle.std.specs.Prelude.{◌≡◌, ◌<◌, ◌++◌, ◌*◌, ℕ, true, false, IfOk, OnOk, OnErr};
 ghost use Rattle.std.specs.FinMap as map;
 ghost use Rattle.broad_index.specs.Fresh.{IsFresh};
+ghost use Rattle.endpoint_list.specs.NodeList.{has};
 ghost use Rattle.sweep_prune.specs.Keyed.{keyed};
 ghost use Rattle.sweep_prune.specs.Overlaps.{axes};
 ghost use Rattle.sweep_prune.specs.Places.{on, places};
 ghost use Rattle.sweep_prune.specs.declared.axis.Axis.{Axis};
 
 use crate::Axis;
+use crate::lists::push_nodes;
 use crate::move_box::{Keys, move_box, place_box};
 use crate::walk::{Core, clear, enter, quit};
 use broad_index::{BroadPhase, Pair, PlainIndex, Query, member_laws};
-use endpoint_list::{EndList, NODES};
+use endpoint_list::NODES;
 use fixed_box::{FBox, NoMemory};
 use slot_search::NoSeeker;
 use std::alloc::Global;
 use std::marker::Model;
 
-/// Boxes whose endpoints stand sorted on each axis. Where endpoints change places, the counts of overlaps change with them.
+/// Boxes whose endpoints stand sorted on each axis. Where endpoints change places, the counts of overlaps change with
+/// them.
 ///
 /// A change costs its exchanges, so boxes that move little between calls cost little, and `pairs` reads the counts. The
 /// boxes themselves stand in a plain list, and a query tests each of them.
@@ -90,6 +93,8 @@ impl Sap {
     pub fn core(&self) -> &Core
         requires sound { self.now.spent ≡ false }
         ensures lists { (axis : Axis) → on axis result.now.lists ≡ keyed self.now.bodies axis }
+        ensures present { (axis : Axis) (slot : ℕ) → has (2 * slot) (on axis result.now.lists)
+            ≡ map.contains_key self.now.bodies slot }
         ensures counts { (a b : ℕ) → places result.now.lists a b ≡ axes self.now.bodies a b }
         ensures exchanged { result.now.exchanged ≡ self.now.exchanges }
     {
@@ -175,17 +180,4 @@ impl BroadPhase for Sap {
     fn clear_exchanges(&mut self) {
         clear(&mut self.core);
     }
-}
-
-// Appends the nodes of a list in its order. What was there stays, after an `Err` too.
-fn push_nodes(list: &EndList, out: &mut Vec<u32>) -> Result<(), NoMemory>
-    ensures ok { OnOk result (out.new.items ≡ out.old.items ++ list.now) }
-    ensures kept { take (vec_len out.old) out.new.items ≡ out.old.items }
-{
-    let mut at = list.first();
-    'nodes: while let Some(node) = at {
-        out.push(node)?;
-        at = list.next(node);
-    }
-    Ok(())
 }

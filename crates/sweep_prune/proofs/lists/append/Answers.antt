@@ -1,7 +1,7 @@
 -- The maximum is absent once the minimum is put last.
-use Rattle.std.proofs.Common.{◌≡◌, ◌++◌, ◌∷◌, [], ◌*◌, ◌+◌, false, ap, ◌∙◌, arith, ne_eqb, ◌==◌, refl}
+use Rattle.std.proofs.Common.{◌≡◌, ◌∷◌, [], ◌*◌, ◌+◌, false, ap, ◌∙◌, arith, ne_eqb, ◌==◌, refl}
 use Rattle.endpoint_list.specs.NodeList.{has}
-use Rattle.sweep_prune.proofs.OrderLemmas.{has_append}
+use Rattle.sweep_prune.proofs.NodeLists.{has_append}
 use Rattle.sweep_prune.proofs.lists.append.Goals as goal
 
 pub push_last-requires-2-clause-absent : goal.push_last-requires-2-clause-absent

@@ -1,7 +1,7 @@
 -- The count is that of the lists, whose places are the boxes' axes.
-use Rattle.std.proofs.Common.{◌≡◌, ap, ◌∙◌}
+use Rattle.std.proofs.Common.{ap, ◌∙◌}
 use Rattle.sweep_prune.specs.Overlaps.{axes}
-use Rattle.sweep_prune.proofs.PairsAre.{places_are}
+use Rattle.sweep_prune.proofs.FullLemmas.{places_are}
 use Rattle.sweep_prune.proofs.sap.Sap.overlap.Goals as goal
 
 pub returns : goal.returns

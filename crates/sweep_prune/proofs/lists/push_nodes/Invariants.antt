@@ -1,7 +1,7 @@
 -- The nodes before the present one have been appended.
 use Rattle.std.proofs.Common.{◌≡◌, ◌++◌, ◌+◌, ◌-◌, List, ℕ, length, vec_len}
 use Rattle.endpoint_list.specs.NodeList.{first_of}
-use Rattle.sweep_prune.proofs.sap.push_nodes.Given as goal
+use Rattle.sweep_prune.proofs.lists.push_nodes.Given as goal
 
 abbrev pub invariant-nodes : goal.invariant-nodes
 invariant-nodes l = record {
