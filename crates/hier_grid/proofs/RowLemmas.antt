@@ -1,0 +1,58 @@
+-- A row of boxes through changes: lists whose last element takes another's place, and numbers that differ in a list.
+use Rattle.std.proofs.Common.{◌≡◌, ◌≢◌, ℕ, zero, suc, ◌+◌, ◌-◌, ◌<◌, ◌≤◌, true, false, List, [], ◌∷◌, ◌++◌, length, take, get_or, set, refl, sym, ap, ◌∙◌, arith, inl, inr}
+use Rattle.std.specs.List.{IsDistinct, AllByRecursion, list_any, swap_remove}
+use Rattle.std.proofs.lemmas.List.{get_or-set_same, get_or-set_other, length-set, length-take-le, get_or-take}
+use Rattle.std.proofs.lemmas.Map.Steps.{length-le_from_distinct_below}
+use Rattle.std.proofs.lemmas.Bool.Decides.{eqb_tells}
+use lib.Dec.{eqb}
+
+module _ {X : Type 0} where
+  pub swapped_here : (xs : List X) (p : ℕ) (d : X) → p + 1 < length xs → get_or (swap_remove xs p d) p d ≡ get_or xs (length xs - 1) d
+  swapped_here xs p d lt =
+      get_or-take (length xs - 1) (set xs p (get_or xs (length xs - 1) d)) p d (omega arith)
+      ∙ get_or-set_same xs p (get_or xs (length xs - 1) d) d (omega arith)
+
+  pub swapped_other : (xs : List X) (p i : ℕ) (d : X) → i ≢ p → i + 1 < length xs → get_or (swap_remove xs p d) i d ≡ get_or xs i d
+  swapped_other xs p i d ne lt =
+      get_or-take (length xs - 1) (set xs p (get_or xs (length xs - 1) d)) i d (omega arith)
+      ∙ get_or-set_other xs p i (get_or xs (length xs - 1) d) d ne
+
+  pub swapped_len : (xs : List X) (p : ℕ) (d : X) → p < length xs → length (swap_remove xs p d) + 1 ≡ length xs
+  swapped_len xs p d lt =
+      let same = length-set xs p (get_or xs (length xs - 1) d) in
+      let cut = length-take-le (length xs - 1) (set xs p (get_or xs (length xs - 1) d)) (omega arith) in
+      omega arith
+
+-- no element is x
+other_than : (x : ℕ) (xs : List ℕ) → ((i : ℕ) → i < length xs → get_or xs i 0 ≢ x) → AllByRecursion (λ y. eqb x y ≡ false) xs
+other_than x [] h = tt
+other_than x (y ∷ ys) h =
+    (elim (eqb_tells x y) as (λ _. eqb x y ≡ false) [ inl t ↦ absurd (h 0 (omega arith) (sym t.1)) | inr t ↦ t.0 ], other_than x ys (λ i l. h (suc i) (omega arith)))
+
+-- numbers that a function takes to their places, counted from n
+apart : (f : ℕ → ℕ) (n : ℕ) (xs : List ℕ) → ((i : ℕ) → i < length xs → f (get_or xs i 0) ≡ n + i) → IsDistinct eqb xs
+unfolding IsDistinct
+apart f n [] h = tt
+apart f n (x ∷ xs) h = (
+  other_than x xs (λ i l e. let here : f x ≡ n + 0 = h 0 (omega arith) in let there : f (get_or xs i 0) ≡ n + suc i = h (suc i) (omega arith) in let same = ap f e in absurd (omega arith)),
+  apart f (n + 1) xs (λ i l. h (suc i) (omega arith) ∙ (let e : n + suc i ≡ (n + 1) + i = omega arith in e)),
+)
+
+low : (n q : ℕ) (xs : List ℕ) → ((i : ℕ) → i < length xs → get_or xs i 0 < n) → list_any (eqb q) xs ≡ true → q < n
+low n q [] b h = cc
+low n q (x ∷ xs) b h = elim (eqb_tells q x) as (λ _. q < n) [
+  | inl t ↦ let first : x < n = b 0 (omega arith) in let e = t.1 in omega arith
+  | inr t ↦ low n q xs (λ i l. b (suc i) (omega arith)) (rw t.0 at h)
+]
+
+-- There are fewer of them than numbers below n, where one of those isn't among them.
+pub few : (f : ℕ → ℕ) (n s : ℕ) (xs : List ℕ) → s < n → ((i : ℕ) → i < length xs → get_or xs i 0 < n) → ((i : ℕ) → i < length xs → f (get_or xs i 0) ≡ i)
+    → ((i : ℕ) → i < length xs → get_or xs i 0 ≢ s) → length xs < n
+unfolding IsDistinct
+few f n s xs sl below at other =
+    let bound = length-le_from_distinct_below (s ∷ xs) n (other_than s xs other, apart f 0 xs (λ i l. at i l ∙ (let e : i ≡ 0 + i = omega arith in e))) (λ q h. low n q (s ∷ xs) (λ i. within i) h) in
+    omega arith
+  where
+    within : (i : ℕ) → i < length (s ∷ xs) → get_or (s ∷ xs) i 0 < n
+    within zero l = sl
+    within (suc i) l = below i (omega arith)
