@@ -1,19 +1,20 @@
 -- Each box stands in the row of its level, through changes.
 use Rattle.std.proofs.Common.{◌≡◌, ◌≢◌, ℕ, zero, suc, ◌+◌, ◌-◌, ◌<◌, ◌≤◌, true, false, cond, List, [], ◌∷◌, ◌++◌, length, get_or, set, Option, None, Some, is_some, refl, sym, ap, ◌∙◌, subst, arith, inl, inr, ◌⊎◌}
 use Rattle.std.specs.List.{swap_remove}
-use Rattle.std.proofs.lemmas.Bool.{cases_eq, true≢false}
+use Rattle.std.specs.Prelude.{IfSome}
+use Rattle.std.proofs.lemmas.Bool.{cases_eq, true≢false, false≢true}
 use Rattle.std.proofs.lemmas.Cmp.{nat_cmp_total}
 use Rattle.std.proofs.lemmas.List.{get_or-set_same, get_or-set_other, length-set, length-append, get_or_append_left}
 use Rattle.std.proofs.Math.Seq.{get_or-append_seam}
 use Rattle.std.specs.Ordering.{nat_cmp, eq_by_cmp}
-use Rattle.std.specs.FinMap.{FinMap, get, get-insert, get-remove, insert, remove}
+use Rattle.std.specs.FinMap.{FinMap, get, get-insert, get-remove, insert, remove, empty, get-empty}
 use Rattle.fixed_box.specs.Bounds.{Bounds, level_of}
 use Rattle.fixed_box.specs.declared.TheConstants.{SLOTS}
 use Rattle.cell_table.specs.declared.TheConstants.{LEVELS}
 use Rattle.cell_table.specs.SlotMapLaws.{tie_same, tie_other}
 use Rattle.hier_grid.specs.Leveled.{Row, blank, no_row, IsRow, StandsAt, row_at, IsBoxOf, IsLeveled}
 use Rattle.hier_grid.proofs.GridLemmas.{low_level, some_is, none_some}
-use Rattle.hier_grid.proofs.RowLemmas.{swapped_here, swapped_other, swapped_len, few}
+use Rattle.hier_grid.proofs.RowLemmas.{swapped_here, swapped_other, swapped_len, few, at_most}
 
 -- ---- maps at a slot
 put_here : (m : FinMap nat_cmp Bounds) (s : ℕ) (b : Bounds) → get (insert m s b) s ≡ Some b
@@ -46,10 +47,65 @@ room bodies places rows level s g lt sl none =
     few (λ u. get_or places u 0) SLOTS s (row_at rows level).slots sl (λ i l. low_slot bodies places rows level i g lt l) (λ i l. (g.kept level i lt l).place_is)
     (λ i l e. let b = g.kept level i lt l in none_some b.body (sym none ∙ ap (get bodies) (sym e) ∙ b.here))
 
--- The box of a slot stands at its place.
-pub stands_at : (bodies : FinMap nat_cmp Bounds) (places : List ℕ) (rows : List Row) (s : ℕ) (b : Bounds) → IsLeveled bodies places rows → get bodies s ≡ Some b
-    → StandsAt (row_at rows (level_of b)) (get_or places s 0) s b
-stands_at bodies places rows s b g h = g.held s b h
+-- No level has more boxes than there are slots.
+pub row_few : (bodies : FinMap nat_cmp Bounds) (places : List ℕ) (rows : List Row) (level : ℕ) → IsLeveled bodies places rows → level < LEVELS
+    → length (row_at rows level).boxes ≤ SLOTS
+row_few bodies places rows level g lt =
+    let n = at_most (λ u. get_or places u 0) SLOTS (row_at rows level).slots (λ i l. low_slot bodies places rows level i g lt l) (λ i l. (g.kept level i lt l).place_is) in
+    let e = (g.even level lt).same in
+    omega arith
+
+-- A level has room for one more box where a slot is absent.
+pub row_spare : (bodies : FinMap nat_cmp Bounds) (places : List ℕ) (rows : List Row) (level s : ℕ) → IsLeveled bodies places rows → level < LEVELS → s < SLOTS
+    → get bodies s ≡ None → 0 < (row_at rows level).spare
+row_spare bodies places rows level s g lt sl none =
+    let n = room bodies places rows level s g lt sl none in
+    let e = (g.even level lt).same in
+    let r = (g.even level lt).roomy in
+    omega arith
+
+-- a slot's box stands within its row
+pub place_within : (bodies : FinMap nat_cmp Bounds) (places : List ℕ) (rows : List Row) (s : ℕ) (b : Bounds) → IsLeveled bodies places rows → get bodies s ≡ Some b
+    → get_or places s 0 < length (row_at rows (level_of b)).boxes
+place_within bodies places rows s b g h =
+    let i = (g.held s b h).inside in
+    let e = (g.even (level_of b) (low_level b)).same in
+    omega arith
+
+-- the last slot of a row is a slot
+pub last_low : (bodies : FinMap nat_cmp Bounds) (places : List ℕ) (rows : List Row) (s : ℕ) (b : Bounds) → IsLeveled bodies places rows → get bodies s ≡ Some b
+    → get_or (row_at rows (level_of b)).slots (length (row_at rows (level_of b)).slots - 1) 0 < SLOTS
+last_low bodies places rows s b g h =
+    low_slot bodies places rows (level_of b) (length (row_at rows (level_of b)).slots - 1) g (low_level b) (let i = (g.held s b h).inside in omega arith)
+
+pub absent_none : (o : Option Bounds) → is_some o ≡ false → o ≡ None
+absent_none None h = refl
+absent_none (Some b) h = absurd (true≢false h)
+
+-- a box that is there, and its level
+pub record Owned (o : Option Bounds) (level : ℕ) : Type 0 where
+  pub own : Bounds
+  pub is : o ≡ Some own
+  pub level_is : level_of own ≡ level
+
+pub owned : (o : Option Bounds) (level : ℕ) → is_some o ≡ true → IfSome o (λ own. level_of own ≡ level) → Owned o level
+owned None level h l = absurd (false≢true h)
+owned (Some b) level h l = record { own = b; is = refl; level_is = l }
+
+pub leveled_new : (bodies : FinMap nat_cmp Bounds) (places : List ℕ) (rows : List Row) → bodies ≡ empty {R = nat_cmp} → length places ≡ SLOTS → length rows ≡ LEVELS
+    → ((level : ℕ) → (row_at rows level).slots ≡ []) → ((level : ℕ) → (row_at rows level).boxes ≡ [])
+    → ((level : ℕ) → level < LEVELS → SLOTS ≤ (row_at rows level).spare) → IsLeveled bodies places rows
+leveled_new bodies places rows e pl rl slots boxes roomy = record {
+  places_len = pl;
+  rows_len = rl;
+  low = λ s b h. absurd (none_some b (sym (none s) ∙ h));
+  even = λ level lt. record { same = ap length (slots level) ∙ sym (ap length (boxes level)); roomy = (let r = roomy level lt in omega arith) };
+  held = λ s b h. absurd (none_some b (sym (none s) ∙ h));
+  kept = λ level place lt inside. (let z = ap length (slots level) in absurd (omega arith));
+}
+  where
+    none : (s : ℕ) → get bodies s ≡ None
+    none s = ap (λ m. get m s) e ∙ get-empty nat_cmp s
 
 -- ---- a box that comes in
 pub leveled_put : (bodies : FinMap nat_cmp Bounds) (places : List ℕ) (rows : List Row) (s : ℕ) (b : Bounds) (new : Row) → IsLeveled bodies places rows → s < SLOTS

@@ -117,19 +117,18 @@ impl LeveledBoxes {
         self.boxes.take(slot);
     }
 
-    /// Appends the slots of a level whose boxes meet a region, by a scan of the level. The room is for places.
+    /// Appends the slots of a level whose boxes meet a region, by a scan of the level.
     pub(crate) fn scan(
         &self,
         level: u8,
         region: &FBox,
-        room: &mut Vec<u32>,
         out: &mut Vec<u32>,
     ) -> Result<(), NoMemory>
         requires { level < LEVELS }
         ensures more { OnOk result (HasMore out.old.items out.new.items) }
         ensures found { OnOk result (HasMet self.now level region.now out.new.items) }
     {
-        self.rows[level as usize].push_met(region, room, out)?;
+        self.rows[level as usize].push_met(region, out)?;
         Ok(())
     }
 }
