@@ -15,3 +15,5 @@ mod partners;
 
 pub use grid::HierGrid;
 
+#[cfg(test)]
+mod tests;
