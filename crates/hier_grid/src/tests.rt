@@ -1,6 +1,7 @@
 ghost use Rattle.std.specs.Prelude.{◌<◌, ◌≤◌};
 
 use super::*;
+use cell_table::CellKey;
 use broad_index::{BroadPhase, Gate, NoGate, Pair, PlainIndex, Query};
 use fixed_box::{FBox, NoMemory, Point, SLOTS};
 use ray_slabs::{Ray, Seg, WPoint};
@@ -202,5 +203,92 @@ fn few_boxes_are_compared(rt: HostRuntime) -> Result<(), Fail> {
     let looked = both.grid.looked();
     assert!(rt; pairs.len() as u64 <= looked);
     assert!(rt; looked < 2_000 * 1_999 / 2 / 10);
+    Ok(())
+}
+
+// Two slots with the same box, which is flat.
+fn two_at(alloc: Global, at: Point) -> Result<Both, Fail> {
+    let body = FBox::new(at, at).ok_or("a box")?;
+    let mut both = Both::new(alloc)?;
+    both.put(4, body)?;
+    both.put(2, body)?;
+    Ok(both)
+}
+
+#[test]
+fn two_boxes_at_one_place_are_a_pair(rt: HostRuntime) -> Result<(), Fail> {
+    let at = Point {
+        x: -1,
+        y: 0,
+        z: 4_096,
+    };
+    let mut both = two_at(rt.alloc(), at)?;
+    let (_, pairs) = both.pairs(rt.alloc())?;
+    let (_, slots) = both.hits(rt.alloc(), &Query::Spot(at))?;
+    assert_eq!(rt; pairs.as_slice(), [Pair { a: 2, b: 4 }].as_slice());
+    assert_eq!(rt; slots.as_slice(), [2, 4].as_slice());
+    let key = CellKey {
+        level: 0,
+        x: -1,
+        y: 0,
+        z: 1,
+    };
+    assert_eq!(rt; both.grid.cells().key_of(4), Some(key));
+    both.remove(2);
+    let (_, pairs) = both.pairs(rt.alloc())?;
+    assert!(rt; pairs.is_empty());
+    Ok(())
+}
+
+#[test]
+fn all_slots_are_sought_in_their_order(rt: HostRuntime) -> Result<(), Fail> {
+    let both = two_at(rt.alloc(), Point { x: 0, y: 0, z: 0 })?;
+    let (index, slots) = both.grid.share(rt.alloc())?.ok_or("a share")?;
+    let (lists, _) = seek_many(&rt, rt.alloc(), index, &slots, 2, &NoGate)?;
+    assert_eq!(rt; slots.as_slice(), [2, 4].as_slice());
+    assert_eq!(rt; lists.len(), 2);
+    for (list, other) in lists.iter().zip([4, 2]) {
+        assert_eq!(rt; list.as_slice(), [other].as_slice());
+    }
+    Ok(())
+}
+
+// A gate whose first two pieces each look for the other, and how often that was seen.
+#[derive(Drop)]
+struct Meeting {
+    first: AtomicBool,
+    second: AtomicBool,
+    met: AtomicU32,
+}
+
+impl Gate for Meeting {
+    fn enter(&self, piece: u32) {
+        let (mine, other) = if piece == 0 {
+            (&self.first, &self.second)
+        } else {
+            (&self.second, &self.first)
+        };
+        mine.store(true, Ordering::SeqCst);
+        for _ in 0..1_000_000_000u32 {
+            if other.load(Ordering::SeqCst) {
+                self.met.fetch_add(1, Ordering::SeqCst);
+                return;
+            }
+        }
+    }
+}
+
+#[test]
+fn two_workers_search_at_once(rt: HostRuntime) -> Result<(), Fail> {
+    let mut both = two_at(rt.alloc(), Point { x: 0, y: 0, z: 0 })?;
+    let gate = Meeting {
+        first: AtomicBool::new(false),
+        second: AtomicBool::new(false),
+        met: AtomicU32::new(0),
+    };
+    let mut pairs = Vec::new(rt.alloc());
+    both.grid.pairs_with(&rt, 2, &gate, &mut pairs)?;
+    assert_eq!(rt; pairs.as_slice(), [Pair { a: 2, b: 4 }].as_slice());
+    assert_eq!(rt; gate.met.load(Ordering::SeqCst), 2);
     Ok(())
 }
