@@ -16,9 +16,7 @@ use Rattle.cell_table.specs.Cells.{has, slots_at}
 use Rattle.hier_grid.specs.Cells.{cell_of, IsBeside}
 use Rattle.hier_grid.specs.Grid.{IsGrid, IsSized, AreKeyed}
 use Rattle.hier_grid.specs.Search.{HasCell, HasMet}
-use Rattle.broad_index.specs.Members.{has_slot}
 use Rattle.hier_grid.proofs.CellLemmas.{beside}
-use Rattle.hier_grid.proofs.SlotLemmas.{has_slot_is, more_right}
 
 low_find : (p : ℕ → Bool) (n m : ℕ) → n + m ≤ 11 → unwrap_or (find p (range_with_len n m)) 10 < 11
 low_find p n zero h = omega arith
@@ -113,10 +111,3 @@ pub none_met : (bodies : FinMap nat_cmp Bounds) (cells : FinMap nat_cmp CellKey)
     → length (slots_at cells level) ≡ 0 → HasMet bodies level region slots
 none_met bodies cells level region slots g none q b e l m =
     absurd (none_in (slots_at cells level) q none (has_level cells q (cell_of b) level l (g.keyed q ∙ ap (option_map cell_of) e)))
-
--- All slots of a level have among them those whose boxes meet a region.
-pub met_in_level : (bodies : FinMap nat_cmp Bounds) (cells : FinMap nat_cmp CellKey) (level : ℕ) (region : Bounds) (old slots : List ℕ) → IsGrid bodies cells
-    → slots ≡ old ++ slots_at cells level → HasMet bodies level region slots
-met_in_level bodies cells level region old slots g is q b e l m =
-    ap (λ xs. has_slot xs q) is ∙ more_right old (slots_at cells level) q
-    (sym (has_slot_is (slots_at cells level) q) ∙ has_level cells q (cell_of b) level l (g.keyed q ∙ ap (option_map cell_of) e))

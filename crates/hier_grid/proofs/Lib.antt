@@ -2,6 +2,8 @@ mod BoxLemmas
 mod CellLemmas
 mod GridLemmas
 mod HitLemmas
+mod LeveledLemmas
 mod MapLemmas
 mod PairLemmas
+mod RowLemmas
 mod SlotLemmas

@@ -4,8 +4,9 @@ ghost use Rattle.hier_grid.specs.Grid.{AreKeyed};
 ghost use Rattle.hier_grid.specs.Search.{HasMet, HasMore};
 
 use crate::cell::cell_of;
-use crate::slot_boxes::SlotBoxes;
+use crate::leveled_boxes::LeveledBoxes;
 use crate::near_cells::{count_beside, push_beside};
+use crate::slot_boxes::SlotBoxes;
 use cell_table::{CellKey, CellTable, LEVELS};
 use fixed_box::{FBox, NoMemory, SLOTS};
 use std::alloc::Global;
@@ -14,7 +15,7 @@ use std::marker::Model;
 /// The boxes under their slots, each in the cell of its level, seen as a map from slot to box.
 #[derive(Drop)]
 pub(crate) struct KeptBoxes {
-    boxes: SlotBoxes,
+    boxes: LeveledBoxes,
     cells: CellTable,
 }
 
@@ -40,7 +41,7 @@ impl KeptBoxes {
         ensures { IfOk result (λ kept. kept ≡ map.empty) }
     {
         Ok(KeptBoxes {
-            boxes: SlotBoxes::new(alloc)?,
+            boxes: LeveledBoxes::new(alloc)?,
             cells: CellTable::new(alloc)?,
         })
     }
@@ -49,7 +50,7 @@ impl KeptBoxes {
     pub(crate) fn boxes(&self) -> &SlotBoxes
         ensures { result.now ≡ self.now }
     {
-        &self.boxes
+        self.boxes.boxes()
     }
 
     /// The cells of the boxes.
@@ -106,7 +107,8 @@ impl KeptBoxes {
             return Ok(());
         }
         if count_beside(level, region) > u64::from(some) {
-            self.push_level(level, region, out)
+            *looked = looked.saturating_add(u64::from(some));
+            self.boxes.scan(level, region, out)
         } else {
             self.push_from_cells(level, region, out)
         }
@@ -124,16 +126,6 @@ impl KeptBoxes {
         ensures found { OnOk result (HasMet self.now level region.now out.new.items) }
     {
         push_beside(&self.cells, level, region, out)?;
-        Ok(())
-    }
-
-    // Appends the slots of a level.
-    fn push_level(&self, level: u8, region: &FBox, out: &mut Vec<u32>) -> Result<(), NoMemory>
-        ensures more { OnOk result (HasMore out.old.items out.new.items) }
-        ensures found { OnOk result (HasMet self.now level region.now out.new.items) }
-    {
-        let _ = region;
-        self.cells.each_at(level, out)?;
         Ok(())
     }
 }

@@ -7,9 +7,13 @@ mod grid;
 mod hits;
 mod kept_boxes;
 mod slot_boxes;
+mod level_row;
+mod leveled_boxes;
 mod near_cells;
 mod pair_search;
 mod partners;
 
 pub use grid::HierGrid;
 
+#[cfg(test)]
+mod tests;

@@ -1,0 +1,52 @@
+-- This file only serves proofs: the boxes of each level in columns, and where each slot's box stands.
+use Rattle.std.specs.Prelude.{◌≡◌, ℕ, ◌+◌, ◌<◌, ◌≤◌, Bool, true, pos, List, [], length, slice_index, slice_index_or, Some}
+use Rattle.std.specs.Ordering.{nat_cmp}
+use Rattle.std.specs.FinMap.{FinMap, get}
+use Rattle.fixed_box.specs.Bounds.{Bounds, level_of}
+use Rattle.fixed_box.specs.declared.TheConstants.{SLOTS}
+use Rattle.cell_table.specs.declared.TheConstants.{LEVELS}
+
+-- The boxes of a level and their slots, at the same places, and for how many more boxes there is room.
+pub record Row : Type 0 where
+  pub slots : List ℕ
+  pub boxes : List Bounds
+  pub spare : ℕ
+
+-- the flat box at the origin, read of no place
+abbrev pub blank : Bounds
+blank = record { lo = record { x = pos 0; y = pos 0; z = pos 0 }; hi = record { x = pos 0; y = pos 0; z = pos 0 } }
+
+-- a row with no box, read of no level
+abbrev pub no_row : Row
+no_row = record { slots = []; boxes = []; spare = 0 }
+
+-- as many slots as boxes, and room for all slots
+pub record IsRow (row : Row) : Type 0 where
+  pub same : length row.slots ≡ length row.boxes
+  pub roomy : SLOTS ≤ length row.boxes + row.spare
+
+-- a slot's box stands at a place of a row
+pub record StandsAt (row : Row) (place slot : ℕ) (body : Bounds) : Type 0 where
+  pub inside : place < length row.slots
+  pub slot_is : slice_index row.slots place ≡ slot
+  pub body_is : slice_index_or row.boxes place blank ≡ body
+
+abbrev pub row_at : List Row → ℕ → Row
+row_at rows level = slice_index_or rows level no_row
+
+-- what stands at a place of a row is the box of its slot, which has this level and this place
+pub record IsBoxOf (bodies : FinMap nat_cmp Bounds) (places : List ℕ) (level place slot : ℕ) : Type 0 where
+  pub body : Bounds
+  pub here : get bodies slot ≡ Some body
+  pub level_is : level_of body ≡ level
+  pub place_is : slice_index places slot ≡ place
+
+-- Each box stands in the row of its level, and nothing else stands there.
+pub record IsLeveled (bodies : FinMap nat_cmp Bounds) (places : List ℕ) (rows : List Row) : Type 0 where
+  pub places_len : length places ≡ SLOTS
+  pub rows_len : length rows ≡ LEVELS
+  pub low : (s : ℕ) (b : Bounds) → get bodies s ≡ Some b → s < SLOTS
+  pub even : (level : ℕ) → level < LEVELS → IsRow (row_at rows level)
+  pub held : (s : ℕ) (b : Bounds) → get bodies s ≡ Some b → StandsAt (row_at rows (level_of b)) (slice_index places s) s b
+  pub kept : (level place : ℕ) → level < LEVELS → place < length (row_at rows level).slots
+      → IsBoxOf bodies places level place (slice_index (row_at rows level).slots place)

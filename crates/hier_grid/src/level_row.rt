@@ -1,0 +1,122 @@
+ghost use Rattle.std.specs.Prelude.{◌≡◌, ℕ, ◌+◌, ◌-◌, ◌<◌, ◌≤◌, ◌^◌, [], ◌∷◌, ◌++◌, true, IfOk, OnOk, length, slice_index, slice_index_or, slice_set, swap_remove, map};
+ghost use Rattle.fixed_box.specs.Bounds.{meets};
+ghost use Rattle.broad_index.specs.Members.{has_slot};
+ghost use Rattle.hier_grid.specs.Leveled.{blank};
+ghost use Rattle.hier_grid.specs.Search.{HasMore};
+
+use fixed_box::{FBox, NoMemory, SLOTS};
+use lane_boxes::Columns;
+use std::alloc::Global;
+use std::marker::Model;
+
+/// The boxes of a level in columns, in any order, and at the same places their slots.
+#[derive(Drop)]
+pub(crate) struct LevelRow {
+    columns: Columns,
+    slots: Vec<u32>,
+}
+
+impl Model for LevelRow {
+    ghost use Rattle.std.specs.Prelude.{◌≤◌, vec_capacity};
+    ghost use Rattle.fixed_box.specs.declared.TheConstants.{SLOTS};
+    ghost use Rattle.hier_grid.specs.Leveled.{Row};
+
+    ghost Value = { Row };
+
+    ghost view = { λ r. record { slots = r.slots.items; boxes = r.columns.boxes; spare = r.columns.spare } };
+
+    ghost invariant = { λ r. SLOTS ≤ vec_capacity r.slots };
+}
+
+impl LevelRow {
+    /// No box, and room for one under each slot.
+    pub(crate) fn new(alloc: Global) -> Result<LevelRow, NoMemory>
+        ensures slots { IfOk result (λ row. row.slots ≡ []) }
+        ensures boxes { IfOk result (λ row. row.boxes ≡ []) }
+        ensures room { IfOk result (λ row. SLOTS ≤ row.spare) }
+    {
+        let mut columns = Columns::new(alloc);
+        columns.reserve(SLOTS as usize)?;
+        Ok(LevelRow {
+            columns,
+            slots: Vec::with_capacity(alloc, SLOTS as usize)?,
+        })
+    }
+
+    /// How many boxes there are.
+    pub(crate) fn len(&self) -> usize
+        ensures { result ≡ length self.now.slots }
+    {
+        self.slots.len()
+    }
+
+    /// Appends a box and its slot, where there is room.
+    pub(crate) fn push(&mut self, slot: u32, body: FBox)
+        requires few { length self.old.slots < SLOTS }
+        requires room { 0 < self.old.spare }
+        ensures slots { self.new.slots ≡ self.old.slots ++ slot ∷ [] }
+        ensures boxes { self.new.boxes ≡ self.old.boxes ++ body ∷ [] }
+        ensures spare { self.new.spare + 1 ≡ self.old.spare }
+    {
+        self.columns.push_reserved(body);
+        self.slots.push(slot).unwrap();
+    }
+
+    /// Gives the slot at a place another box.
+    pub(crate) fn set(&mut self, place: usize, body: FBox)
+        requires { place < length self.old.boxes }
+        ensures slots { self.new.slots ≡ self.old.slots }
+        ensures boxes { self.new.boxes ≡ slice_set self.old.boxes place body }
+        ensures spare { self.new.spare ≡ self.old.spare }
+    {
+        self.columns.set(place, body);
+    }
+
+    /// Takes the box at a place out, puts the last one there, and answers its slot.
+    pub(crate) fn swap_out(&mut self, place: usize) -> u32
+        requires slot { place < length self.old.slots }
+        requires body { place < length self.old.boxes }
+        ensures moved { result ≡ slice_index self.old.slots (length self.old.slots - 1) }
+        ensures slots { self.new.slots ≡ swap_remove self.old.slots place 0 }
+        ensures boxes { self.new.boxes ≡ swap_remove self.old.boxes place blank }
+        ensures spare { self.new.spare ≡ self.old.spare + 1 }
+    {
+        let moved = self.slots[self.slots.len() - 1];
+        self.columns.swap_out(place);
+        self.slots.swap_remove(place);
+        moved
+    }
+
+    /// Appends the slots whose boxes meet a region.
+    pub(crate) fn push_met(&self, region: &FBox, out: &mut Vec<u32>) -> Result<(), NoMemory>
+        requires { length self.now.boxes < 2 ^ 32 }
+        ensures more { OnOk result (HasMore out.old.items out.new.items) }
+        ensures found { OnOk result ((place : ℕ) → place < length self.now.boxes → meets region.now (slice_index_or self.now.boxes place blank) ≡ true
+            → has_slot out.new.items (slice_index self.now.slots place) ≡ true) }
+    {
+        let mut places = Vec::new(*out.allocator());
+        self.columns.scan(region, &mut places)?;
+        push_slots(&self.slots, &places, out)?;
+        Ok(())
+    }
+}
+
+// Appends the slots at some places.
+fn push_slots(slots: &[u32], places: &[u32], out: &mut Vec<u32>) -> Result<(), NoMemory>
+    ensures { OnOk result (out.new.items ≡ out.old.items ++ map (slice_index slots.now) places.now) }
+{
+    let mut rest = places;
+    'places: while let [place, more @ ..] = rest {
+        out.push(slot_at(slots, *place))?;
+        rest = more;
+    }
+    Ok(())
+}
+
+// The slot at a place, and 0 at none.
+fn slot_at(slots: &[u32], place: u32) -> u32
+    ensures { result ≡ slice_index slots.now place }
+{
+    let place = place as usize;
+    if place < slots.len() { slots[place] } else { 0 }
+}
