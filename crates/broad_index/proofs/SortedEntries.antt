@@ -1,5 +1,5 @@
 -- Entries in order of their slots, the map that they are, and the place of a slot among them.
-use Rattle.std.proofs.Common.{◌≡◌, ℕ, zero, suc, ◌<◌, ◌≤◌, Bool, true, false, cond, T, ◌&&◌, List, [], ◌∷◌, length, get_or, set, insert, remove, not, None}
+use Rattle.std.proofs.Common.{◌≡◌, ℕ, zero, suc, ◌+◌, ◌<◌, ◌≤◌, Bool, true, false, cond, T, ◌&&◌, List, [], ◌∷◌, length, get_or, set, insert, remove, not, None}
 use Rattle.std.proofs.Common.{is_some, Some, refl, sym, ap, ◌∙◌, subst, arith, nat_lt}
 use Rattle.std.specs.Ordering.{nat_cmp, is_lt, is_eq, eq_by_cmp}
 use Rattle.std.specs.declared.cmp.Ordering.{Ordering}
@@ -193,3 +193,26 @@ module _ {X : Type 0} where
   pub present_from : (es : List (ℕ × X)) (k : ℕ) → T (is_sorted nat_cmp es) → contains_key (from_sorted {R = nat_cmp} es) k ≡ true
       → is_some (find nat_cmp k es) ≡ true
   present_from es k h present = ap is_some (sym (get-from_sorted nat_cmp es k h)) ∙ present
+
+  -- the entry at the place of a slot has this slot
+  pub key_there : (es : List (ℕ × X)) (k : ℕ) (i : ℕ) (d : ℕ × X) → T (is_sorted nat_cmp es) → is_some (find nat_cmp k es) ≡ true → i ≤ length es
+      → AllWithin (λ e. nat_lt e.0 k ≡ true) es 0 i → AllWithin (λ e. nat_lt e.0 k ≡ false) es i (length es) → (get_or es i d).0 ≡ k
+  key_there [] k i d h present le below above = cc
+  key_there (e ∷ es) k zero d h present le below above =
+      let equal : nat_cmp k e.0 ≡ Equal = here e es k h present (above 0 e (omega arith) (omega arith)) in
+      sym (ranked k e.0 Equal (sym equal))
+  key_there (e ∷ es) k (suc i) d h present le below above =
+      let lt : nat_lt e.0 k ≡ true = below 0 e (omega arith) (omega arith) in
+      key_there es k i d (both_from _ _ h).1 (past e es k present lt) (omega arith)
+      (λ j d lo hi. below (suc j) d (omega arith) (omega arith)) (λ j d lo hi. above (suc j) d (omega arith) (omega arith))
+
+  -- rising slots from m on, all of them below n, are few
+  pub rising_few : (es : List (ℕ × X)) (m n : ℕ) → T (is_sorted nat_cmp es) → ((j : ℕ) (d : ℕ × X) → j < length es → m ≤ (get_or es j d).0)
+      → ((j : ℕ) (d : ℕ × X) → j < length es → (get_or es j d).0 < n) → m ≤ n → m + length es ≤ n
+  rising_few [] m n h from below le = omega arith
+  rising_few (e ∷ es) m n h from below le =
+      let first : m ≤ e.0 = from 0 e (omega arith) in
+      let last : e.0 < n = below 0 e (omega arith) in
+      let rest : suc e.0 + length es ≤ n = rising_few es (suc e.0) n (both_from _ _ h).1 (λ j d l. below_at e.0 es (both_from _ _ h).0 j d l)
+      (λ j d l. below (suc j) d (omega arith)) last in
+      omega arith

@@ -1,3 +1,4 @@
+pub mod Entries
 pub mod Exchanges
 pub mod Found
 pub mod Fresh

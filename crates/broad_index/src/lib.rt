@@ -2,6 +2,7 @@
 #![tactic(auto)]
 
 mod broad_phase;
+mod entries;
 mod gather;
 mod laws;
 mod pair;

@@ -131,6 +131,11 @@ module _ (test : Bounds → Bool) where
       ap (λ l. l ++ places test (at + 8) (drop (at + 8) boxes)) (mask_places at boxes)
       ∙ sym (places_split 8 at (drop at boxes) ∙ ap (λ l. places test at (take 8 (drop at boxes)) ++ places test (at + 8) l) (drop-drop 8 at boxes))
 
+  -- an empty mask has none
+  pub empty_mask : (at : ℕ) (boxes : List Bounds) → next_eight test at boxes ≡ 0 → places test (at + 8) (drop (at + 8) boxes) ≡ places test at (drop at boxes)
+  empty_mask at boxes h =
+      sym (ap (λ l. l ++ places test (at + 8) (drop (at + 8) boxes)) (ap (set_places 8 at) h ∙ none_set 8 at)) ∙ mask_before at boxes
+
   pub mask_within : (at most : ℕ) (boxes : List Bounds) → at ≤ length boxes → length boxes < most → All (λ k. k < most) (set_places 8 at (next_eight test at boxes))
   mask_within at most boxes l h =
       rw (mask_places at boxes)

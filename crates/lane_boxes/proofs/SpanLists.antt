@@ -29,13 +29,13 @@ highs_fit los his a = Each1-from_get_or (SFits w32) his (pos 0) (λ at l. (is_sp
 pub are_pushed : (los his : List ℤ) (lo hi : ℤ) → AreSpans los his → IsSpan (span lo hi) → AreSpans (los ++ lo ∷ []) (his ++ hi ∷ [])
 are_pushed los his lo hi a s = record {
   same = omega (arith, length-append los (lo ∷ []), length-append his (hi ∷ []), a.same);
-  each = rw (beside_append span los (lo ∷ []) his (hi ∷ []) (sym a.same)) (All-push IsSpan (spans_of los his) (span lo hi) a.each s)
+  each = rw (beside_append span los (lo ∷ []) his (hi ∷ []) (sym a.same)) (All-push IsSpan (spans_of los his) (span lo hi) a.each s);
 }
 
 pub are_set : (los his : List ℤ) (at : ℕ) (lo hi : ℤ) → AreSpans los his → IsSpan (span lo hi) → AreSpans (set los at lo) (set his at hi)
 are_set los his at lo hi a s = record {
   same = omega (arith, length-set los at lo, length-set his at hi, a.same);
-  each = rw (beside_set span los his at lo hi) (All-set IsSpan (spans_of los his) at (span lo hi) s a.each)
+  each = rw (beside_set span los his at lo hi) (All-set IsSpan (spans_of los his) at (span lo hi) s a.each);
 }
 
 pub are_inserted : (los his : List ℤ) (at : ℕ) (lo hi : ℤ) → AreSpans los his → IsSpan (span lo hi) → AreSpans (insert los at lo) (insert his at hi)
@@ -45,7 +45,7 @@ are_inserted los his at lo hi a s = record {
   each =
       rw (beside_insert span los his at lo hi (sym a.same))
       (All-append IsSpan (take at (spans_of los his)) (span lo hi ∷ drop at (spans_of los his)) (All-take IsSpan at (spans_of los his) a.each)
-      (All-cons IsSpan (span lo hi) (drop at (spans_of los his)) s (All-drop IsSpan at (spans_of los his) a.each)))
+      (All-cons IsSpan (span lo hi) (drop at (spans_of los his)) s (All-drop IsSpan at (spans_of los his) a.each)));
 }
 
 pub are_removed : (los his : List ℤ) (at : ℕ) → AreSpans los his → AreSpans (remove los at) (remove his at)
@@ -55,7 +55,7 @@ are_removed los his at a = record {
   each =
       rw (beside_remove span los his at (sym a.same))
       (All-append IsSpan (take at (spans_of los his)) (drop (suc at) (spans_of los his)) (All-take IsSpan at (spans_of los his) a.each)
-      (All-drop IsSpan (suc at) (spans_of los his) a.each))
+      (All-drop IsSpan (suc at) (spans_of los his) a.each));
 }
 
 pub are_swapped : (los his : List ℤ) (at : ℕ) (lo hi : ℤ) → at < length los → AreSpans los his → AreSpans (swap_remove los at lo) (swap_remove his at hi)
@@ -68,5 +68,5 @@ are_swapped los his at lo hi l a =
       each =
           rw (beside_swap_remove span los his at lo hi (sym a.same))
           (All-take IsSpan n (set ss at (get_or ss n (span lo hi)))
-          (All-set IsSpan ss at (get_or ss n (span lo hi)) (All-get_or IsSpan ss n (span lo hi) (omega (arith, long)) a.each) a.each))
+          (All-set IsSpan ss at (get_or ss n (span lo hi)) (All-get_or IsSpan ss n (span lo hi) (omega (arith, long)) a.each) a.each));
     }

@@ -27,8 +27,8 @@ impl Model for Axis {
     ghost Value = { Spans };
 
     ghost view = { λ a. record {
-        spans = spans_of a.lo.items a.hi.items;
-        spare = min (vec_capacity a.lo) (vec_capacity a.hi) - vec_len a.lo
+      spans = spans_of a.lo.items a.hi.items;
+      spare = min (vec_capacity a.lo) (vec_capacity a.hi) - vec_len a.lo;
     } };
 
     ghost invariant = { λ a. AreSpans a.lo.items a.hi.items };

@@ -251,6 +251,27 @@ impl Columns {
         mask
     }
 
+    // The first place, by eights from one on, whose next eight boxes have one that overlaps, with their mask. It is the
+    // loop of a scan, and keeps all it compares with in registers.
+    fn next_mask(&self, from: usize, body: &FBox) -> (usize, u8)
+        requires { from ≤ length self.now.boxes }
+        ensures later { from ≤ result.0 }
+        ensures bound { result.0 ≤ length self.now.boxes }
+        ensures mask { result.1 ≡ next_eight (meets body.now) result.0 self.now.boxes }
+        ensures passed { places (meets body.now) from (drop from self.now.boxes) ≡ places (meets body.now) result.0 (drop result.0 self.now.boxes) }
+    {
+        let len = self.len();
+        let mut at = from;
+        'eights: while len - at >= LANES {
+            let mask = self.full_mask(at, body);
+            if mask != 0 {
+                return (at, mask);
+            }
+            at += LANES;
+        }
+        (at, self.tail_mask(at, body))
+    }
+
     // Appends the places from one on whose boxes overlap one. What was there stays, after an `Err` too.
     fn push_overlaps(&self, from: usize, body: &FBox, out: &mut Vec<u32>) -> Result<(), NoMemory>
         requires few { length self.now.boxes < 2 ^ 32 }
@@ -260,9 +281,10 @@ impl Columns {
     {
         let len = self.len();
         let mut at = from;
-        'blocks: while at < len {
-            push_places(self.overlap_mask(at, body), at, out)?;
-            at += LANES;
+        'hits: while at < len {
+            let (block, mask) = self.next_mask(at, body);
+            push_places(mask, block, out)?;
+            at = block + LANES;
         }
         Ok(())
     }

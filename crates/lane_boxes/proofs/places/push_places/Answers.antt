@@ -24,27 +24,27 @@ bits-preserved c =
     let low = rw e at c.bits.invariant.low in
     elim c.if-rest-eq1.branch [
       | then-rest-eq1+in_ok-push w ↦
-        let set = next_set n c.bits.at c.bits.rest w.if-rest-eq1.true in
-        record {
-          after = omega arith;
-          left = omega arith;
-          low = half_low n c.bits.rest low;
-          small = All-tail (λ k. k < 2 ^ 32) c.bits.at (set_places n (c.bits.at + 1) (c.bits.rest / 2)) (rw (e, set) at c.bits.invariant.small);
-          whole =
-              rw (w.out-is, w.in_ok-push.ensures.items)
-              (append_assoc c.bits.out.items (c.bits.at ∷ []) (set_places n (c.bits.at + 1) (c.bits.rest / 2)) ∙ (rw (e, set) at c.bits.invariant.whole));
-          kept = rw (w.out-is, w.in_ok-push.ensures.items) (grind (arith, common_steps))
-        }
+          let set = next_set n c.bits.at c.bits.rest w.if-rest-eq1.true in
+          record {
+            after = omega arith;
+            left = omega arith;
+            low = half_low n c.bits.rest low;
+            small = All-tail (λ k. k < 2 ^ 32) c.bits.at (set_places n (c.bits.at + 1) (c.bits.rest / 2)) (rw (e, set) at c.bits.invariant.small);
+            whole =
+                rw (w.out-is, w.in_ok-push.ensures.items)
+                (append_assoc c.bits.out.items (c.bits.at ∷ []) (set_places n (c.bits.at + 1) (c.bits.rest / 2)) ∙ (rw (e, set) at c.bits.invariant.whole));
+            kept = rw (w.out-is, w.in_ok-push.ensures.items) (grind (arith, common_steps));
+          }
       | else-rest-eq1 w ↦
-        let clear = next_clear n c.bits.at c.bits.rest (ne_eqb (c.bits.rest % 2) 1 w.if-rest-eq1.false) in
-        record {
-          after = omega arith;
-          left = omega arith;
-          low = half_low n c.bits.rest low;
-          small = rw (e, clear) at c.bits.invariant.small;
-          whole = rw w.out-is (rw (e, clear) at c.bits.invariant.whole);
-          kept = rw w.out-is c.bits.invariant.kept
-        }
+          let clear = next_clear n c.bits.at c.bits.rest (ne_eqb (c.bits.rest % 2) 1 w.if-rest-eq1.false) in
+          record {
+            after = omega arith;
+            left = omega arith;
+            low = half_low n c.bits.rest low;
+            small = rw (e, clear) at c.bits.invariant.small;
+            whole = rw w.out-is (rw (e, clear) at c.bits.invariant.whole);
+            kept = rw w.out-is c.bits.invariant.kept;
+          }
     ]
 
 pub returns-clause-ok : goal.returns-clause-ok

@@ -10,7 +10,7 @@ invariant-bits l = record {
   low : l.rest < 2 ^ (l.fn.from + 8 - l.at);
   small : All (λ k. k < 2 ^ 32) (set_places (l.fn.from + 8 - l.at) l.at l.rest);
   whole : l.out.items ++ set_places (l.fn.from + 8 - l.at) l.at l.rest ≡ l.fn.out.items ++ set_places 8 l.fn.from l.fn.mask;
-  kept : take (vec_len l.fn.out) l.out.items ≡ l.fn.out.items
+  kept : take (vec_len l.fn.out) l.out.items ≡ l.fn.out.items;
 }
 
 abbrev pub decreases-bits : goal.decreases-bits

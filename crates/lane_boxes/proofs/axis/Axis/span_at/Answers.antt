@@ -22,8 +22,8 @@ returns-clause-span c =
     let long = spans_long c.self.inside.lo.items c.self.inside.hi.items c.self.invariant in
     let seen = ap (λ (s : Spans). length s.spans) c.self.view_is in
     let one : IsSpan (span c.index.result.now c.index-2.result.now) =
-        rw (c.index.ensures, c.index-2.ensures)
-        (is_span c.self.inside.lo.items c.self.inside.hi.items c.args.at c.index.result.now c.index-2.result.now (omega (arith, long, seen)) c.self.invariant)
+    rw (c.index.ensures, c.index-2.ensures)
+    (is_span c.self.inside.lo.items c.self.inside.hi.items c.args.at c.index.result.now c.index-2.result.now (omega (arith, long, seen)) c.self.invariant)
     in
     rw (to_z-of_z w32 c.index.result.now one.lo, to_z-of_z w32 c.index-2.result.now one.hi, ← c.self.view_is)
     (ap₂ span c.index.ensures c.index-2.ensures
@@ -34,7 +34,7 @@ returns-clause-ordered c =
     let long = spans_long c.self.inside.lo.items c.self.inside.hi.items c.self.invariant in
     let seen = ap (λ (s : Spans). length s.spans) c.self.view_is in
     let one : IsSpan (span c.index.result.now c.index-2.result.now) =
-        rw (c.index.ensures, c.index-2.ensures)
-        (is_span c.self.inside.lo.items c.self.inside.hi.items c.args.at c.index.result.now c.index-2.result.now (omega (arith, long, seen)) c.self.invariant)
+    rw (c.index.ensures, c.index-2.ensures)
+    (is_span c.self.inside.lo.items c.self.inside.hi.items c.args.at c.index.result.now c.index-2.result.now (omega (arith, long, seen)) c.self.invariant)
     in
     rw (to_z-of_z w32 c.index.result.now one.lo, to_z-of_z w32 c.index-2.result.now one.hi) one.ordered

@@ -43,4 +43,3 @@ returns c =
     let is = simp to_z-of_z at made.1 in
     rw (is, ← c.self.view_is)
     (boxes_read c.self.inside.x.spans c.self.inside.y.spans c.self.inside.z.spans l c.args.at c.span_at-x.result c.span_at-y.result c.span_at-z.result c.span_at-x.ensures.span c.span_at-y.ensures.span c.span_at-z.ensures.span)
-

@@ -4,12 +4,12 @@ use Rattle.fixed_box.specs.Bounds.{meets}
 use Rattle.lane_boxes.specs.Places.{places}
 use Rattle.lane_boxes.proofs.columns.Columns.push_overlaps.Given as goal
 
-abbrev pub invariant-blocks-2 : goal.invariant-blocks-2
-invariant-blocks-2 l = record {
+abbrev pub invariant-hits : goal.invariant-hits
+invariant-hits l = record {
   after : l.from ≤ l.at;
   whole : l.out.items ++ places (meets l.body) l.at (drop l.at l.self.boxes) ≡ l.fn.out.items ++ places (meets l.body) l.from (drop l.from l.self.boxes);
-  kept : take (vec_len l.fn.out) l.out.items ≡ l.fn.out.items
+  kept : take (vec_len l.fn.out) l.out.items ≡ l.fn.out.items;
 }
 
-abbrev pub decreases-blocks-2 : goal.decreases-blocks-2
-decreases-blocks-2 l = l.len - l.at
+abbrev pub decreases-hits : goal.decreases-hits
+decreases-hits l = l.len - l.at

@@ -39,7 +39,7 @@ returns-clause-len c =
     let l : AreAsLong c.swap_out.new.self.spans c.swap_out-2.new.self.spans c.swap_out-3.new.self.spans =
     record {
       y = omega (arith, c.swap_out.ensures.len, c.swap_out-2.ensures.len, c.self.invariant.same_y);
-      z = omega (arith, c.swap_out.ensures.len, c.swap_out-3.ensures.len, c.self.invariant.same_z)
+      z = omega (arith, c.swap_out.ensures.len, c.swap_out-3.ensures.len, c.self.invariant.same_z);
     }
     in
     let before : AreAsLong c.self.inside.x.spans c.self.inside.y.spans c.self.inside.z.spans = record { y = c.self.invariant.same_y; z = c.self.invariant.same_z } in
@@ -47,4 +47,3 @@ returns-clause-len c =
     let now = boxes_long c.swap_out.new.self.spans c.swap_out-2.new.self.spans c.swap_out-3.new.self.spans l in
     let seen = ap (λ (s : Boxes). length s.boxes) c.self.view_is in
     omega (arith, long, seen, now, c.swap_out.ensures.len)
-

@@ -8,7 +8,7 @@ abbrev pub invariant-bits : goal.invariant-bits
 invariant-bits l = record {
   after : l.at ≤ l.end;
   within : l.end ≤ length l.self.boxes;
-  mask : l.mask ≡ mask_l (map (meets l.body) (drop l.end l.self.boxes))
+  mask : l.mask ≡ mask_l (map (meets l.body) (drop l.end l.self.boxes));
 }
 
 abbrev pub decreases-bits : goal.decreases-bits

@@ -1,0 +1,32 @@
+-- The places that the scan gives name the slots that are found.
+use Rattle.std.proofs.Common.{◌≡◌, ℕ, ◌+◌, ◌-◌, ◌<◌, ◌≤◌, ◌++◌, [], ◌∷◌, true, false, T, List, All, length, map, filter, take, drop, zip, insert, remove, set, slice_set, get_or, nat_lt, ap, sym, subst, ◌∙◌, arith, rules}
+use Rattle.std.specs.List.{AllWithin}
+use Rattle.std.specs.Ordering.{nat_cmp}
+use Rattle.std.specs.FinMap.{FinMap, entries, contains_key, insert as insert_key, remove as remove_key}
+use Rattle.fixed_box.specs.Bounds.{Bounds, meets, holds}
+use Rattle.broad_index.specs.Index.{bodies_of}
+use Rattle.broad_index.specs.Near.{near_of, partners}
+use Rattle.std.proofs.Common.{Bool}
+use Rattle.broad_index.specs.declared.query.Query.TheVariants.{Region}
+use Rattle.broad_index.specs.Found.{found_of}
+use Rattle.broad_index.proofs.PlainEntries.{entries_are, few_slots, found_named}
+use Rattle.broad_index.proofs.entries.Entries.push_overlapping.Goals as goal
+
+pub scan-requires : goal.scan-requires
+scan-requires c =
+    let slots = c.self.inside.slots.items in
+    let boxes = c.self.inside.boxes.boxes in
+    let is : entries c.args.self.now ≡ zip slots boxes = ap entries (sym c.self.view_is) ∙ entries_are slots boxes c.self.invariant in
+    omega (arith, few_slots slots boxes c.self.invariant, c.self.invariant.same)
+
+pub returns-clause-ok : goal.returns-clause-ok
+returns-clause-ok c =
+    let slots = c.self.inside.slots.items in
+    let boxes = c.self.inside.boxes.boxes in
+    let is : entries c.args.self.now ≡ zip slots boxes = ap entries (sym c.self.view_is) ∙ entries_are slots boxes c.self.invariant in
+    let test : Bounds → Bool = meets c.args.region.now in
+    let law = c.place_laws.ensures.slots test 0 slots boxes c.self.invariant.same in
+    let old = c.args.out.now.items in
+    let long : length old ≡ c.len-before.result = omega (arith, c.len-before.ensures) in
+    rw (c.name_places.ensures, c.deref.ensures.value, c.in_ok-scan.ensures.ok)
+    (found_named slots boxes c.self.invariant test old c.len-before.result long law ∙ ap (λ es. old ++ found_of es (Region c.args.region.now)) (sym is))

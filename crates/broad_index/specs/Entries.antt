@@ -1,0 +1,17 @@
+-- This file only serves proofs: slots in order, and beside each its box.
+use Rattle.std.specs.Prelude.{◌≡◌, ℕ, ◌<◌, T, List, length, map, zip, slice_index_or, All}
+use Rattle.std.specs.Ordering.{nat_cmp}
+use Rattle.std.specs.FinMap.{is_sorted}
+use Rattle.fixed_box.specs.Bounds.{Bounds}
+use Rattle.fixed_box.specs.declared.TheConstants.{SLOTS}
+use Rattle.broad_index.specs.declared.pair.Pair.{Pair}
+
+-- the slots rise, and are slots
+pub record AreEntries (slots : List ℕ) (boxes : List Bounds) : Type 0 where
+  pub same : length slots ≡ length boxes
+  pub sorted : T (is_sorted nat_cmp (zip slots boxes))
+  pub small : All (λ slot. slot < SLOTS) slots
+
+-- a slot with those at places of a list
+abbrev pub pairs_at : ℕ → List ℕ → List ℕ → List Pair
+pairs_at slot slots places = map (λ k. record { a = slot; b = slice_index_or slots k 0 }) places
