@@ -14,9 +14,9 @@ use Rattle.box_tree.specs.declared.TheConstants.{MARGIN}
 use Rattle.box_tree.specs.declared.moved.Moved.{Moved}
 use Rattle.box_tree.specs.declared.moved.Moved.TheVariants.{Inside, Relinked}
 use Rattle.box_tree.specs.Boxes.{is_inside, shifted, told}
-use Rattle.box_tree.specs.SlotMap.{map_of}
+use Rattle.fixed_box.specs.SlotMap.{map_of}
 use Rattle.box_tree.specs.Ties.{Ties, AreFat, Sound}
-use Rattle.box_tree.proofs.SlotMapLemmas.{get_map, map_put, map_take}
+use Rattle.fixed_box.specs.SlotMapLaws.{get_map, map_put, map_take}
 use Rattle.box_tree.proofs.Soundness.{within, is_some_map, none_there, fat_inside, fat_put, fat_taken, sound_changed}
 
 abbrev pub Inserted : Type 0

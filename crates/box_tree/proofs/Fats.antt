@@ -9,9 +9,9 @@ use Rattle.fixed_box.specs.Bounds.{Bounds, encloses}
 use Rattle.broad_index.specs.Held.{Holds}
 use Rattle.tree_nodes.specs.Tree.{Tree, Leaf, leaves_in}
 use Rattle.box_tree.specs.Boxes.{fat_entry}
-use Rattle.box_tree.specs.SlotMap.{map_of}
+use Rattle.fixed_box.specs.SlotMap.{map_of}
 use Rattle.box_tree.specs.Ties.{Ties, AreFat}
-use Rattle.box_tree.proofs.SlotMapLemmas.{get_map}
+use Rattle.fixed_box.specs.SlotMapLaws.{get_map}
 use Rattle.box_tree.proofs.Changes.{get_viewed, has_viewed}
 use Rattle.box_tree.proofs.Soundness.{none_there}
 

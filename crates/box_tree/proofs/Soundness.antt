@@ -16,9 +16,9 @@ use Rattle.broad_index.specs.Near.{near, rises}
 use Rattle.broad_index.specs.Touched.{stays, AreKept}
 use Rattle.tree_nodes.specs.Tree.{Tree}
 use Rattle.box_tree.specs.Boxes.{Boxes, is_inside, untouched, no_boxes}
-use Rattle.box_tree.specs.SlotMap.{map_of}
+use Rattle.fixed_box.specs.SlotMap.{map_of}
 use Rattle.box_tree.specs.Ties.{Ties, AreFat, Sound}
-use Rattle.box_tree.proofs.SlotMapLemmas.{get_map}
+use Rattle.fixed_box.specs.SlotMapLaws.{get_map}
 
 module _ {X : Type 0} where
   -- a slot that has a value is one of the list

@@ -5,7 +5,7 @@ use Rattle.broad_index.specs.declared.query.Query.TheVariants.{Region}
 use Rattle.broad_index.specs.Found.{found_of}
 use Rattle.tree_nodes.specs.Tree.{Tree}
 use Rattle.box_tree.specs.Descent.{exact_in}
-use Rattle.box_tree.specs.SlotMap.{entries_from}
+use Rattle.fixed_box.specs.SlotMap.{entries_from}
 
 -- the marked ones of slots that have boxes, counted from n
 abbrev pub sought_from : List Bool → ℕ → List (Option Bounds) → List ℕ

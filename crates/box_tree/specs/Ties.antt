@@ -6,7 +6,7 @@ use Rattle.broad_index.specs.declared.pair.Pair.{Pair}
 use Rattle.broad_index.specs.Near.{rises}
 use Rattle.broad_index.specs.Touched.{AreKept}
 use Rattle.tree_nodes.specs.Tree.{Tree, Leaf, leaves_in, IsTreeIn}
-use Rattle.box_tree.specs.SlotMap.{map_of}
+use Rattle.fixed_box.specs.SlotMap.{map_of}
 
 -- The leaves of the tree are the slots with fat boxes, each under the number that is noted for it.
 pub record Ties (tree : Option Tree) (fats : List (Option Bounds)) (numbers : List ℕ) : Type 0 where

@@ -45,7 +45,7 @@ pub struct BoxTree {
 
 impl Model for BoxTree {
     ghost use Rattle.box_tree.specs.Boxes.{Boxes, coded_boxes};
-    ghost use Rattle.box_tree.specs.SlotMap.{map_of};
+    ghost use Rattle.fixed_box.specs.SlotMap.{map_of};
     ghost use Rattle.box_tree.specs.Ties.{Sound};
 
     ghost Value = { Boxes };

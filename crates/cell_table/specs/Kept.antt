@@ -7,7 +7,7 @@ use Rattle.cell_table.specs.declared.TheConstants.{BUCKETS, LEVELS}
 use Rattle.cell_table.specs.declared.rings.TheConstants.{NODES}
 use Rattle.cell_table.specs.declared.cell_key.CellKey.{CellKey}
 use Rattle.cell_table.specs.Cells.{has, same_cell}
-use Rattle.cell_table.specs.SlotMap.{entries_from}
+use Rattle.fixed_box.specs.SlotMap.{entries_from}
 
 -- the bucket that a key is hashed into
 abbrev pub bucket_of : CellKey → ℕ

@@ -1,4 +1,2 @@
 pub mod Cells
 pub mod Kept
-pub mod SlotMap
-pub mod SlotMapLaws

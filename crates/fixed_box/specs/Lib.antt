@@ -5,3 +5,5 @@ pub mod Point
 pub mod Puts
 pub mod Rising
 pub mod RisingLaws
+pub mod SlotMap
+pub mod SlotMapLaws

@@ -5,8 +5,8 @@ use Rattle.std.proofs.lemmas.List.Elements.{All-from_get_or}
 use Rattle.std.specs.Ordering.{nat_cmp}
 use Rattle.std.specs.FinMap.{FinMap, get, contains_key}
 use Rattle.fixed_box.specs.Bounds.{Bounds}
-use Rattle.cell_table.specs.SlotMap.{entries_from, map_of}
-use Rattle.cell_table.specs.SlotMapLaws.{get_map}
+use Rattle.fixed_box.specs.SlotMap.{entries_from, map_of}
+use Rattle.fixed_box.specs.SlotMapLaws.{get_map}
 
 pub past : (boxes : List (Option Bounds)) (k : ℕ) → length boxes ≤ k → get_or boxes k None ≡ None
 past [] k h = refl

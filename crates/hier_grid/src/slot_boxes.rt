@@ -3,7 +3,7 @@ ghost use Rattle.std.specs.Prelude.{All, map as mapped, slice_index_or};
 ghost use Rattle.std.specs.FinMap as map;
 ghost use Rattle.broad_index.specs.Found.{found, found_of};
 ghost use Rattle.broad_index.specs.Members.{is_found, meets_query};
-ghost use Rattle.cell_table.specs.SlotMap.{entries_from};
+ghost use Rattle.fixed_box.specs.SlotMap.{entries_from};
 ghost use Rattle.hier_grid.specs.Search.{meets_at, present};
 
 use broad_index::Query;
@@ -24,7 +24,7 @@ impl Model for SlotBoxes {
     ghost use Rattle.std.specs.FinMap.{FinMap, code};
     ghost use Rattle.fixed_box.specs.Bounds.{Bounds, coded_bounds};
     ghost use Rattle.fixed_box.specs.declared.TheConstants.{SLOTS};
-    ghost use Rattle.cell_table.specs.SlotMap.{map_of};
+    ghost use Rattle.fixed_box.specs.SlotMap.{map_of};
 
     ghost Value = { FinMap nat_cmp Bounds };
 

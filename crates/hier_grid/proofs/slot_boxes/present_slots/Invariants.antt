@@ -1,6 +1,6 @@
 use Rattle.std.proofs.Common.{◌≡◌, ◌≤◌, ◌++◌, ◌+◌, length, map}
 use Rattle.fixed_box.specs.declared.TheConstants.{SLOTS}
-use Rattle.cell_table.specs.SlotMap.{entries_from}
+use Rattle.fixed_box.specs.SlotMap.{entries_from}
 use Rattle.hier_grid.proofs.slot_boxes.present_slots.Given as goal
 
 abbrev pub invariant-slots : goal.invariant-slots

@@ -1,7 +1,7 @@
 use Rattle.std.proofs.Common.{◌≡◌, ◌++◌, ◌+◌, length, take, vec_len}
 use Rattle.fixed_box.specs.declared.TheConstants.{SLOTS}
 use Rattle.broad_index.specs.Found.{found_of}
-use Rattle.cell_table.specs.SlotMap.{entries_from}
+use Rattle.fixed_box.specs.SlotMap.{entries_from}
 use Rattle.hier_grid.proofs.slot_boxes.push_met.Given as goal
 
 abbrev pub invariant-slots : goal.invariant-slots

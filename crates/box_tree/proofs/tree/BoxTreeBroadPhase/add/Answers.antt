@@ -5,7 +5,7 @@ use Rattle.fixed_box.specs.declared.TheConstants.{SLOTS}
 use Rattle.fixed_box.specs.Bounds.{fattened}
 use Rattle.box_tree.specs.declared.TheConstants.{MARGIN}
 use Rattle.box_tree.specs.Boxes.{is_inside}
-use Rattle.box_tree.specs.SlotMap.{map_of}
+use Rattle.fixed_box.specs.SlotMap.{map_of}
 use Rattle.box_tree.specs.Ties.{Sound, Ties}
 use Rattle.box_tree.proofs.Changes.{present_small, present_fat, absent_fat, put_viewed, take_viewed, inside_told, outside_told, inside_shifted, outside_shifted, sound_inside, sound_put, sound_taken}
 use Rattle.box_tree.proofs.tree.BoxTreeBroadPhase.add.Goals as goal

@@ -2,7 +2,7 @@
 use Rattle.std.proofs.Common.{◌≡◌, ◌∙◌, sym, ap, subst, map}
 use Rattle.std.specs.List.{sum}
 use Rattle.box_tree.specs.Boxes.{Boxes, raised, cost, sought}
-use Rattle.box_tree.specs.SlotMap.{map_of}
+use Rattle.fixed_box.specs.SlotMap.{map_of}
 use Rattle.box_tree.proofs.Searching.{lists_renewed, sound_renewed, near_viewed, same_searched}
 use Rattle.box_tree.proofs.tree.BoxTreeBroadPhase.merge.Goals as goal
 

@@ -4,7 +4,7 @@ use Rattle.std.specs.List.{sum}
 use Rattle.broad_index.specs.Touched.{gathered_with}
 use Rattle.box_tree.specs.Boxes.{raised, visits_for}
 use Rattle.box_tree.specs.Searches.{searches, sought_from}
-use Rattle.box_tree.specs.SlotMap.{map_of}
+use Rattle.fixed_box.specs.SlotMap.{map_of}
 use Rattle.box_tree.proofs.Searching.{inside_of, pairs_renewed, sound_renewed, near_viewed, same_searched, costs_viewed}
 use Rattle.box_tree.proofs.tree.BoxTreeBroadPhase.pairs.Goals as goal
 

@@ -1,5 +1,5 @@
 -- Every ring is empty.
-use Rattle.cell_table.specs.SlotMapLaws.{map_blank}
+use Rattle.fixed_box.specs.SlotMapLaws.{map_blank}
 use Rattle.cell_table.proofs.KeptLemmas.{kept_new}
 use Rattle.cell_table.proofs.table.CellTable.new.Goals as goal
 

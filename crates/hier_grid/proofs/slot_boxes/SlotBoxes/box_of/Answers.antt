@@ -2,7 +2,7 @@
 use Rattle.std.proofs.Common.{arith, sym, ◌∙◌, None, ap}
 use Rattle.std.proofs.lemmas.List.{get_or_read}
 use Rattle.std.specs.FinMap.{get}
-use Rattle.cell_table.specs.SlotMapLaws.{get_map}
+use Rattle.fixed_box.specs.SlotMapLaws.{get_map}
 use Rattle.hier_grid.proofs.BoxLemmas.{past}
 use Rattle.hier_grid.proofs.slot_boxes.SlotBoxes.box_of.Goals as goal
 

@@ -1,5 +1,5 @@
 -- No slot has a box.
-use Rattle.cell_table.specs.SlotMapLaws.{map_blank}
+use Rattle.fixed_box.specs.SlotMapLaws.{map_blank}
 use Rattle.hier_grid.proofs.slot_boxes.SlotBoxes.new.Goals as goal
 
 pub returns : goal.returns

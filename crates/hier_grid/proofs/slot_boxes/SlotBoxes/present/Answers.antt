@@ -2,8 +2,8 @@
 use Rattle.std.proofs.Common.{◌≡◌, ℕ, List, ap, sym, ◌∙◌, map, subst, true, All}
 use Rattle.std.specs.FinMap.{entries, contains_key}
 use Rattle.fixed_box.specs.Bounds.{Bounds}
-use Rattle.cell_table.specs.SlotMap.{entries_from}
-use Rattle.cell_table.specs.SlotMapLaws.{entries_of_map}
+use Rattle.fixed_box.specs.SlotMap.{entries_from}
+use Rattle.fixed_box.specs.SlotMapLaws.{entries_of_map}
 use Rattle.hier_grid.proofs.BoxLemmas.{slots_present}
 use Rattle.hier_grid.proofs.slot_boxes.SlotBoxes.present.Goals as goal
 

@@ -3,8 +3,8 @@ use Rattle.std.proofs.Common.{◌≡◌, ap, sym, ◌∙◌, ◌++◌, subst}
 use Rattle.std.specs.Prelude.{OnOk}
 use Rattle.std.specs.FinMap.{entries}
 use Rattle.broad_index.specs.Found.{found_of}
-use Rattle.cell_table.specs.SlotMap.{entries_from}
-use Rattle.cell_table.specs.SlotMapLaws.{entries_of_map}
+use Rattle.fixed_box.specs.SlotMap.{entries_from}
+use Rattle.fixed_box.specs.SlotMapLaws.{entries_of_map}
 use Rattle.hier_grid.proofs.slot_boxes.SlotBoxes.push_found.Goals as goal
 
 pub returns-else-is_err-clause-ok : goal.returns-else-is_err-clause-ok

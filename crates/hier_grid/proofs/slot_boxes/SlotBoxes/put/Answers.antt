@@ -1,7 +1,7 @@
 -- A write is an insertion.
 use Rattle.std.proofs.Common.{◌<◌, arith, ◌∙◌, ap, length}
 use Rattle.std.specs.FinMap.{insert}
-use Rattle.cell_table.specs.SlotMapLaws.{map_put}
+use Rattle.fixed_box.specs.SlotMapLaws.{map_put}
 use Rattle.hier_grid.proofs.slot_boxes.SlotBoxes.put.Goals as goal
 
 pub returns : goal.returns

@@ -1,7 +1,7 @@
 -- A wiping is a removal.
 use Rattle.std.proofs.Common.{arith, ◌∙◌, ap}
 use Rattle.std.specs.FinMap.{remove}
-use Rattle.cell_table.specs.SlotMapLaws.{map_take}
+use Rattle.fixed_box.specs.SlotMapLaws.{map_take}
 use Rattle.hier_grid.proofs.BoxLemmas.{present_within}
 use Rattle.hier_grid.proofs.slot_boxes.SlotBoxes.take.Goals as goal
 

@@ -11,7 +11,7 @@ use Rattle.std.specs.FinMap.Entries.{below_all}
 use Rattle.std.proofs.lemmas.Cmp.{nat_cmp_total}
 use Rattle.std.proofs.lemmas.Bool.{cases_eq}
 use Rattle.std.proofs.lemmas.List.{get_or-set_same, get_or-set_other}
-use Rattle.cell_table.specs.SlotMap.{entries_from, map_of}
+use Rattle.fixed_box.specs.SlotMap.{entries_from, map_of}
 
 both_T : (a b : Bool) → T a → T b → T (a && b)
 both_T true b h g = g
