@@ -1,7 +1,7 @@
 -- Boxes in a list by their slots.
-use Rattle.std.proofs.Common.{◌≡◌, ℕ, zero, suc, ◌+◌, ◌<◌, ◌≤◌, Bool, true, false, List, [], ◌∷◌, length, get_or, map, Option, None, Some, is_some, refl, sym, ap, ◌∙◌, arith, subst, inl, inr, ◌⊎◌, All}
-use Rattle.std.proofs.lemmas.Bool.{true≢false, false≢true}
-use Rattle.std.proofs.lemmas.List.Elements.{All-from_get_or}
+use Rattle.std.proofs.Common.{◌≡◌, ℕ, zero, suc, ◌+◌, ◌<◌, ◌≤◌, Bool, true, List, [], ◌∷◌, length, get_or, map, Option, None, Some}
+use Rattle.std.proofs.Common.{is_some, refl, sym, ap, ◌∙◌, arith, inl, inr, ◌⊎◌, All}
+use Rattle.std.proofs.lemmas.Bool.{true≢false}
 use Rattle.std.specs.Ordering.{nat_cmp}
 use Rattle.std.specs.FinMap.{FinMap, get, contains_key}
 use Rattle.fixed_box.specs.Bounds.{Bounds}
@@ -32,10 +32,12 @@ entry_some : (n : ℕ) (boxes : List (Option Bounds)) (p : ℕ → Bool) → ((k
 entry_some n [] p h = λ i d l. absurd (omega arith)
 entry_some n (None ∷ xs) p h = entry_some (n + 1) xs p (λ k s. let e : n + suc k ≡ (n + 1) + k = omega arith in ap p (sym e) ∙ h (suc k) s)
 entry_some n (Some v ∷ xs) p h = λ i d l.
-    (elim i as (λ i. i < length (n ∷ map (λ (e : ℕ × Bounds). e.0) (entries_from (n + 1) xs)) → p (get_or (n ∷ map (λ (e : ℕ × Bounds). e.0) (entries_from (n + 1) xs)) i d) ≡ true) [
+    (elim i as (λ i. i < length (n ∷ map (λ (e : ℕ × Bounds). e.0) (entries_from (n + 1) xs))
+    → p (get_or (n ∷ map (λ (e : ℕ × Bounds). e.0) (entries_from (n + 1) xs)) i d) ≡ true) [
       | zero ↦ λ _. let e : n ≡ n + 0 = omega arith in ap p e ∙ h 0 refl
       | suc j ↦ λ l. entry_some (n + 1) xs p (λ k s. let e : n + suc k ≡ (n + 1) + k = omega arith in ap p (sym e) ∙ h (suc k) s) j d (omega arith)
     ]) l
 
 pub slots_present : (boxes : List (Option Bounds)) → All (λ s. contains_key (map_of boxes) s ≡ true) (map (λ (e : ℕ × Bounds). e.0) (entries_from 0 boxes))
-slots_present boxes = entry_some 0 boxes (contains_key (map_of boxes)) (λ k h. let e : 0 + k ≡ k = omega arith in ap (contains_key (map_of boxes)) e ∙ ap is_some (get_map boxes k) ∙ h)
+slots_present boxes = entry_some 0 boxes (contains_key (map_of boxes))
+    (λ k h. let e : 0 + k ≡ k = omega arith in ap (contains_key (map_of boxes)) e ∙ ap is_some (get_map boxes k) ∙ h)

@@ -51,7 +51,8 @@ axes p q h =
     let firsts = and_parts (int_le p.x q.x) (int_le p.y q.y) parts.0 in
     record { x = firsts.0; y = firsts.1; z = parts.1 }
 
-beside_on : (level : ℕ) (alo ahi blo bhi : ℤ) → 0 < cell_side level → unsigned_abs (bhi -ℤ blo) < cell_side level → int_le blo bhi ≡ true → int_le alo bhi ≡ true → int_le blo ahi ≡ true → IsFrom level alo ahi (cell_at level blo)
+beside_on : (level : ℕ) (alo ahi blo bhi : ℤ) → 0 < cell_side level → unsigned_abs (bhi -ℤ blo) < cell_side level → int_le blo bhi ≡ true
+    → int_le alo bhi ≡ true → int_le blo ahi ≡ true → IsFrom level alo ahi (cell_at level blo)
 beside_on level alo ahi blo bhi some short o left right = record {
   low = next_cell alo blo (cell_side level) some (omega (arith, ints));
   high = same_order blo ahi (cell_side level) some (omega (arith, ints));
@@ -60,7 +61,8 @@ beside_on level alo ahi blo bhi some short o left right = record {
 some_side : (level : ℕ) → 0 < cell_side level
 some_side level = pow_pos (12 + 2 * level)
 
-pub beside : (level : ℕ) (a b : Bounds) → longest_side b < cell_side level → is_at_most b.lo b.hi ≡ true → meets a b ≡ true → IsBeside level a (cell_on level b.lo)
+pub beside : (level : ℕ) (a b : Bounds) → longest_side b < cell_side level → is_at_most b.lo b.hi ≡ true → meets a b ≡ true
+    → IsBeside level a (cell_on level b.lo)
 beside level a b short o m =
     let ms = and_parts (is_at_most a.lo b.hi) (is_at_most b.lo a.hi) m in
     let ob = axes b.lo b.hi o in

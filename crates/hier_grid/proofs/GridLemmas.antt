@@ -1,5 +1,6 @@
 -- The cells of the boxes through changes, and that cells beside a region have all boxes of their level that meet it.
-use Rattle.std.proofs.Common.{◌≡◌, ℕ, zero, suc, ◌+◌, ◌<◌, ◌≤◌, Bool, true, false, cond, Option, None, Some, is_some, refl, sym, ap, ◌∙◌, arith, subst, option_map, List, [], ◌∷◌, ◌++◌, ◌||◌, ◌==◌, length, map}
+use Rattle.std.proofs.Common.{◌≡◌, ℕ, zero, suc, ◌+◌, ◌<◌, ◌≤◌, Bool, true, false, cond, Option, None, Some, is_some, refl, sym, ap, ◌∙◌, arith}
+use Rattle.std.proofs.Common.{subst, option_map, List, [], ◌∷◌, ◌||◌, ◌==◌, length, map}
 use Rattle.std.specs.Prelude.{find, unwrap_or, nat_lt}
 use Rattle.std.specs.List.{range_with_len, filter}
 use Rattle.std.proofs.lemmas.Cmp.{nat_cmp_total}
@@ -10,17 +11,18 @@ use Rattle.std.specs.declared.cmp.Ordering.TheVariants.{Less, Equal, Greater}
 use Rattle.std.specs.Cmp.{ranked}
 use Rattle.std.specs.FinMap.{FinMap, get, get-insert, get-remove, insert, remove, contains_key, empty, get-empty, entries, get-entries}
 use Rattle.std.specs.FinMap as maps
-use Rattle.fixed_box.specs.Bounds.{Bounds, meets, cell_side, level_of, longest_side}
+use Rattle.fixed_box.specs.Bounds.{Bounds, cell_side, level_of, longest_side}
 use Rattle.cell_table.specs.declared.cell_key.CellKey.{CellKey}
 use Rattle.cell_table.specs.Cells.{has, slots_at}
 use Rattle.hier_grid.specs.Cells.{cell_of, IsBeside}
-use Rattle.hier_grid.specs.Grid.{IsGrid, IsSized, AreKeyed}
+use Rattle.hier_grid.specs.Grid.{IsGrid, IsSized}
 use Rattle.hier_grid.specs.Search.{HasCell, HasMet}
 use Rattle.hier_grid.proofs.CellLemmas.{beside}
 
 low_find : (p : ℕ → Bool) (n m : ℕ) → n + m ≤ 11 → unwrap_or (find p (range_with_len n m)) 10 < 11
 low_find p n zero h = omega arith
-low_find p n (suc m) h = elim (p n) as (λ b. unwrap_or (cond b (Some n) (find p (range_with_len (n + 1) m))) 10 < 11) [ true ↦ omega arith | false ↦ low_find p (n + 1) m (omega arith) ]
+low_find p n (suc m) h = elim (p n) as
+    (λ b. unwrap_or (cond b (Some n) (find p (range_with_len (n + 1) m))) 10 < 11) [ true ↦ omega arith | false ↦ low_find p (n + 1) m (omega arith) ]
 
 pub low_level : (b : Bounds) → level_of b < 11
 low_level b = low_find (λ level. nat_lt (longest_side b) (cell_side level)) 0 11 (omega arith)
@@ -35,7 +37,8 @@ pub grid_put : (bodies : FinMap nat_cmp Bounds) (cells : FinMap nat_cmp CellKey)
     → IsGrid (insert bodies s b) (insert cells s (cell_of b))
 grid_put bodies cells s b g sized = record {
   keyed = λ q. get-insert nat_cmp_total cells s (cell_of b) q
-      ∙ elim (eq_by_cmp nat_cmp q s) as (λ t. cond t (Some (cell_of b)) (get cells q) ≡ option_map cell_of (cond t (Some b) (get bodies q))) [ true ↦ refl | false ↦ g.keyed q ]
+      ∙ elim (eq_by_cmp nat_cmp q s) as
+      (λ t. cond t (Some (cell_of b)) (get cells q) ≡ option_map cell_of (cond t (Some b) (get bodies q))) [ true ↦ refl | false ↦ g.keyed q ]
       ∙ sym (ap (option_map cell_of) (get-insert nat_cmp_total bodies s b q));
   sized = λ q x h. elim (eq_by_cmp nat_cmp q s) as (λ t. cond t (Some b) (get bodies q) ≡ Some x → IsSized x) [
     | true ↦ λ e. subst IsSized (some_is e) sized
@@ -54,7 +57,8 @@ grid_take bodies cells s g = record {
   ] (sym (get-remove nat_cmp_total bodies s q) ∙ h);
 }
 
-pub grid_new : (bodies : FinMap nat_cmp Bounds) (cells : FinMap nat_cmp CellKey) → bodies ≡ empty {R = nat_cmp} → cells ≡ empty {R = nat_cmp} → IsGrid bodies cells
+pub grid_new : (bodies : FinMap nat_cmp Bounds) (cells : FinMap nat_cmp CellKey) → bodies ≡ empty {R = nat_cmp} → cells ≡ empty {R = nat_cmp}
+    → IsGrid bodies cells
 grid_new bodies cells e f = record {
   keyed = λ s. ap (λ m. get m s) f ∙ get-empty nat_cmp s ∙ sym (ap (option_map cell_of) (ap (λ m. get m s) e ∙ get-empty nat_cmp s));
   sized = λ s b h. absurd (none_some b (sym (ap (λ m. get m s) e ∙ get-empty nat_cmp s) ∙ h));
@@ -77,29 +81,40 @@ met_beside bodies cells level region slots g h q b e l m =
     (g.keyed q ∙ ap (option_map cell_of) e)
 
 pub tie_is : (x y : ℕ) → eq_by_cmp nat_cmp x y ≡ true → x ≡ y
-tie_is x y h = elim (nat_cmp x y) as (λ r. r ≡ nat_cmp x y → is_eq r ≡ true → x ≡ y) [ Less ↦ λ _ h. absurd (false≢true h) | Equal ↦ λ e _. ranked x y Equal e | Greater ↦ λ _ h. absurd (false≢true h) ] refl h
+tie_is x y h = elim (nat_cmp x y) as
+    (λ r. r ≡ nat_cmp x y → is_eq r ≡ true → x ≡ y) [
+      | Less ↦ λ _ h. absurd (false≢true h)
+      | Equal ↦ λ e _. ranked x y Equal e
+      | Greater ↦
+          λ _ h. absurd (false≢true h)
+    ] refl h
 
-has_passing : (p : CellKey → Bool) (q : ℕ) (key : CellKey) (es : List (ℕ × CellKey)) → p key ≡ true → maps.find nat_cmp q es ≡ Some key → has (map (λ (e : ℕ × CellKey). e.0) (filter (λ e. p e.1) es)) q ≡ true
+has_passing : (p : CellKey → Bool) (q : ℕ) (key : CellKey) (es : List (ℕ × CellKey)) → p key ≡ true → maps.find nat_cmp q es ≡ Some key
+    → has (map (λ (e : ℕ × CellKey). e.0) (filter (λ e. p e.1) es)) q ≡ true
 has_passing p q key [] ok h = absurd (none_some h)
   where
     none_some : ◌≡◌ {A = Option CellKey} None (Some key) → ⊥
     none_some e = true≢false (ap is_some (sym e))
-has_passing p q key (e ∷ es) ok h = elim (eq_by_cmp nat_cmp q e.0) as (λ b. eq_by_cmp nat_cmp q e.0 ≡ b → cond b (Some e.1) (maps.find nat_cmp q es) ≡ Some key → has (map (λ (e : ℕ × CellKey). e.0) (filter (λ e. p e.1) (e ∷ es))) q ≡ true) [
-  | true ↦ λ t i.
-      let same : e.1 ≡ key = cc in
-      let c : p e.1 ≡ true = ap p same ∙ ok in
-      let at : q ≡ e.0 = tie_is q e.0 t in
-      let x : (e.0 == q) ≡ true = grind (arith, nat_tests) in
-      ap (λ b. has (map (λ (e : ℕ × CellKey). e.0) (cond b (e ∷ filter (λ e. p e.1) es) (filter (λ e. p e.1) es))) q) c ∙ ap (λ b. b || has (map (λ (e : ℕ × CellKey). e.0) (filter (λ e. p e.1) es)) q) x
-  | false ↦ λ _ i.
-      let r = has_passing p q key es ok i in
-      elim (p e.1) as (λ b. has (map (λ (e : ℕ × CellKey). e.0) (cond b (e ∷ filter (λ e. p e.1) es) (filter (λ e. p e.1) es))) q ≡ true) [
-        | true ↦ elim (e.0 == q) as (λ b. (b || has (map (λ (e : ℕ × CellKey). e.0) (filter (λ e. p e.1) es)) q) ≡ true) [ true ↦ refl | false ↦ r ]
-        | false ↦ r
-      ]
-] refl h
+has_passing p q key (e ∷ es) ok h = elim (eq_by_cmp nat_cmp q e.0) as
+    (λ b. eq_by_cmp nat_cmp q e.0 ≡ b → cond b (Some e.1) (maps.find nat_cmp q es) ≡ Some key
+    → has (map (λ (e : ℕ × CellKey). e.0) (filter (λ e. p e.1) (e ∷ es))) q ≡ true) [
+      | true ↦ λ t i.
+          let same : e.1 ≡ key = cc in
+          let c : p e.1 ≡ true = ap p same ∙ ok in
+          let at : q ≡ e.0 = tie_is q e.0 t in
+          let x : (e.0 == q) ≡ true = grind (arith, nat_tests) in
+          ap (λ b. has (map (λ (e : ℕ × CellKey). e.0) (cond b (e ∷ filter (λ e. p e.1) es) (filter (λ e. p e.1) es))) q) c
+          ∙ ap (λ b. b || has (map (λ (e : ℕ × CellKey). e.0) (filter (λ e. p e.1) es)) q) x
+      | false ↦ λ _ i.
+          let r = has_passing p q key es ok i in
+          elim (p e.1) as (λ b. has (map (λ (e : ℕ × CellKey). e.0) (cond b (e ∷ filter (λ e. p e.1) es) (filter (λ e. p e.1) es))) q ≡ true) [
+            | true ↦ elim (e.0 == q) as (λ b. (b || has (map (λ (e : ℕ × CellKey). e.0) (filter (λ e. p e.1) es)) q) ≡ true) [ true ↦ refl | false ↦ r ]
+            | false ↦ r
+          ]
+    ] refl h
 
-has_level : (cells : FinMap nat_cmp CellKey) (q : ℕ) (key : CellKey) (level : ℕ) → key.level ≡ level → get cells q ≡ Some key → has (slots_at cells level) q ≡ true
+has_level : (cells : FinMap nat_cmp CellKey) (q : ℕ) (key : CellKey) (level : ℕ) → key.level ≡ level → get cells q ≡ Some key
+    → has (slots_at cells level) q ≡ true
 has_level cells q key level e h = has_passing (λ k. k.level == level) q key (entries cells) (grind (arith, nat_tests)) (sym (get-entries cells q) ∙ h)
 
 none_in : (xs : List ℕ) (q : ℕ) → length xs ≡ 0 → has xs q ≡ true → ⊥

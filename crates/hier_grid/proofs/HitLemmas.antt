@@ -1,14 +1,13 @@
 -- What is found among candidates, and the slots that are searched on several threads.
-use Rattle.std.proofs.Common.{◌≡◌, ℕ, ◌<◌, Bool, true, false, cond, not, ◌&&◌, ◌||◌, ◌==◌, nat_lt, List, [], ◌∷◌, map, Option, None, Some, is_some, refl, sym, ap, ◌∙◌, arith}
+use Rattle.std.proofs.Common.{◌≡◌, ℕ, Bool, true, false, cond, not, ◌&&◌, ◌||◌, ◌==◌, nat_lt, List, [], ◌∷◌, map, Option, None, Some}
+use Rattle.std.proofs.Common.{is_some, refl, sym, ap, ◌∙◌, arith}
 use Rattle.std.specs.List.{filter}
 use Rattle.std.proofs.lemmas.Bool.{and_parts, false≢true}
 use Rattle.std.proofs.lemmas.Bool.Decides.{nat_tests}
 use Rattle.std.specs.Ordering.{nat_cmp, eq_by_cmp}
-use Rattle.std.specs.FinMap.{FinMap, entries, entries_sorted, get, get-entries, find, contains_key}
-use Rattle.fixed_box.specs.Bounds.{Bounds, meets, holds}
-use Rattle.fixed_box.specs.Point.{is_at_most}
+use Rattle.std.specs.FinMap.{FinMap, entries, entries_sorted, get, get-entries, find}
+use Rattle.fixed_box.specs.Bounds.{Bounds, meets}
 use Rattle.fixed_box.specs.RisingLaws.{mapped_rise}
-use Rattle.fixed_box.specs.declared.point.Point.{Point}
 use Rattle.broad_index.specs.Found.{query_meets}
 use Rattle.broad_index.specs.declared.query.Query.{Query}
 use Rattle.broad_index.specs.Members.{has_slot, slots_rise, both_meet, is_found, is_reached, meets_query}
@@ -18,7 +17,8 @@ use Rattle.hier_grid.specs.Search.{HasMetBelow, meets_at, is_partner, present}
 use Rattle.hier_grid.proofs.GridLemmas.{low_level, tie_is}
 use Rattle.hier_grid.proofs.SlotLemmas.{all_among}
 
-hit_at : (bodies : FinMap nat_cmp Bounds) (query : Query) (region : Bounds) (slots : List ℕ) → ((b : Bounds) → query_meets query b ≡ true → meets region b ≡ true)
+hit_at : (bodies : FinMap nat_cmp Bounds) (query : Query) (region : Bounds) (slots : List ℕ)
+    → ((b : Bounds) → query_meets query b ≡ true → meets region b ≡ true)
     → HasMetBelow bodies 11 region slots → (q : ℕ) (o : Option Bounds) → get bodies q ≡ o → meets_query query o ≡ true → has_slot slots q ≡ true
 hit_at bodies query region slots same h q None e t = absurd (false≢true t)
 hit_at bodies query region slots same h q (Some b) e t = h q b e (low_level b) (same b t)
@@ -52,8 +52,11 @@ reach_among bodies slot body slots own h q =
 present_in : (k : ℕ) (es : List (ℕ × Bounds)) → is_some (find nat_cmp k es) ≡ true → has_slot (map (λ (e : ℕ × Bounds). e.0) es) k ≡ true
 present_in k [] h = absurd (false≢true h)
 present_in k (e ∷ es) h =
-    elim (eq_by_cmp nat_cmp k e.0) as (λ b. eq_by_cmp nat_cmp k e.0 ≡ b → is_some (cond b (Some e.1) (find nat_cmp k es)) ≡ true → has_slot (map (λ (e : ℕ × Bounds). e.0) (e ∷ es)) k ≡ true) [
-      | true ↦ λ t _. let at : k ≡ e.0 = tie_is k e.0 t in let x : (k == e.0) ≡ true = grind (arith, nat_tests) in ap (λ b. b || has_slot (map (λ (e : ℕ × Bounds). e.0) es) k) x
+    elim (eq_by_cmp nat_cmp k e.0) as
+    (λ b. eq_by_cmp nat_cmp k e.0 ≡ b → is_some (cond b (Some e.1) (find nat_cmp k es)) ≡ true
+    → has_slot (map (λ (e : ℕ × Bounds). e.0) (e ∷ es)) k ≡ true) [
+      | true ↦ λ t _. let at : k ≡ e.0 = tie_is k e.0 t in let x : (k == e.0) ≡ true = grind (arith, nat_tests) in
+          ap (λ b. b || has_slot (map (λ (e : ℕ × Bounds). e.0) es) k) x
       | false ↦ λ _ i. ap (λ b. (k == e.0) || b) (present_in k es i) ∙ or_true (k == e.0)
     ] refl h
   where
@@ -65,4 +68,5 @@ pub all_present : (bodies : FinMap nat_cmp Bounds) → AreAllIn bodies (present 
 all_present bodies k h = present_in k (entries bodies) (ap is_some (sym (get-entries bodies k)) ∙ h)
 
 pub present_rises : (bodies : FinMap nat_cmp Bounds) → slots_rise (present bodies) ≡ true
-present_rises bodies = mapped_rise slot_lt nat_lt (λ (e : ℕ × Bounds). e.0) (λ e f h. h) (entries bodies) (entries_rise (entries bodies) (true_from _ (entries_sorted bodies)))
+present_rises bodies = mapped_rise slot_lt nat_lt (λ (e : ℕ × Bounds). e.0) (λ e f h. h) (entries bodies)
+    (entries_rise (entries bodies) (true_from _ (entries_sorted bodies)))

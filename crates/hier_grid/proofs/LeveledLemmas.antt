@@ -1,12 +1,13 @@
 -- Each box stands in the row of its level, through changes.
-use Rattle.std.proofs.Common.{◌≡◌, ◌≢◌, ℕ, zero, suc, ◌+◌, ◌-◌, ◌<◌, ◌≤◌, true, false, cond, List, [], ◌∷◌, ◌++◌, length, get_or, set, Option, None, Some, is_some, refl, sym, ap, ◌∙◌, subst, arith, inl, inr, ◌⊎◌}
+use Rattle.std.proofs.Common.{◌≡◌, ◌≢◌, ℕ, ◌+◌, ◌-◌, ◌<◌, ◌≤◌, true, false, cond, List, [], ◌∷◌, ◌++◌, length, get_or, set, Option}
+use Rattle.std.proofs.Common.{None, Some, is_some, refl, sym, ap, ◌∙◌, subst, arith, inl, inr, ◌⊎◌}
 use Rattle.std.specs.List.{swap_remove}
 use Rattle.std.specs.Prelude.{IfSome}
 use Rattle.std.proofs.lemmas.Bool.{cases_eq, true≢false, false≢true}
 use Rattle.std.proofs.lemmas.Cmp.{nat_cmp_total}
 use Rattle.std.proofs.lemmas.List.{get_or-set_same, get_or-set_other, length-set, length-append, get_or_append_left}
 use Rattle.std.proofs.Math.Seq.{get_or-append_seam}
-use Rattle.std.specs.Ordering.{nat_cmp, eq_by_cmp}
+use Rattle.std.specs.Ordering.{nat_cmp}
 use Rattle.std.specs.FinMap.{FinMap, get, get-insert, get-remove, insert, remove, empty, get-empty}
 use Rattle.fixed_box.specs.Bounds.{Bounds, level_of}
 use Rattle.fixed_box.specs.declared.TheConstants.{SLOTS}
@@ -33,7 +34,8 @@ gone_other m s q ne = get-remove nat_cmp_total m s q ∙ ap (λ t. cond t None (
 stands : (row other : Row) (p r q : ℕ) (x : Bounds) → row ≡ other → p ≡ r → StandsAt other r q x → StandsAt row p q x
 stands row other p r q x e f st = subst (λ w. StandsAt w p q x) (sym e) (subst (λ w. StandsAt other w q x) (sym f) st)
 
-is_box : (bodies : FinMap nat_cmp Bounds) (places : List ℕ) (level place u v : ℕ) → u ≡ v → IsBoxOf bodies places level place v → IsBoxOf bodies places level place u
+is_box : (bodies : FinMap nat_cmp Bounds) (places : List ℕ) (level place u v : ℕ) → u ≡ v → IsBoxOf bodies places level place v
+    → IsBoxOf bodies places level place u
 is_box bodies places level place u v e b = subst (λ w. IsBoxOf bodies places level place w) (sym e) b
 
 low_slot : (bodies : FinMap nat_cmp Bounds) (places : List ℕ) (rows : List Row) (level i : ℕ) → IsLeveled bodies places rows → level < LEVELS
@@ -44,14 +46,16 @@ low_slot bodies places rows level i g lt l = let b = g.kept level i lt l in g.lo
 pub room : (bodies : FinMap nat_cmp Bounds) (places : List ℕ) (rows : List Row) (level s : ℕ) → IsLeveled bodies places rows → level < LEVELS → s < SLOTS
     → get bodies s ≡ None → length (row_at rows level).slots < SLOTS
 room bodies places rows level s g lt sl none =
-    few (λ u. get_or places u 0) SLOTS s (row_at rows level).slots sl (λ i l. low_slot bodies places rows level i g lt l) (λ i l. (g.kept level i lt l).place_is)
+    few (λ u. get_or places u 0) SLOTS s (row_at rows level).slots sl (λ i l. low_slot bodies places rows level i g lt l)
+    (λ i l. (g.kept level i lt l).place_is)
     (λ i l e. let b = g.kept level i lt l in none_some b.body (sym none ∙ ap (get bodies) (sym e) ∙ b.here))
 
 -- No level has more boxes than there are slots.
 pub row_few : (bodies : FinMap nat_cmp Bounds) (places : List ℕ) (rows : List Row) (level : ℕ) → IsLeveled bodies places rows → level < LEVELS
     → length (row_at rows level).boxes ≤ SLOTS
 row_few bodies places rows level g lt =
-    let n = at_most (λ u. get_or places u 0) SLOTS (row_at rows level).slots (λ i l. low_slot bodies places rows level i g lt l) (λ i l. (g.kept level i lt l).place_is) in
+    let n = at_most (λ u. get_or places u 0) SLOTS (row_at rows level).slots (λ i l. low_slot bodies places rows level i g lt l)
+    (λ i l. (g.kept level i lt l).place_is) in
     let e = (g.even level lt).same in
     omega arith
 
@@ -65,7 +69,8 @@ row_spare bodies places rows level s g lt sl none =
     omega arith
 
 -- a slot's box stands within its row
-pub place_within : (bodies : FinMap nat_cmp Bounds) (places : List ℕ) (rows : List Row) (s : ℕ) (b : Bounds) → IsLeveled bodies places rows → get bodies s ≡ Some b
+pub place_within : (bodies : FinMap nat_cmp Bounds) (places : List ℕ) (rows : List Row) (s : ℕ) (b : Bounds) → IsLeveled bodies places rows
+    → get bodies s ≡ Some b
     → get_or places s 0 < length (row_at rows (level_of b)).boxes
 place_within bodies places rows s b g h =
     let i = (g.held s b h).inside in
@@ -92,7 +97,8 @@ pub owned : (o : Option Bounds) (level : ℕ) → is_some o ≡ true → IfSome 
 owned None level h l = absurd (false≢true h)
 owned (Some b) level h l = record { own = b; is = refl; level_is = l }
 
-pub leveled_new : (bodies : FinMap nat_cmp Bounds) (places : List ℕ) (rows : List Row) → bodies ≡ empty {R = nat_cmp} → length places ≡ SLOTS → length rows ≡ LEVELS
+pub leveled_new : (bodies : FinMap nat_cmp Bounds) (places : List ℕ) (rows : List Row) → bodies ≡ empty {R = nat_cmp} → length places ≡ SLOTS
+    → length rows ≡ LEVELS
     → ((level : ℕ) → (row_at rows level).slots ≡ []) → ((level : ℕ) → (row_at rows level).boxes ≡ [])
     → ((level : ℕ) → level < LEVELS → SLOTS ≤ (row_at rows level).spare) → IsLeveled bodies places rows
 leveled_new bodies places rows e pl rl slots boxes roomy = record {
@@ -108,7 +114,8 @@ leveled_new bodies places rows e pl rl slots boxes roomy = record {
     none s = ap (λ m. get m s) e ∙ get-empty nat_cmp s
 
 -- ---- a box that comes in
-pub leveled_put : (bodies : FinMap nat_cmp Bounds) (places : List ℕ) (rows : List Row) (s : ℕ) (b : Bounds) (new : Row) → IsLeveled bodies places rows → s < SLOTS
+pub leveled_put : (bodies : FinMap nat_cmp Bounds) (places : List ℕ) (rows : List Row) (s : ℕ) (b : Bounds) (new : Row) → IsLeveled bodies places rows
+    → s < SLOTS
     → get bodies s ≡ None → new.slots ≡ (row_at rows (level_of b)).slots ++ s ∷ [] → new.boxes ≡ (row_at rows (level_of b)).boxes ++ b ∷ []
     → new.spare + 1 ≡ (row_at rows (level_of b)).spare
     → IsLeveled (insert bodies s b) (set places s (length (row_at rows (level_of b)).slots)) (set rows (level_of b) new)
@@ -120,7 +127,8 @@ leveled_put bodies places rows s b new g sl none es eb er = record {
     | inr ne ↦ g.low q x (sym (put_other bodies s q b ne) ∙ h)
   ];
   even = λ level lt. elim (cases_eq level (level_of b)) as (λ _. IsRow (row_at (set rows (level_of b) new) level)) [
-    | inl e ↦ subst IsRow (sym (ap (row_at (set rows (level_of b) new)) e ∙ here)) (record { same = len_s ∙ ap (λ k. k + 1) old.same ∙ sym len_b; roomy = (let r = old.roomy in omega (arith, len_b)) })
+    | inl e ↦ subst IsRow (sym (ap (row_at (set rows (level_of b) new)) e ∙ here))
+        (record { same = len_s ∙ ap (λ k. k + 1) old.same ∙ sym len_b; roomy = (let r = old.roomy in omega (arith, len_b)) })
     | inr ne ↦ subst IsRow (sym (elsewhere level ne)) (g.even level lt)
   ];
   held = λ q x h. elim (cases_eq q s) as (λ _. StandsAt (row_at (set rows (level_of b) new) (level_of x)) (get_or (set places s n) q 0) q x) [
@@ -136,27 +144,35 @@ leveled_put bodies places rows s b new g sl none es eb er = record {
           | inl e ↦ stands (row_at (set rows (level_of b) new) (level_of x)) new (get_or (set places s n) q 0) (get_or places q 0) q x
               (ap (row_at (set rows (level_of b) new)) e ∙ here) at
               (longer (get_or places q 0) q x (subst (λ l. StandsAt (row_at rows l) (get_or places q 0) q x) e st))
-          | inr other ↦ stands (row_at (set rows (level_of b) new) (level_of x)) (row_at rows (level_of x)) (get_or (set places s n) q 0) (get_or places q 0) q x (elsewhere (level_of x) other) at st
+          | inr other ↦ stands (row_at (set rows (level_of b) new) (level_of x)) (row_at rows (level_of x)) (get_or (set places s n) q 0)
+              (get_or places q 0) q x (elsewhere (level_of x) other) at st
         ]
   ];
-  kept = λ level place lt inside. elim (cases_eq level (level_of b)) as (λ _. IsBoxOf (insert bodies s b) (set places s n) level place (get_or (row_at (set rows (level_of b) new) level).slots place 0)) [
-    | inl e ↦
-        let is : row_at (set rows (level_of b) new) level ≡ new = ap (row_at (set rows (level_of b) new)) e ∙ here in
-        let within : place < n + 1 = subst (λ k. place < k) (ap (λ r. length r.slots) is ∙ len_s) inside in
-        elim (last_or place n within) as (λ _. IsBoxOf (insert bodies s b) (set places s n) level place (get_or (row_at (set rows (level_of b) new) level).slots place 0)) [
-          | inl less ↦ is_box (insert bodies s b) (set places s n) level place (get_or (row_at (set rows (level_of b) new) level).slots place 0) (get_or (row_at rows level).slots place 0)
-              (ap (λ r. get_or r.slots place 0) is ∙ ap (λ l. get_or l place 0) es ∙ get_or_append_left row.slots (s ∷ []) 0 place less ∙ ap (λ l. get_or (row_at rows l).slots place 0) (sym e))
-              (still level place (get_or (row_at rows level).slots place 0) (g.kept level place lt (subst (λ l. place < length (row_at rows l).slots) (sym e) less)))
-          | inr at ↦ is_box (insert bodies s b) (set places s n) level place (get_or (row_at (set rows (level_of b) new) level).slots place 0) s
-              (ap (λ r. get_or r.slots place 0) is ∙ ap (λ l. get_or l place 0) es ∙ ap (λ k. get_or (row.slots ++ s ∷ []) k 0) at ∙ get_or-append_seam row.slots s [] 0)
-              (record { body = b; here = put_here bodies s b; level_is = sym e; place_is = get_or-set_same places s n 0 in_places ∙ sym at })
-        ]
-    | inr ne ↦
-        let is = elsewhere level ne in
-        is_box (insert bodies s b) (set places s n) level place (get_or (row_at (set rows (level_of b) new) level).slots place 0) (get_or (row_at rows level).slots place 0)
-        (ap (λ r. get_or r.slots place 0) is)
-        (still level place (get_or (row_at rows level).slots place 0) (g.kept level place lt (subst (λ r. place < length r.slots) is inside)))
-  ];
+  kept = λ level place lt inside. elim (cases_eq level (level_of b)) as
+      (λ _. IsBoxOf (insert bodies s b) (set places s n) level place (get_or (row_at (set rows (level_of b) new) level).slots place 0)) [
+        | inl e ↦
+            let is : row_at (set rows (level_of b) new) level ≡ new = ap (row_at (set rows (level_of b) new)) e ∙ here in
+            let within : place < n + 1 = subst (λ k. place < k) (ap (λ r. length r.slots) is ∙ len_s) inside in
+            elim (last_or place n within) as
+            (λ _. IsBoxOf (insert bodies s b) (set places s n) level place (get_or (row_at (set rows (level_of b) new) level).slots place 0)) [
+              | inl less ↦ is_box (insert bodies s b) (set places s n) level place (get_or (row_at (set rows (level_of b) new) level).slots place 0)
+                  (get_or (row_at rows level).slots place 0)
+                  (ap (λ r. get_or r.slots place 0) is ∙ ap (λ l. get_or l place 0) es ∙ get_or_append_left row.slots (s ∷ []) 0 place less
+                  ∙ ap (λ l. get_or (row_at rows l).slots place 0) (sym e))
+                  (still level place (get_or (row_at rows level).slots place 0)
+                  (g.kept level place lt (subst (λ l. place < length (row_at rows l).slots) (sym e) less)))
+              | inr at ↦ is_box (insert bodies s b) (set places s n) level place (get_or (row_at (set rows (level_of b) new) level).slots place 0) s
+                  (ap (λ r. get_or r.slots place 0) is ∙ ap (λ l. get_or l place 0) es ∙ ap (λ k. get_or (row.slots ++ s ∷ []) k 0) at
+                  ∙ get_or-append_seam row.slots s [] 0)
+                  (record { body = b; here = put_here bodies s b; level_is = sym e; place_is = get_or-set_same places s n 0 in_places ∙ sym at })
+            ]
+        | inr ne ↦
+            let is = elsewhere level ne in
+            is_box (insert bodies s b) (set places s n) level place (get_or (row_at (set rows (level_of b) new) level).slots place 0)
+            (get_or (row_at rows level).slots place 0)
+            (ap (λ r. get_or r.slots place 0) is)
+            (still level place (get_or (row_at rows level).slots place 0) (g.kept level place lt (subst (λ r. place < length r.slots) is inside)))
+      ];
 }
   where
     row : Row
@@ -218,7 +234,8 @@ leveled_set bodies places rows s o b new g has l es eb er = record {
     | inr ne ↦ g.low q x (sym (put_other bodies s q b ne) ∙ h)
   ];
   even = λ level lt. elim (cases_eq level (level_of b)) as (λ _. IsRow (row_at (set rows (level_of b) new) level)) [
-    | inl e ↦ subst IsRow (sym (ap (row_at (set rows (level_of b) new)) e ∙ here)) (record { same = ap length es ∙ old.same ∙ sym len_b; roomy = (let r = old.roomy in omega (arith, len_b)) })
+    | inl e ↦ subst IsRow (sym (ap (row_at (set rows (level_of b) new)) e ∙ here))
+        (record { same = ap length es ∙ old.same ∙ sym len_b; roomy = (let r = old.roomy in omega (arith, len_b)) })
     | inr ne ↦ subst IsRow (sym (elsewhere level ne)) (g.even level lt)
   ];
   held = λ q x h. elim (cases_eq q s) as (λ _. StandsAt (row_at (set rows (level_of b) new) (level_of x)) (get_or places q 0) q x) [
@@ -233,7 +250,8 @@ leveled_set bodies places rows s o b new g has l es eb er = record {
           | inl e ↦ stands (row_at (set rows (level_of b) new) (level_of x)) new (get_or places q 0) (get_or places q 0) q x
               (ap (row_at (set rows (level_of b) new)) e ∙ here) refl
               (beside (get_or places q 0) q x ne (subst (λ k. StandsAt (row_at rows k) (get_or places q 0) q x) e st))
-          | inr other ↦ stands (row_at (set rows (level_of b) new) (level_of x)) (row_at rows (level_of x)) (get_or places q 0) (get_or places q 0) q x (elsewhere (level_of x) other) refl st
+          | inr other ↦ stands (row_at (set rows (level_of b) new) (level_of x)) (row_at rows (level_of x)) (get_or places q 0) (get_or places q 0) q x
+              (elsewhere (level_of x) other) refl st
         ]
   ];
   kept = λ level place lt inside.
@@ -290,7 +308,13 @@ leveled_set bodies places rows s o b new g has l es eb er = record {
     still level place u f = elim (cases_eq u s) as (λ _. IsBoxOf (insert bodies s b) places level place u) [
       | inl e ↦
           let was : o ≡ f.body = some_is (sym has ∙ ap (get bodies) (sym e) ∙ f.here) in
-          record { body = b; here = ap (get (insert bodies s b)) e ∙ put_here bodies s b; level_is = sym l ∙ ap level_of was ∙ f.level_is; place_is = f.place_is }
+          record {
+            body = b;
+            here = ap (get (insert bodies s b)) e ∙ put_here bodies s b;
+            level_is = sym l ∙ ap level_of was ∙ f.level_is;
+            place_is =
+                f.place_is;
+          }
       | inr ne ↦ record { body = f.body; here = put_other bodies s u b ne ∙ f.here; level_is = f.level_is; place_is = f.place_is }
     ]
 
@@ -306,7 +330,8 @@ leveled_take bodies places rows s t o new g has et es eb er = record {
   rows_len = length-set rows (level_of o) new ∙ g.rows_len;
   low = λ q x h. g.low q x (sym (gone_other bodies s q (not_gone q x h)) ∙ h);
   even = λ level lt. elim (cases_eq level (level_of o)) as (λ _. IsRow (row_at (set rows (level_of o) new) level)) [
-    | inl e ↦ subst IsRow (sym (ap (row_at (set rows (level_of o) new)) e ∙ here)) (record { same = (let a = old.same in omega (arith, len_s, len_b)); roomy = (let r = old.roomy in omega (arith, len_b)) })
+    | inl e ↦ subst IsRow (sym (ap (row_at (set rows (level_of o) new)) e ∙ here))
+        (record { same = (let a = old.same in omega (arith, len_s, len_b)); roomy = (let r = old.roomy in omega (arith, len_b)) })
     | inr ne ↦ subst IsRow (sym (elsewhere level ne)) (g.even level lt)
   ];
   held = λ q x h.
@@ -317,7 +342,8 @@ leveled_take bodies places rows s t o new g has et es eb er = record {
         | inl e ↦
             let mx : level_of x ≡ level_of o = ap level_of (some_is (sym was ∙ ap (get bodies) e ∙ moved.here)) ∙ moved.level_is in
             let place : get_or places q 0 ≡ length row.slots - 1 = ap (λ k. get_or places k 0) e ∙ moved.place_is in
-            let inner : StandsAt row (length row.slots - 1) q x = subst (λ k. StandsAt row k q x) place (subst (λ k. StandsAt (row_at rows k) (get_or places q 0) q x) mx st) in
+            let inner : StandsAt row (length row.slots - 1) q x =
+            subst (λ k. StandsAt row k q x) place (subst (λ k. StandsAt (row_at rows k) (get_or places q 0) q x) mx st) in
             stands (row_at (set rows (level_of o) new) (level_of x)) new (get_or (set places t p) q 0) p q x (ap (row_at (set rows (level_of o) new)) mx ∙ here)
             (ap (λ k. get_or (set places t p) k 0) e ∙ get_or-set_same places t p 0 t_low) (comes q x ne inner)
         | inr other ↦
@@ -326,39 +352,65 @@ leveled_take bodies places rows s t o new g has et es eb er = record {
               | inl e ↦ stands (row_at (set rows (level_of o) new) (level_of x)) new (get_or (set places t p) q 0) (get_or places q 0) q x
                   (ap (row_at (set rows (level_of o) new)) e ∙ here) at
                   (stays (get_or places q 0) q x ne other (subst (λ k. StandsAt (row_at rows k) (get_or places q 0) q x) e st))
-              | inr level ↦ stands (row_at (set rows (level_of o) new) (level_of x)) (row_at rows (level_of x)) (get_or (set places t p) q 0) (get_or places q 0) q x (elsewhere (level_of x) level) at st
+              | inr level ↦ stands (row_at (set rows (level_of o) new) (level_of x)) (row_at rows (level_of x)) (get_or (set places t p) q 0)
+                  (get_or places q 0) q x (elsewhere (level_of x) level) at st
             ]
       ];
-  kept = λ level place lt inside. elim (cases_eq level (level_of o)) as (λ _. IsBoxOf (remove bodies s) (set places t p) level place (get_or (row_at (set rows (level_of o) new) level).slots place 0)) [
-    | inl e ↦
-        let is : row_at (set rows (level_of o) new) level ≡ new = ap (row_at (set rows (level_of o) new)) e ∙ here in
-        let within : place + 1 < length row.slots = (let i = subst (λ r. place < length r.slots) is inside in omega (arith, len_s)) in
-        let at : get_or (row_at (set rows (level_of o) new) level).slots place 0 ≡ get_or (swap_remove row.slots p 0) place 0 = ap (λ r. get_or r.slots place 0) is ∙ ap (λ xs. get_or xs place 0) es in
-        elim (cases_eq place p) as (λ _. IsBoxOf (remove bodies s) (set places t p) level place (get_or (row_at (set rows (level_of o) new) level).slots place 0)) [
-          | inl f ↦
-              let last : p + 1 < length row.slots = subst (λ k. k + 1 < length row.slots) f within in
-              let t_other : t ≢ s = λ k. (let a = sym moved.place_is ∙ ap (λ z. get_or places z 0) k in omega arith) in
-              is_box (remove bodies s) (set places t p) level place (get_or (row_at (set rows (level_of o) new) level).slots place 0) t
-              (at ∙ ap (λ k. get_or (swap_remove row.slots p 0) k 0) f ∙ swapped_here row.slots p 0 last ∙ sym et)
-              (record { body = moved.body; here = gone_other bodies s t t_other ∙ moved.here; level_is = moved.level_is ∙ sym e; place_is = get_or-set_same places t p 0 t_low ∙ sym f })
-          | inr other ↦
-              let b = subst (λ k. IsBoxOf bodies places k place (get_or (row_at rows k).slots place 0)) e (g.kept level place lt (subst (λ k. place < length (row_at rows k).slots) (sym e) (let w = within in omega arith))) in
-              let u_s : get_or row.slots place 0 ≢ s = λ k. other (sym b.place_is ∙ ap (λ z. get_or places z 0) k) in
-              let u_t : get_or row.slots place 0 ≢ t = λ k. (let a = sym b.place_is ∙ ap (λ z. get_or places z 0) k ∙ moved.place_is in omega arith) in
-              is_box (remove bodies s) (set places t p) level place (get_or (row_at (set rows (level_of o) new) level).slots place 0) (get_or row.slots place 0)
-              (at ∙ swapped_other row.slots p place 0 other within)
-              (record { body = b.body; here = gone_other bodies s (get_or row.slots place 0) u_s ∙ b.here; level_is = b.level_is ∙ sym e; place_is = get_or-set_other places t (get_or row.slots place 0) p 0 u_t ∙ b.place_is })
-        ]
-    | inr ne ↦
-        let is = elsewhere level ne in
-        let b = g.kept level place lt (subst (λ r. place < length r.slots) is inside) in
-        let u = get_or (row_at rows level).slots place 0 in
-        let u_s : get_or (row_at rows level).slots place 0 ≢ s = λ k. ne (sym b.level_is ∙ ap level_of (some_is (sym b.here ∙ ap (get bodies) k ∙ has))) in
-        let u_t : get_or (row_at rows level).slots place 0 ≢ t = λ k. ne (sym b.level_is ∙ ap level_of (some_is (sym b.here ∙ ap (get bodies) k ∙ moved.here)) ∙ moved.level_is) in
-        is_box (remove bodies s) (set places t p) level place (get_or (row_at (set rows (level_of o) new) level).slots place 0) (get_or (row_at rows level).slots place 0)
-        (ap (λ r. get_or r.slots place 0) is)
-        (record { body = b.body; here = gone_other bodies s (get_or (row_at rows level).slots place 0) u_s ∙ b.here; level_is = b.level_is; place_is = get_or-set_other places t (get_or (row_at rows level).slots place 0) p 0 u_t ∙ b.place_is })
-  ];
+  kept = λ level place lt inside. elim (cases_eq level (level_of o)) as
+      (λ _. IsBoxOf (remove bodies s) (set places t p) level place (get_or (row_at (set rows (level_of o) new) level).slots place 0)) [
+        | inl e ↦
+            let is : row_at (set rows (level_of o) new) level ≡ new = ap (row_at (set rows (level_of o) new)) e ∙ here in
+            let within : place + 1 < length row.slots = (let i = subst (λ r. place < length r.slots) is inside in omega (arith, len_s)) in
+            let at : get_or (row_at (set rows (level_of o) new) level).slots place 0 ≡ get_or (swap_remove row.slots p 0) place 0 =
+            ap (λ r. get_or r.slots place 0) is ∙ ap (λ xs. get_or xs place 0) es in
+            elim (cases_eq place p) as
+            (λ _. IsBoxOf (remove bodies s) (set places t p) level place (get_or (row_at (set rows (level_of o) new) level).slots place 0)) [
+              | inl f ↦
+                  let last : p + 1 < length row.slots = subst (λ k. k + 1 < length row.slots) f within in
+                  let t_other : t ≢ s = λ k. (let a = sym moved.place_is ∙ ap (λ z. get_or places z 0) k in omega arith) in
+                  is_box (remove bodies s) (set places t p) level place (get_or (row_at (set rows (level_of o) new) level).slots place 0) t
+                  (at ∙ ap (λ k. get_or (swap_remove row.slots p 0) k 0) f ∙ swapped_here row.slots p 0 last ∙ sym et)
+                  (record {
+                    body = moved.body;
+                    here = gone_other bodies s t t_other ∙ moved.here;
+                    level_is = moved.level_is ∙ sym e;
+                    place_is =
+                        get_or-set_same places t p 0 t_low ∙ sym f;
+                  })
+              | inr other ↦
+                  let b = subst (λ k. IsBoxOf bodies places k place (get_or (row_at rows k).slots place 0)) e
+                  (g.kept level place lt (subst (λ k. place < length (row_at rows k).slots) (sym e) (let w = within in omega arith))) in
+                  let u_s : get_or row.slots place 0 ≢ s = λ k. other (sym b.place_is ∙ ap (λ z. get_or places z 0) k) in
+                  let u_t : get_or row.slots place 0 ≢ t = λ k. (let a = sym b.place_is ∙ ap (λ z. get_or places z 0) k ∙ moved.place_is in omega arith) in
+                  is_box (remove bodies s) (set places t p) level place (get_or (row_at (set rows (level_of o) new) level).slots place 0)
+                  (get_or row.slots place 0)
+                  (at ∙ swapped_other row.slots p place 0 other within)
+                  (record {
+                    body = b.body;
+                    here = gone_other bodies s (get_or row.slots place 0) u_s ∙ b.here;
+                    level_is = b.level_is ∙ sym e;
+                    place_is =
+                        get_or-set_other places t (get_or row.slots place 0) p 0 u_t ∙ b.place_is;
+                  })
+            ]
+        | inr ne ↦
+            let is = elsewhere level ne in
+            let b = g.kept level place lt (subst (λ r. place < length r.slots) is inside) in
+            let u = get_or (row_at rows level).slots place 0 in
+            let u_s : get_or (row_at rows level).slots place 0 ≢ s = λ k. ne (sym b.level_is ∙ ap level_of (some_is (sym b.here ∙ ap (get bodies) k ∙ has))) in
+            let u_t : get_or (row_at rows level).slots place 0 ≢ t =
+            λ k. ne (sym b.level_is ∙ ap level_of (some_is (sym b.here ∙ ap (get bodies) k ∙ moved.here)) ∙ moved.level_is) in
+            is_box (remove bodies s) (set places t p) level place (get_or (row_at (set rows (level_of o) new) level).slots place 0)
+            (get_or (row_at rows level).slots place 0)
+            (ap (λ r. get_or r.slots place 0) is)
+            (record {
+              body = b.body;
+              here = gone_other bodies s (get_or (row_at rows level).slots place 0) u_s ∙ b.here;
+              level_is = b.level_is;
+              place_is =
+                  get_or-set_other places t (get_or (row_at rows level).slots place 0) p 0 u_t ∙ b.place_is;
+            })
+      ];
 }
   where
     row : Row
@@ -377,7 +429,8 @@ leveled_take bodies places rows s t o new g has et es eb er = record {
     some = let i = own.inside in omega arith
 
     moved : IsBoxOf bodies places (level_of o) (length row.slots - 1) t
-    moved = is_box bodies places (level_of o) (length row.slots - 1) t (get_or row.slots (length row.slots - 1) 0) et (g.kept (level_of o) (length row.slots - 1) (low_level o) (let i = some in omega arith))
+    moved = is_box bodies places (level_of o) (length row.slots - 1) t (get_or row.slots (length row.slots - 1) 0) et
+        (g.kept (level_of o) (length row.slots - 1) (low_level o) (let i = some in omega arith))
 
     t_low : t < length places
     t_low = let a = g.low t moved.body moved.here in omega (arith, g.places_len)
@@ -405,7 +458,8 @@ leveled_take bodies places rows s t o new g has et es eb er = record {
         record {
           inside = omega (arith, len_s);
           slot_is = ap (λ xs. get_or xs p 0) es ∙ swapped_here row.slots p 0 lt ∙ st.slot_is;
-          body_is = ap (λ xs. get_or xs p blank) eb ∙ swapped_here row.boxes p blank (omega (arith, old.same)) ∙ ap (λ k. get_or row.boxes (k - 1) blank) (sym old.same) ∙ st.body_is;
+          body_is = ap (λ xs. get_or xs p blank) eb ∙ swapped_here row.boxes p blank (omega (arith, old.same))
+              ∙ ap (λ k. get_or row.boxes (k - 1) blank) (sym old.same) ∙ st.body_is;
         }
 
     -- any other one

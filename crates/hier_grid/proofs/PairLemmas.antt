@@ -1,6 +1,7 @@
 -- Each pair of boxes that meet is found from one of its slots, and nothing else is.
-use Rattle.std.proofs.Common.{◌≡◌, ℕ, ◌<◌, ◌≤◌, Bool, true, false, cond, not, ◌&&◌, ◌||◌, ◌==◌, nat_lt, List, [], ◌∷◌, ◌++◌, map, Option, None, Some, refl, sym, ap, ◌∙◌, arith, inl, inr}
-use Rattle.std.specs.List.{filter, list_any}
+use Rattle.std.proofs.Common.{◌≡◌, ℕ, ◌≤◌, Bool, true, false, cond, not, ◌&&◌, ◌||◌, ◌==◌, nat_lt, List, [], ◌∷◌, ◌++◌, map, Option, None}
+use Rattle.std.proofs.Common.{Some, refl, sym, ap, ◌∙◌, arith, inl, inr}
+use Rattle.std.specs.List.{filter}
 use Rattle.std.proofs.lemmas.Bool.{and_parts, and_from, or_left, or_cases, false≢true}
 use Rattle.std.proofs.lemmas.Bool.Decides.{nat_tests}
 use Rattle.std.proofs.lemmas.List.Folds.{list_any-append}
@@ -68,17 +69,19 @@ partner_near bodies slot body higher q own h =
 sound_each : (bodies : FinMap nat_cmp Bounds) (slot : ℕ) (xs : List ℕ) → ((q : ℕ) → has_slot xs q ≡ true → is_near bodies (ordered slot q) ≡ true)
     → IsSound bodies (map (ordered slot) xs)
 sound_each bodies slot [] h p i = absurd (false≢true i)
-sound_each bodies slot (x ∷ xs) h p i = elim (or_cases (same_pair p (ordered slot x)) (has_pair (map (ordered slot) xs) p) i) as (λ _. is_near bodies p ≡ true) [
-  | inl e ↦
-      let here : (x == x) ≡ true = grind (arith, nat_tests) in
-      ap (is_near bodies) (same_means p (ordered slot x) e) ∙ h x (or_left (x == x) (has_slot xs x) here)
-  | inr e ↦ sound_each bodies slot xs (λ q j. h q (ap (λ b. (q == x) || b) j ∙ or_true (q == x))) p e
-]
+sound_each bodies slot (x ∷ xs) h p i = elim (or_cases (same_pair p (ordered slot x)) (has_pair (map (ordered slot) xs) p) i) as
+    (λ _. is_near bodies p ≡ true) [
+      | inl e ↦
+          let here : (x == x) ≡ true = grind (arith, nat_tests) in
+          ap (is_near bodies) (same_means p (ordered slot x) e) ∙ h x (or_left (x == x) (has_slot xs x) here)
+      | inr e ↦ sound_each bodies slot xs (λ q j. h q (ap (λ b. (q == x) || b) j ∙ or_true (q == x))) p e
+    ]
 
 pub sound_more : (bodies : FinMap nat_cmp Bounds) (slot : ℕ) (body : Bounds) (higher : Bool) (slots : List ℕ) (old : List Pair) → get bodies slot ≡ Some body
     → IsSound bodies old → IsSound bodies (old ++ partnered bodies slot body higher slots)
 sound_more bodies slot body higher slots old own s p h =
-    elim (or_cases (has_pair old p) (has_pair (partnered bodies slot body higher slots) p) (sym (list_any-append (same_pair p) old (partnered bodies slot body higher slots)) ∙ h)) as
+    elim (or_cases (has_pair old p) (has_pair (partnered bodies slot body higher slots) p)
+    (sym (list_any-append (same_pair p) old (partnered bodies slot body higher slots)) ∙ h)) as
     (λ _. is_near bodies p ≡ true) [
       | inl e ↦ s p e
       | inr e ↦ sound_each bodies slot (filter (is_partner bodies slot body higher) slots) (λ q i.

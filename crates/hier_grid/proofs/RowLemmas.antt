@@ -1,5 +1,6 @@
 -- A row of boxes through changes: lists whose last element takes another's place, and numbers that differ in a list.
-use Rattle.std.proofs.Common.{◌≡◌, ◌≢◌, ℕ, zero, suc, ◌+◌, ◌-◌, ◌<◌, ◌≤◌, Bool, true, false, cond, ◌||◌, ◌==◌, map, List, [], ◌∷◌, ◌++◌, length, take, get_or, set, refl, sym, ap, ◌∙◌, arith, inl, inr}
+use Rattle.std.proofs.Common.{◌≡◌, ◌≢◌, ℕ, zero, suc, ◌+◌, ◌-◌, ◌<◌, ◌≤◌, Bool, true, false, cond, ◌||◌, ◌==◌, map, List, [], ◌∷◌, ◌++◌, length}
+use Rattle.std.proofs.Common.{get_or, set, refl, sym, ap, ◌∙◌, arith, inl, inr}
 use Rattle.std.specs.List.{IsDistinct, AllByRecursion, list_any, swap_remove, filter}
 use Rattle.std.proofs.lemmas.List.{get_or-set_same, get_or-set_other, length-set, length-take-le, get_or-take}
 use Rattle.std.proofs.lemmas.Map.Steps.{length-le_from_distinct_below}
@@ -31,15 +32,19 @@ module _ {X : Type 0} where
 -- no element is x
 other_than : (x : ℕ) (xs : List ℕ) → ((i : ℕ) → i < length xs → get_or xs i 0 ≢ x) → AllByRecursion (λ y. eqb x y ≡ false) xs
 other_than x [] h = tt
-other_than x (y ∷ ys) h =
-    (elim (eqb_tells x y) as (λ _. eqb x y ≡ false) [ inl t ↦ absurd (h 0 (omega arith) (sym t.1)) | inr t ↦ t.0 ], other_than x ys (λ i l. h (suc i) (omega arith)))
+other_than x (y ∷ ys) h = (
+  elim (eqb_tells x y) as (λ _. eqb x y ≡ false) [ inl t ↦ absurd (h 0 (omega arith) (sym t.1)) | inr t ↦ t.0 ],
+  other_than x ys
+      (λ i l. h (suc i) (omega arith)),
+)
 
 -- numbers that a function takes to their places, counted from n
 apart : (f : ℕ → ℕ) (n : ℕ) (xs : List ℕ) → ((i : ℕ) → i < length xs → f (get_or xs i 0) ≡ n + i) → IsDistinct eqb xs
 unfolding IsDistinct
 apart f n [] h = tt
 apart f n (x ∷ xs) h = (
-  other_than x xs (λ i l e. let here : f x ≡ n + 0 = h 0 (omega arith) in let there : f (get_or xs i 0) ≡ n + suc i = h (suc i) (omega arith) in let same = ap f e in absurd (omega arith)),
+  other_than x xs (λ i l e. let here : f x ≡ n + 0 = h 0 (omega arith) in let there : f (get_or xs i 0) ≡ n + suc i = h (suc i) (omega arith) in
+      let same = ap f e in absurd (omega arith)),
   apart f (n + 1) xs (λ i l. h (suc i) (omega arith) ∙ (let e : n + suc i ≡ (n + 1) + i = omega arith in e)),
 )
 
@@ -60,7 +65,8 @@ pub few : (f : ℕ → ℕ) (n s : ℕ) (xs : List ℕ) → s < n → ((i : ℕ)
     → ((i : ℕ) → i < length xs → get_or xs i 0 ≢ s) → length xs < n
 unfolding IsDistinct
 few f n s xs sl below at other =
-    let bound = length-le_from_distinct_below (s ∷ xs) n (other_than s xs other, apart f 0 xs (λ i l. at i l ∙ (let e : i ≡ 0 + i = omega arith in e))) (λ q h. low n q (s ∷ xs) (λ i. within i) h) in
+    let bound = length-le_from_distinct_below (s ∷ xs) n (other_than s xs other, apart f 0 xs (λ i l. at i l ∙ (let e : i ≡ 0 + i = omega arith in e)))
+    (λ q h. low n q (s ∷ xs) (λ i. within i) h) in
     omega arith
   where
     within : (i : ℕ) → i < length (s ∷ xs) → get_or (s ∷ xs) i 0 < n
@@ -88,13 +94,16 @@ pub place_in : (test : Bounds → Bool) (from k : ℕ) (boxes : List Bounds) →
 place_in test from k [] lt h = absurd (omega arith)
 place_in test from zero (b ∷ bs) lt h =
     let here : (from + 0 == from) ≡ true = grind (arith, nat_tests) in
-    ap (λ t. has_slot (map (λ (e : ℕ × Bounds). e.0) (cond t ((from, b) ∷ filter (λ e. test e.1) (placed (from + 1) bs)) (filter (λ e. test e.1) (placed (from + 1) bs)))) (from + 0)) h
+    ap (λ t. has_slot (map (λ (e : ℕ × Bounds). e.0)
+    (cond t ((from, b) ∷ filter (λ e. test e.1) (placed (from + 1) bs)) (filter (λ e. test e.1) (placed (from + 1) bs)))) (from + 0)) h
     ∙ ap (λ t. t || has_slot (places test (from + 1) bs) (from + 0)) here
 place_in test from (suc k) (b ∷ bs) lt h =
     let e : from + suc k ≡ (from + 1) + k = omega arith in
-    let r : has_slot (places test (from + 1) bs) (from + suc k) ≡ true = ap (has_slot (places test (from + 1) bs)) e ∙ place_in test (from + 1) k bs (omega arith) h in
+    let r : has_slot (places test (from + 1) bs) (from + suc k) ≡ true = ap (has_slot (places test (from + 1) bs)) e
+    ∙ place_in test (from + 1) k bs (omega arith) h in
     elim (test b) as
-    (λ t. has_slot (map (λ (e : ℕ × Bounds). e.0) (cond t ((from, b) ∷ filter (λ e. test e.1) (placed (from + 1) bs)) (filter (λ e. test e.1) (placed (from + 1) bs)))) (from + suc k) ≡ true) [
+    (λ t. has_slot (map (λ (e : ℕ × Bounds). e.0)
+    (cond t ((from, b) ∷ filter (λ e. test e.1) (placed (from + 1) bs)) (filter (λ e. test e.1) (placed (from + 1) bs)))) (from + suc k) ≡ true) [
       | true ↦ ap (λ t. (from + suc k == from) || t) r ∙ or_true (from + suc k == from)
       | false ↦ r
     ]
@@ -107,7 +116,8 @@ place_in test from (suc k) (b ∷ bs) lt h =
 pub image_in : (f : ℕ → ℕ) (xs : List ℕ) (x : ℕ) → has_slot xs x ≡ true → has_slot (map f xs) (f x) ≡ true
 image_in f [] x h = absurd (false≢true h)
 image_in f (y ∷ ys) x h = elim (or_cases (x == y) (has_slot ys x) h) as (λ _. has_slot (map f (y ∷ ys)) (f x) ≡ true) [
-  | inl e ↦ let at : x ≡ y = grind (arith, nat_tests) in let same = ap f at in let t : (f x == f y) ≡ true = grind (arith, nat_tests) in ap (λ b. b || has_slot (map f ys) (f x)) t
+  | inl e ↦ let at : x ≡ y = grind (arith, nat_tests) in let same = ap f at in let t : (f x == f y) ≡ true = grind (arith, nat_tests) in
+      ap (λ b. b || has_slot (map f ys) (f x)) t
   | inr e ↦ ap (λ b. (f x == f y) || b) (image_in f ys x e) ∙ or_true (f x == f y)
 ]
   where

@@ -1,13 +1,13 @@
 -- Slots in lists: what joining, filtering and visits of cells put into a list of slots.
-use Rattle.std.proofs.Common.{◌≡◌, ℕ, ◌+◌, ◌<◌, Bool, true, false, cond, ◌&&◌, ◌||◌, ◌==◌, List, [], ◌∷◌, ◌++◌, Option, None, Some, refl, sym, ap, ◌∙◌, arith, ◌⊎◌}
+use Rattle.std.proofs.Common.{◌≡◌, ℕ, ◌+◌, ◌<◌, Bool, true, false, cond, ◌&&◌, ◌||◌, ◌==◌, List, [], ◌∷◌, ◌++◌, refl, sym, ap}
+use Rattle.std.proofs.Common.{◌∙◌, arith, ◌⊎◌}
 use Rattle.std.specs.Prelude.{ℤ, pos, ◌+ℤ◌, ◌<ℤ◌}
-use Rattle.std.specs.List.{filter, list_any}
-use Rattle.std.proofs.lemmas.Bool.{or_left, or_right, or_cases, false≢true}
+use Rattle.std.specs.List.{filter}
 use Rattle.std.proofs.lemmas.Bool.Decides.{nat_tests}
 use Rattle.std.proofs.lemmas.Int.{ints}
 use Rattle.std.proofs.lemmas.List.Folds.{list_any-append}
 use Rattle.std.specs.Ordering.{nat_cmp, int_eq}
-use Rattle.std.specs.FinMap.{FinMap, get}
+use Rattle.std.specs.FinMap.{FinMap}
 use Rattle.broad_index.specs.Members.{has_slot}
 use Rattle.cell_table.specs.declared.cell_key.CellKey.{CellKey}
 use Rattle.cell_table.specs.Cells.{has, is_cell, same_cell, Visits}
@@ -35,9 +35,9 @@ has_filtered p (x ∷ xs) k = elim (k == x) as (λ b. (k == x) ≡ b → has_slo
         | false ↦ λ q. has_filtered p xs k ∙ ap (λ b. has_slot xs k && b) (sym q) ∙ and_false (has_slot xs k) ∙ q
       ] same
   | false ↦ λ e. elim (p x) as (λ c. has_slot (cond c (x ∷ filter p xs) (filter p xs)) k ≡ (has_slot xs k && p k)) [
-      | true ↦ ap (λ b. b || has_slot (filter p xs) k) e ∙ has_filtered p xs k
-      | false ↦ has_filtered p xs k
-    ]
+    | true ↦ ap (λ b. b || has_slot (filter p xs) k) e ∙ has_filtered p xs k
+    | false ↦ has_filtered p xs k
+  ]
 ] refl
   where
     and_false : (b : Bool) → (b && false) ≡ false

@@ -7,8 +7,8 @@ ghost use Rattle.slot_search.specs.Reach.{reach};
 ghost use Rattle.hier_grid.specs.Search.{HasMetBelow};
 
 use crate::kept_boxes::KeptBoxes;
-use crate::slot_boxes::SlotBoxes;
 use crate::partners::push_partners;
+use crate::slot_boxes::SlotBoxes;
 use broad_index::{Query, push_rising_slots};
 use cell_table::LEVELS;
 use fixed_box::{FBox, NoMemory, Point, box_laws};

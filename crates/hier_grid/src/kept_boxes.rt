@@ -115,12 +115,7 @@ impl KeptBoxes {
     }
 
     // Appends the slots of a level in cells beside a region.
-    fn push_from_cells(
-        &self,
-        level: u8,
-        region: &FBox,
-        out: &mut Vec<u32>,
-    ) -> Result<(), NoMemory>
+    fn push_from_cells(&self, level: u8, region: &FBox, out: &mut Vec<u32>) -> Result<(), NoMemory>
         requires { level < LEVELS }
         ensures more { OnOk result (HasMore out.old.items out.new.items) }
         ensures found { OnOk result (HasMet self.now level region.now out.new.items) }

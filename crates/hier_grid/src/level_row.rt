@@ -1,4 +1,5 @@
-ghost use Rattle.std.specs.Prelude.{◌≡◌, ℕ, ◌+◌, ◌-◌, ◌<◌, ◌≤◌, ◌^◌, [], ◌∷◌, ◌++◌, true, IfOk, OnOk, length, slice_index, slice_index_or, slice_set, swap_remove, map};
+ghost use Rattle.std.specs.Prelude.{◌≡◌, ℕ, ◌+◌, ◌-◌, ◌<◌, ◌≤◌, ◌^◌, [], ◌∷◌, ◌++◌, true, IfOk, OnOk};
+ghost use Rattle.std.specs.Prelude.{length, map, slice_index, slice_index_or, slice_set, swap_remove};
 ghost use Rattle.fixed_box.specs.Bounds.{meets};
 ghost use Rattle.broad_index.specs.Members.{has_slot};
 ghost use Rattle.hier_grid.specs.Leveled.{blank};

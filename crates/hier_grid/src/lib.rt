@@ -6,12 +6,12 @@ mod cell;
 mod grid;
 mod hits;
 mod kept_boxes;
-mod slot_boxes;
 mod level_row;
 mod leveled_boxes;
 mod near_cells;
 mod pair_search;
 mod partners;
+mod slot_boxes;
 
 pub use grid::HierGrid;
 

@@ -146,11 +146,7 @@ fn no_boxes(alloc: Global) -> Result<Vec<Option<FBox>>, NoMemory>
 }
 
 // Appends the slots whose boxes meet a query. What was there stays, after an `Err` too.
-fn push_met(
-    boxes: &[Option<FBox>],
-    query: &Query,
-    out: &mut Vec<u32>,
-) -> Result<(), NoMemory>
+fn push_met(boxes: &[Option<FBox>], query: &Query, out: &mut Vec<u32>) -> Result<(), NoMemory>
     requires { length boxes.now ≡ SLOTS }
     ensures ok { OnOk result (out.new.items ≡ out.old.items ++ found_of (entries_from 0 boxes.now) query.now) }
     ensures kept { take (vec_len out.old) out.new.items ≡ out.old.items }

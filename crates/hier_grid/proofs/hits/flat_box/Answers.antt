@@ -1,5 +1,5 @@
 -- A point is at most itself.
-use Rattle.std.proofs.Common.{◌≡◌, Option, Some, None, IsSome, IsTrue, refl}
+use Rattle.std.proofs.Common.{Option, Some, None, IsSome, IsTrue, refl}
 use Rattle.std.specs.Cmp.{first_so}
 use Rattle.std.specs.Option.{SomeIff}
 use Rattle.fixed_box.specs.Bounds.{Bounds}

@@ -10,5 +10,7 @@ returns-clause-ok c =
     let kept = c.args.kept.now in
     let slots = c.deref.result.now in
     let is : c.push_found.new.out.items ≡ filter (is_found kept c.args.query.now) slots = search rules in
-    let met : HasMetBelow kept 11 c.args.region.now slots = subst (HasMetBelow kept 11 c.args.region.now) (sym c.deref.ensures.value) c.in_ok-push_all_candidates.ensures in
-    c.push_rising_slots.ensures.found kept c.args.query.now (λ k. ap (λ l. has_slot l k) is ∙ hits_among kept c.args.query.now c.args.region.now slots c.requires met k)
+    let met : HasMetBelow kept 11 c.args.region.now slots =
+    subst (HasMetBelow kept 11 c.args.region.now) (sym c.deref.ensures.value) c.in_ok-push_all_candidates.ensures in
+    c.push_rising_slots.ensures.found kept c.args.query.now
+    (λ k. ap (λ l. has_slot l k) is ∙ hits_among kept c.args.query.now c.args.region.now slots c.requires met k)

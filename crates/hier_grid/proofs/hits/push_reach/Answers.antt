@@ -10,5 +10,7 @@ returns-clause-ok c =
     let kept = c.args.kept.now in
     let slots = c.deref.result.now in
     let is : c.push_partners.new.out.items ≡ filter (is_partner kept c.args.slot c.args.body.now true) slots = search rules in
-    let met : HasMetBelow kept 11 c.args.body.now slots = subst (HasMetBelow kept 11 c.args.body.now) (sym c.deref.ensures.value) c.in_ok-push_all_candidates.ensures in
-    c.in_ok-push_rising_slots.ensures.reach kept c.args.slot (λ k. ap (λ l. has_slot l k) is ∙ reach_among kept c.args.slot c.args.body.now slots c.requires met k)
+    let met : HasMetBelow kept 11 c.args.body.now slots =
+    subst (HasMetBelow kept 11 c.args.body.now) (sym c.deref.ensures.value) c.in_ok-push_all_candidates.ensures in
+    c.in_ok-push_rising_slots.ensures.reach kept c.args.slot
+    (λ k. ap (λ l. has_slot l k) is ∙ reach_among kept c.args.slot c.args.body.now slots c.requires met k)

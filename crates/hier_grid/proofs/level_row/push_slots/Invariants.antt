@@ -1,3 +1,4 @@
+-- What is there, with the slots at the other places.
 use Rattle.std.proofs.Common.{◌≡◌, ◌++◌, length, map, slice_index}
 use Rattle.hier_grid.proofs.level_row.push_slots.Given as goal
 

@@ -1,3 +1,4 @@
+-- As many rows as levels so far, with no box and with room for all slots.
 use Rattle.std.proofs.Common.{◌≡◌, ◌≤◌, ◌<◌, ℕ, length, []}
 use Rattle.fixed_box.specs.declared.TheConstants.{SLOTS}
 use Rattle.hier_grid.specs.Leveled.{row_at}

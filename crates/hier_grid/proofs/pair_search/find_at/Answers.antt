@@ -1,8 +1,7 @@
 -- The partners are those among the candidates, and all boxes of the level that meet the body are candidates.
 use Rattle.std.proofs.Common.{◌≡◌, ap, sym, ◌∙◌, ◌++◌, filter, subst, rules}
-use Rattle.broad_index.specs.Members.{has_slot}
 use Rattle.broad_index.specs.Touched.{ordered_pairs}
-use Rattle.hier_grid.specs.Search.{HasMet, HasPairs, IsSound, is_partner, partnered}
+use Rattle.hier_grid.specs.Search.{HasMet, HasPairs, IsSound, is_partner}
 use Rattle.hier_grid.proofs.PairLemmas.{sound_more, more_pairs, found_more, partner_met}
 use Rattle.hier_grid.proofs.pair_search.find_at.Goals as goal
 
@@ -27,4 +26,5 @@ returns-clause-found c q b e at t =
     let met : HasMet kept c.args.level c.args.body.now slots =
     subst (HasMet kept c.args.level c.args.body.now) (sym c.deref.ensures.value) c.in_ok-push_candidates.ensures.found in
     rw (c.in_ok-push_ordered_pairs.ensures, is)
-    (found_more kept c.args.slot c.args.body.now c.args.higher slots c.args.found.now.pairs.items q (met q b e at (partner_met kept c.args.slot c.args.body.now c.args.higher q b e t)) t)
+    (found_more kept c.args.slot c.args.body.now c.args.higher slots c.args.found.now.pairs.items q
+    (met q b e at (partner_met kept c.args.slot c.args.body.now c.args.higher q b e t)) t)

@@ -1,3 +1,4 @@
+-- No slot has a box so far.
 use Rattle.std.proofs.Common.{◌≡◌, ℕ, length, slice_index_or, None}
 use Rattle.hier_grid.proofs.slot_boxes.no_boxes.Given as goal
 

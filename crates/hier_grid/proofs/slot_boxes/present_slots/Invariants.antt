@@ -1,3 +1,4 @@
+-- What is there, with the slots among the rest.
 use Rattle.std.proofs.Common.{◌≡◌, ◌≤◌, ◌++◌, ◌+◌, length, map}
 use Rattle.fixed_box.specs.declared.TheConstants.{SLOTS}
 use Rattle.fixed_box.specs.SlotMap.{entries_from}

@@ -1,3 +1,4 @@
+-- What is there, with those among the rest whose boxes meet the query.
 use Rattle.std.proofs.Common.{◌≡◌, ◌++◌, ◌+◌, length, take, vec_len}
 use Rattle.fixed_box.specs.declared.TheConstants.{SLOTS}
 use Rattle.broad_index.specs.Found.{found_of}

@@ -1,5 +1,5 @@
 -- Searches of all slots in their order give each pair once, in order.
-use Rattle.std.proofs.Common.{◌≡◌, ap, sym, ◌∙◌, ◌++◌, map, subst}
+use Rattle.std.proofs.Common.{ap, ◌∙◌, ◌++◌, map}
 use Rattle.std.specs.List.{zip}
 use Rattle.broad_index.specs.Searched.{gathered}
 use Rattle.slot_search.specs.Reach.{reach}

@@ -1,5 +1,5 @@
 -- The slot has the box, and the cell of the box.
-use Rattle.std.proofs.Common.{sym, ◌∙◌, ap}
+use Rattle.std.proofs.Common.{◌∙◌, ap}
 use Rattle.std.specs.FinMap.{contains_key}
 use Rattle.hier_grid.proofs.GridLemmas.{grid_put, same_slots}
 use Rattle.hier_grid.proofs.kept_boxes.KeptBoxes.set.Goals as goal

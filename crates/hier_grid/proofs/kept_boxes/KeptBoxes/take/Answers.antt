@@ -1,5 +1,5 @@
 -- The slot has no box, and no cell.
-use Rattle.std.proofs.Common.{sym, ◌∙◌, ap}
+use Rattle.std.proofs.Common.{◌∙◌, ap}
 use Rattle.std.specs.FinMap.{contains_key}
 use Rattle.hier_grid.proofs.GridLemmas.{grid_take, same_slots}
 use Rattle.hier_grid.proofs.kept_boxes.KeptBoxes.take.Goals as goal

@@ -6,5 +6,5 @@ use Rattle.hier_grid.proofs.leveled_boxes.LeveledBoxes.new.Goals as goal
 pub invariant_of-result : goal.invariant_of-result
 invariant_of-result c =
     leveled_new c.in_ok-new.field-0 c.in_ok-vec.field-0.items c.in_ok-empty_rows.field-0.items c.in_ok-new.ensures
-    (omega (arith, c.in_ok-vec.ensures.len, c.in_ok-vec.field-0.ok.0)) c.in_ok-empty_rows.ensures.len c.in_ok-empty_rows.ensures.slots c.in_ok-empty_rows.ensures.boxes
-    c.in_ok-empty_rows.ensures.room
+    (omega (arith, c.in_ok-vec.ensures.len, c.in_ok-vec.field-0.ok.0))
+    c.in_ok-empty_rows.ensures.len c.in_ok-empty_rows.ensures.slots c.in_ok-empty_rows.ensures.boxes c.in_ok-empty_rows.ensures.room

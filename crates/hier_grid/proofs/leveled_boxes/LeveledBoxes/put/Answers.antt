@@ -1,5 +1,5 @@
 -- The box is the last of its row.
-use Rattle.std.proofs.Common.{◌≡◌, ◌<◌, ◌+◌, ◌++◌, ◌∷◌, [], None, sym, ap, ◌∙◌, subst, arith, length}
+use Rattle.std.proofs.Common.{◌≡◌, ◌<◌, ◌++◌, ◌∷◌, [], None, sym, ap, ◌∙◌, subst, arith, length}
 use Rattle.std.specs.FinMap.{contains_key, get}
 use Rattle.std.proofs.lemmas.List.{get_or_read}
 use Rattle.fixed_box.specs.Bounds.{level_of}
@@ -12,7 +12,8 @@ use Rattle.hier_grid.proofs.leveled_boxes.LeveledBoxes.put.Goals as goal
 pub overflow_cast-len : goal.overflow_cast-len
 overflow_cast-len c =
     let s = c.self.inside in
-    let none : get s.boxes c.args.slot ≡ None = absent_none (get s.boxes c.args.slot) (ap (λ m. contains_key m c.args.slot) c.self.view_is ∙ c.requires.absent) in
+    let none : get s.boxes c.args.slot ≡ None =
+    absent_none (get s.boxes c.args.slot) (ap (λ m. contains_key m c.args.slot) c.self.view_is ∙ c.requires.absent) in
     let low : c.level-level.result < LEVELS = (let b = c.level-level.ensures.bound in omega arith) in
     let row = get_or_read s.rows.items c.level-level.result c.index.result.now (omega (arith, c.self.invariant.rows_len)) c.index.ensures no_row in
     let few = room s.boxes s.places.items s.rows.items c.level-level.result c.args.slot c.self.invariant low c.requires.small none in
@@ -22,25 +23,32 @@ overflow_cast-len c =
 pub push-requires-clause-few : goal.push-requires-clause-few
 push-requires-clause-few c =
     let s = c.self.inside in
-    let none : get s.boxes c.args.slot ≡ None = absent_none (get s.boxes c.args.slot) (ap (λ m. contains_key m c.args.slot) c.self.view_is ∙ c.requires.absent) in
+    let none : get s.boxes c.args.slot ≡ None =
+    absent_none (get s.boxes c.args.slot) (ap (λ m. contains_key m c.args.slot) c.self.view_is ∙ c.requires.absent) in
     let low : c.level-level.result < LEVELS = (let b = c.level-level.ensures.bound in omega arith) in
-    let row = get_or_read s.rows.items c.level-level.result c.index_mut-2.result.now (omega (arith, c.self.invariant.rows_len)) c.index_mut-2.ensures.value no_row in
-    subst (λ r. length r.slots < SLOTS) (sym row) (room s.boxes s.places.items s.rows.items c.level-level.result c.args.slot c.self.invariant low c.requires.small none)
+    let row = get_or_read s.rows.items c.level-level.result c.index_mut-2.result.now
+    (omega (arith, c.self.invariant.rows_len)) c.index_mut-2.ensures.value no_row in
+    subst (λ r. length r.slots < SLOTS) (sym row)
+    (room s.boxes s.places.items s.rows.items c.level-level.result c.args.slot c.self.invariant low c.requires.small none)
 
 pub push-requires-clause-room : goal.push-requires-clause-room
 push-requires-clause-room c =
     let s = c.self.inside in
-    let none : get s.boxes c.args.slot ≡ None = absent_none (get s.boxes c.args.slot) (ap (λ m. contains_key m c.args.slot) c.self.view_is ∙ c.requires.absent) in
+    let none : get s.boxes c.args.slot ≡ None =
+    absent_none (get s.boxes c.args.slot) (ap (λ m. contains_key m c.args.slot) c.self.view_is ∙ c.requires.absent) in
     let low : c.level-level.result < LEVELS = (let b = c.level-level.ensures.bound in omega arith) in
-    let row = get_or_read s.rows.items c.level-level.result c.index_mut-2.result.now (omega (arith, c.self.invariant.rows_len)) c.index_mut-2.ensures.value no_row in
-    subst (λ r. 0 < r.spare) (sym row) (row_spare s.boxes s.places.items s.rows.items c.level-level.result c.args.slot c.self.invariant low c.requires.small none)
+    let row = get_or_read s.rows.items c.level-level.result c.index_mut-2.result.now
+    (omega (arith, c.self.invariant.rows_len)) c.index_mut-2.ensures.value no_row in
+    subst (λ r. 0 < r.spare) (sym row)
+    (row_spare s.boxes s.places.items s.rows.items c.level-level.result c.args.slot c.self.invariant low c.requires.small none)
 
 pub invariant_of-self : goal.invariant_of-self
 invariant_of-self c =
     let s = c.self.inside in
     let rows = s.rows.items in
     let b = c.args.body in
-    let none : get s.boxes c.args.slot ≡ None = absent_none (get s.boxes c.args.slot) (ap (λ m. contains_key m c.args.slot) c.self.view_is ∙ c.requires.absent) in
+    let none : get s.boxes c.args.slot ≡ None =
+    absent_none (get s.boxes c.args.slot) (ap (λ m. contains_key m c.args.slot) c.self.view_is ∙ c.requires.absent) in
     let at : c.level-level.result ≡ level_of b = c.level-level.ensures.value in
     let bound : c.level-level.result < length rows = (let l = c.level-level.ensures.bound in omega (arith, c.self.invariant.rows_len)) in
     let read = get_or_read rows c.level-level.result c.index.result.now bound c.index.ensures no_row ∙ ap (row_at rows) at in

@@ -2,7 +2,7 @@
 use Rattle.std.proofs.Common.{◌≡◌, ◌<◌, Some, sym, ap, ◌∙◌, subst, arith, length, get_or, slice_index}
 use Rattle.std.specs.FinMap.{get}
 use Rattle.std.proofs.lemmas.List.{get_or_read}
-use Rattle.fixed_box.specs.Bounds.{level_of, meets}
+use Rattle.fixed_box.specs.Bounds.{meets}
 use Rattle.broad_index.specs.Members.{has_slot}
 use Rattle.hier_grid.specs.Leveled.{blank, no_row, row_at}
 use Rattle.hier_grid.proofs.LeveledLemmas.{row_few, place_within}
@@ -23,7 +23,9 @@ returns-clause-found c q b e l m =
     let has : get s.boxes q ≡ Some b = ap (λ m. get m q) c.self.view_is ∙ e in
     let st = c.self.invariant.held q b has in
     let place = get_or s.places.items q 0 in
-    let row = get_or_read rows c.args.level c.index.result.now (omega (arith, c.self.invariant.rows_len, c.requires)) c.index.ensures no_row ∙ ap (row_at rows) (sym l) in
-    let found = c.in_ok-push_met.ensures.found place (subst (λ r. place < length r.boxes) (sym row) (place_within s.boxes s.places.items rows q b c.self.invariant has))
+    let row = get_or_read rows c.args.level c.index.result.now (omega (arith, c.self.invariant.rows_len, c.requires)) c.index.ensures no_row
+    ∙ ap (row_at rows) (sym l) in
+    let found = c.in_ok-push_met.ensures.found place
+    (subst (λ r. place < length r.boxes) (sym row) (place_within s.boxes s.places.items rows q b c.self.invariant has))
     (ap (λ r. meets c.args.region.now (get_or r.boxes place blank)) row ∙ ap (meets c.args.region.now) st.body_is ∙ m) in
     ap (has_slot c.push_met.new.out.items) (sym (ap (λ r. slice_index r.slots place) row ∙ st.slot_is)) ∙ found

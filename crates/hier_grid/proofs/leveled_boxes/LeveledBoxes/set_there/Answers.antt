@@ -1,5 +1,5 @@
 -- The box at the slot's place is another one.
-use Rattle.std.proofs.Common.{◌≡◌, ◌<◌, Some, IfSome, sym, ap, ◌∙◌, subst, arith, length, set}
+use Rattle.std.proofs.Common.{◌≡◌, ◌<◌, Some, sym, ap, ◌∙◌, subst, arith, length, set}
 use Rattle.std.specs.FinMap.{get}
 use Rattle.std.proofs.lemmas.List.{get_or_read}
 use Rattle.fixed_box.specs.Bounds.{level_of}
@@ -15,7 +15,8 @@ set-requires c =
     let has : get s.boxes c.args.slot ≡ Some o.own = ap (λ m. get m c.args.slot) c.self.view_is ∙ o.is in
     let low = c.self.invariant.low c.args.slot o.own has in
     let at : c.level.result ≡ level_of o.own = c.level.ensures.value ∙ sym o.level_is in
-    let row = get_or_read rows c.level.result c.index_mut.result.now (let l = c.level.ensures.bound in omega (arith, c.self.invariant.rows_len)) c.index_mut.ensures.value no_row ∙ ap (row_at rows) at in
+    let row = get_or_read rows c.level.result c.index_mut.result.now
+    (let l = c.level.ensures.bound in omega (arith, c.self.invariant.rows_len)) c.index_mut.ensures.value no_row ∙ ap (row_at rows) at in
     let place = get_or_read s.places.items c.args.slot c.index.result.now (omega (arith, c.self.invariant.places_len)) c.index.ensures 0 in
     subst (λ r. c.index.result.now < length r.boxes) (sym row)
     (subst (λ p. p < length (row_at rows (level_of o.own)).boxes) (sym place) (place_within s.boxes s.places.items rows c.args.slot o.own c.self.invariant has))
@@ -29,7 +30,8 @@ invariant_of-self c =
     let has : get s.boxes c.args.slot ≡ Some o.own = ap (λ m. get m c.args.slot) c.self.view_is ∙ o.is in
     let low = c.self.invariant.low c.args.slot o.own has in
     let at : c.level.result ≡ level_of b = c.level.ensures.value in
-    let row = get_or_read rows c.level.result c.index_mut.result.now (let l = c.level.ensures.bound in omega (arith, c.self.invariant.rows_len)) c.index_mut.ensures.value no_row ∙ ap (row_at rows) at in
+    let row = get_or_read rows c.level.result c.index_mut.result.now
+    (let l = c.level.ensures.bound in omega (arith, c.self.invariant.rows_len)) c.index_mut.ensures.value no_row ∙ ap (row_at rows) at in
     let place = get_or_read s.places.items c.args.slot c.index.result.now (omega (arith, c.self.invariant.places_len)) c.index.ensures 0 in
     rw (c.set-2.ensures, at)
     (leveled_set s.boxes s.places.items rows c.args.slot o.own b c.set.new.self c.self.invariant has o.level_is (c.set.ensures.slots ∙ ap (λ r. r.slots) row)

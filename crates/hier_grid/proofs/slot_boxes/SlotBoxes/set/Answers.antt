@@ -1,5 +1,5 @@
 -- A write is an insertion.
-use Rattle.std.proofs.Common.{◌<◌, arith, ◌∙◌, ap, length}
+use Rattle.std.proofs.Common.{arith, ◌∙◌, ap}
 use Rattle.std.specs.FinMap.{insert}
 use Rattle.fixed_box.specs.SlotMapLaws.{map_put}
 use Rattle.hier_grid.proofs.BoxLemmas.{present_within}
@@ -11,4 +11,5 @@ index_mut-requires c = omega (arith, c.self.inside.boxes.ok.0, present_within c.
 pub returns : goal.returns
 returns c =
     let boxes = c.self.inside.boxes.items in
-    map_put boxes c.args.slot c.args.body (present_within boxes c.args.self.now c.args.slot c.self.view_is c.requires) ∙ ap (λ m. insert m c.args.slot c.args.body) c.self.view_is
+    map_put boxes c.args.slot c.args.body (present_within boxes c.args.self.now c.args.slot c.self.view_is c.requires)
+    ∙ ap (λ m. insert m c.args.slot c.args.body) c.self.view_is
