@@ -17,9 +17,11 @@ use Rattle.cell_table.specs.declared.TheConstants.{BUCKETS}
 use Rattle.cell_table.specs.declared.cell_key.CellKey.{CellKey}
 use Rattle.fixed_box.specs.SlotMap.{entries_from, map_of}
 use Rattle.cell_table.specs.Cells.{IsDistinct as DistinctSlots, is_cell, Visits, has, same_cell, slots_in}
-use Rattle.cell_table.specs.Kept.{Fresh, Distinct, IsKept, picked, at, meets_test, bucket_of, walk}
+use Rattle.fixed_box.specs.Links.{Fresh, Distinct}
+use Rattle.fixed_box.specs.LinkLaws.{distinct_is}
+use Rattle.cell_table.specs.Kept.{IsKept, picked, at, meets_test, bucket_of, walk}
 use Rattle.fixed_box.specs.SlotMapLaws.{entries_of_map, get_map}
-use Rattle.cell_table.proofs.RingLemmas.{distinct_is, fresh_not, walk_ring}
+use Rattle.cell_table.proofs.RingLemmas.{fresh_not, walk_ring}
 
 abbrev pub Above : ℕ → List ℕ → Type 0
 Above x [] = Unit {0}

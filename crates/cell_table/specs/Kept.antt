@@ -8,6 +8,7 @@ use Rattle.cell_table.specs.declared.rings.TheConstants.{NODES}
 use Rattle.cell_table.specs.declared.cell_key.CellKey.{CellKey}
 use Rattle.cell_table.specs.Cells.{has, same_cell}
 use Rattle.fixed_box.specs.SlotMap.{entries_from}
+use Rattle.fixed_box.specs.Links.{Distinct, Links}
 
 -- the bucket that a key is hashed into
 abbrev pub bucket_of : CellKey → ℕ
@@ -29,21 +30,6 @@ at p keys s = meets_test p (slice_index_or keys s None)
 -- whether a slot's key is hashed into a bucket
 abbrev pub in_bucket : List (Option CellKey) → ℕ → ℕ → Bool
 in_bucket keys b s = at (λ k. bucket_of k == b) keys s
-
--- k is none of these
-abbrev pub Fresh : ℕ → List ℕ → Type 0
-Fresh k [] = Unit {0}
-Fresh k (x ∷ xs) = (k ≢ x) × Fresh k xs
-
--- no two of these are one
-abbrev pub Distinct : List ℕ → Type 0
-Distinct [] = Unit {0}
-Distinct (x ∷ xs) = Fresh x xs × Distinct xs
-
--- from u through these to e, forward and back
-abbrev pub Links : List ℕ → List ℕ → ℕ → List ℕ → ℕ → Type 0
-Links next prev u [] e = (slice_index next u ≡ e) × (slice_index prev e ≡ u)
-Links next prev u (x ∷ xs) e = (slice_index next u ≡ x) × (slice_index prev x ≡ u) × Links next prev x xs e
 
 -- the ring of a bucket: the bucket's node, its slots, and the node again
 pub record Ring (keys : List (Option CellKey)) (next prev : List ℕ) (b : ℕ) : Type 0 where

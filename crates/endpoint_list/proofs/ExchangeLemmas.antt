@@ -2,11 +2,13 @@
 use Rattle.std.proofs.Common.{◌≡◌, ◌≢◌, ℕ, ◌+◌, ◌<◌, ◌≤◌, List, [], ◌∷◌, ◌++◌, length, get_or, set, sym, ◌∙◌, arith, append_assoc}
 use Rattle.std.proofs.lemmas.List.{get_or-set_same, get_or-set_other, length-set}
 use Rattle.endpoint_list.specs.declared.TheConstants.{NODES}
-use Rattle.endpoint_list.specs.Links.{Fresh, Distinct, Links, Below, IsKept, exchanged_next, exchanged_prev}
-use Rattle.endpoint_list.proofs.NodeLemmas.{Below-weaker, Below-Fresh, Below-left, Below-right, Below-swap, Distinct-left}
-use Rattle.endpoint_list.proofs.NodeLemmas.{Distinct-right, Distinct-apart, Distinct-without, Distinct-swap, Fresh-swap, Fresh-left, Fresh-right}
-use Rattle.endpoint_list.proofs.LinkLemmas.{before_end, before_end_fresh, after_start, after_start_fresh, retarget_last, retarget_first}
-use Rattle.endpoint_list.proofs.LinkLemmas.{frame_next, frame_prev, Links-append, Links-left, Links-right, beside}
+use Rattle.fixed_box.specs.Links.{Fresh, Distinct, Below, Links}
+use Rattle.fixed_box.specs.LinkLaws.{Fresh-left, Fresh-right, Distinct-left, Distinct-right, Distinct-apart, Distinct-without, Below-left, Below-right, Below-weaker, frame_next, frame_prev, before_end, retarget_last, retarget_first, Links-append, Links-left, Links-right, after_start}
+use Rattle.endpoint_list.specs.Links.{IsKept, exchanged_next, exchanged_prev}
+use Rattle.endpoint_list.proofs.NodeLemmas.{Below-Fresh, Below-swap}
+use Rattle.endpoint_list.proofs.NodeLemmas.{Distinct-swap, Fresh-swap}
+use Rattle.endpoint_list.proofs.LinkLemmas.{before_end_fresh, after_start_fresh}
+use Rattle.endpoint_list.proofs.LinkLemmas.{beside}
 
 pub exchanged : (N P ys : List ℕ) (a b : ℕ) (zs : List ℕ) → IsKept N P (ys ++ a ∷ b ∷ zs)
     → IsKept (exchanged_next N P a b) (exchanged_prev N P a b) (ys ++ b ∷ a ∷ zs)

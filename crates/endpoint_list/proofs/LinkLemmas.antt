@@ -5,21 +5,10 @@ use Rattle.std.proofs.lemmas.List.{get_or-set_same, get_or-set_other}
 use Rattle.std.proofs.lemmas.Bool.{cases_eq, cases_Bool}
 use Rattle.endpoint_list.specs.declared.TheConstants.{NODES}
 use Rattle.endpoint_list.specs.NodeList.{has, first_of, last_of, IsNodeList}
-use Rattle.endpoint_list.specs.Links.{walk, listed, neighbour, Fresh, Distinct, Below, Links, IsKept}
-use Rattle.endpoint_list.proofs.NodeLemmas.{Below-weaker, Below-left, Below-right, Distinct-apart, Distinct-without, length-le, has_fresh, node_list}
-
-pub frame_next : (N P : List ℕ) (u : ℕ) (xs : List ℕ) (e k v : ℕ) → k ≢ u → Fresh k xs → Links N P u xs e → Links (set N k v) P u xs e
-frame_next N P u [] e k v ku f l = (get_or-set_other N k u v 0 (λ q. ku (sym q)) ∙ l.0, l.1)
-frame_next N P u (x ∷ xs) e k v ku f l = (get_or-set_other N k u v 0 (λ q. ku (sym q)) ∙ l.0, l.1, frame_next N P x xs e k v f.0 f.1 l.2)
-
-pub frame_prev : (N P : List ℕ) (u : ℕ) (xs : List ℕ) (e k v : ℕ) → k ≢ e → Fresh k xs → Links N P u xs e → Links N (set P k v) u xs e
-frame_prev N P u [] e k v ke f l = (l.0, get_or-set_other P k e v 0 (λ q. ke (sym q)) ∙ l.1)
-frame_prev N P u (x ∷ xs) e k v ke f l = (l.0, get_or-set_other P k x v 0 (λ q. f.0 (sym q)) ∙ l.1, frame_prev N P x xs e k v ke f.1 l.2)
-
--- it is u or one of xs, so what is none of these is another
-pub before_end : (N P : List ℕ) (u : ℕ) (xs : List ℕ) (e k : ℕ) → Links N P u xs e → k ≢ u → Fresh k xs → get_or P e 0 ≢ k
-before_end N P u [] e k l ku f q = ku (sym (sym l.1 ∙ q))
-before_end N P u (x ∷ xs) e k l ku f q = before_end N P x xs e k l.2 f.0 f.1 q
+use Rattle.fixed_box.specs.Links.{Fresh, Distinct, Below, Links}
+use Rattle.fixed_box.specs.LinkLaws.{Distinct-apart, Distinct-without, Below-left, Below-right, Below-weaker, length-le, before_end, Links-left, Links-right}
+use Rattle.endpoint_list.specs.Links.{walk, listed, neighbour, IsKept}
+use Rattle.endpoint_list.proofs.NodeLemmas.{has_fresh, node_list}
 
 pub before_end_below : (N P : List ℕ) (u : ℕ) (xs : List ℕ) (e n : ℕ) → Links N P u xs e → u < n → Below n xs → get_or P e 0 < n
 before_end_below N P u [] e n l un b = rw l.1 un
@@ -28,47 +17,6 @@ before_end_below N P u (x ∷ xs) e n l un b = before_end_below N P x xs e n l.2
 pub after_below : (N P : List ℕ) (u : ℕ) (xs : List ℕ) (e n : ℕ) → Links N P u xs e → e < n → Below n xs → get_or N u 0 < n
 after_below N P u [] e n l en b = rw l.0 en
 after_below N P u (x ∷ xs) e n l en b = rw l.0 b.0
-
--- the chain from u through xs ends at v in place of e
-pub retarget_last : (N P : List ℕ) (u : ℕ) (xs : List ℕ) (e v : ℕ) → Links N P u xs e → Fresh u xs → Distinct xs → Fresh v xs
-    → u < length N → Below (length N) xs → v < length P
-    → Links (set N (get_or P e 0) v) (set P v (get_or P e 0)) u xs v
-retarget_last N P u [] e v l fu d fv un b vp =
-    rw l.1 (get_or-set_same N u v 0 un, get_or-set_same P v u 0 vp)
-retarget_last N P u (x ∷ xs) e v l fu d fv un b vp =
-    let apart : get_or P e 0 ≢ u = before_end N P x xs e u l.2 fu.0 fu.1 in (
-      get_or-set_other N (get_or P e 0) u v 0 (λ q. apart (sym q)) ∙ l.0,
-      get_or-set_other P v x (get_or P e 0) 0 (λ q. fv.0 (sym q)) ∙ l.1,
-      retarget_last N P x xs e v l.2 d.0 d.1 fv.1 b.0 b.1 vp,
-    )
-
--- the chain to e begins at v in place of u
-pub retarget_first : (N P : List ℕ) (u : ℕ) (xs : List ℕ) (e v m : ℕ) → get_or N u 0 ≡ m → Links N P u xs e → Fresh v xs → Distinct xs → Fresh e xs
-    → v < length N → e < length P → Below (length P) xs
-    → Links (set N v m) (set P m v) v xs e
-retarget_first N P u [] e v m q l fv d fe vn ep b =
-    let same : m ≡ e = sym q ∙ l.0 in
-    rw same (get_or-set_same N v e 0 vn, get_or-set_same P e v 0 ep)
-retarget_first N P u (x ∷ xs) e v m q l fv d fe vn ep b =
-    let same : m ≡ x = sym q ∙ l.0 in
-    let F : ℕ → Type 0 = λ w. Links (set N v w) (set P w v) v (x ∷ xs) e in
-    subst F (sym same) (
-      get_or-set_same N v x 0 vn,
-      get_or-set_same P x v 0 b.0,
-      frame_next N (set P x v) x xs e v x fv.0 fv.1 (frame_prev N P x xs e x v (λ r. fe.0 (sym r)) d.0 l.2),
-    )
-
-pub Links-append : (N P : List ℕ) (u : ℕ) (xs : List ℕ) (y : ℕ) (ys : List ℕ) (e : ℕ) → Links N P u xs y → Links N P y ys e → Links N P u (xs ++ y ∷ ys) e
-Links-append N P u [] y ys e l m = (l.0, l.1, m)
-Links-append N P u (x ∷ xs) y ys e l m = (l.0, l.1, Links-append N P x xs y ys e l.2 m)
-
-pub Links-left : (N P : List ℕ) (u : ℕ) (xs : List ℕ) (y : ℕ) (ys : List ℕ) (e : ℕ) → Links N P u (xs ++ y ∷ ys) e → Links N P u xs y
-Links-left N P u [] y ys e l = (l.0, l.1)
-Links-left N P u (x ∷ xs) y ys e l = (l.0, l.1, Links-left N P x xs y ys e l.2)
-
-pub Links-right : (N P : List ℕ) (u : ℕ) (xs : List ℕ) (y : ℕ) (ys : List ℕ) (e : ℕ) → Links N P u (xs ++ y ∷ ys) e → Links N P y ys e
-Links-right N P u [] y ys e l = l.2
-Links-right N P u (x ∷ xs) y ys e l = Links-right N P x xs y ys e l.2
 
 -- what stands before the end is none of the later ones
 pub before_end_fresh : (N P : List ℕ) (u : ℕ) (xs : List ℕ) (e : ℕ) (ws : List ℕ) → Links N P u xs e → Below u ws → Distinct (xs ++ ws)
@@ -82,10 +30,6 @@ pub after_start_fresh : (N P : List ℕ) (u : ℕ) (xs : List ℕ) (e : ℕ) (ws
     → Fresh (get_or N u 0) ws
 after_start_fresh N P u [] e ws l f d = rw l.0 f
 after_start_fresh N P u (x ∷ xs) e ws l f d = rw l.0 (Distinct-apart ws x xs d)
-
-pub after_start : (N P : List ℕ) (u : ℕ) (xs : List ℕ) (e k : ℕ) → Links N P u xs e → k ≢ e → Fresh k xs → get_or N u 0 ≢ k
-after_start N P u [] e k l ke f q = ke (sym q ∙ l.0)
-after_start N P u (x ∷ xs) e k l ke f q = f.0 (sym q ∙ l.0)
 
 -- ---- the list that is kept
 

@@ -6,19 +6,9 @@ use Rattle.std.proofs.lemmas.Bool.Decides.{eqb_tells}
 use Rattle.std.proofs.lemmas.Map.Steps.{length-le_from_distinct_below}
 use Rattle.endpoint_list.specs.declared.TheConstants.{NODES}
 use Rattle.endpoint_list.specs.NodeList.{has, IsDistinct, IsNodeList}
-use Rattle.endpoint_list.specs.Links.{Fresh, Distinct, Below, IsKept}
-
-pub Fresh-append : (k : ℕ) (xs ys : List ℕ) → Fresh k xs → Fresh k ys → Fresh k (xs ++ ys)
-Fresh-append k [] ys h g = g
-Fresh-append k (x ∷ xs) ys h g = (h.0, Fresh-append k xs ys h.1 g)
-
-pub Fresh-left : (k : ℕ) (xs ys : List ℕ) → Fresh k (xs ++ ys) → Fresh k xs
-Fresh-left k [] ys h = tt
-Fresh-left k (x ∷ xs) ys h = (h.0, Fresh-left k xs ys h.1)
-
-pub Fresh-right : (k : ℕ) (xs ys : List ℕ) → Fresh k (xs ++ ys) → Fresh k ys
-Fresh-right k [] ys h = h
-Fresh-right k (x ∷ xs) ys h = Fresh-right k xs ys h.1
+use Rattle.fixed_box.specs.Links.{Fresh, Distinct, Below}
+use Rattle.fixed_box.specs.LinkLaws.{Fresh-append}
+use Rattle.endpoint_list.specs.Links.{IsKept}
 
 pub Distinct-push : (xs : List ℕ) (y : ℕ) → Distinct xs → Fresh y xs → Distinct (xs ++ y ∷ [])
 Distinct-push [] y d f = (tt, tt)
@@ -32,30 +22,6 @@ pub Below-Fresh : (n : ℕ) (xs : List ℕ) → Below n xs → Fresh n xs
 Below-Fresh n [] b = tt
 Below-Fresh n (x ∷ xs) b = ((λ e. absurd (omega arith)), Below-Fresh n xs b.1)
 
-pub Distinct-left : (xs ys : List ℕ) → Distinct (xs ++ ys) → Distinct xs
-Distinct-left [] ys d = tt
-Distinct-left (x ∷ xs) ys d = (Fresh-left x xs ys d.0, Distinct-left xs ys d.1)
-
-pub Distinct-right : (xs ys : List ℕ) → Distinct (xs ++ ys) → Distinct ys
-Distinct-right [] ys d = d
-Distinct-right (x ∷ xs) ys d = Distinct-right xs ys d.1
-
-pub Fresh-here : (k x : ℕ) (xs ys : List ℕ) → Fresh k (xs ++ x ∷ ys) → k ≢ x
-Fresh-here k x [] ys f = f.0
-Fresh-here k x (y ∷ xs) ys f = Fresh-here k x xs ys f.1
-
-pub Distinct-apart : (xs : List ℕ) (k : ℕ) (ys : List ℕ) → Distinct (xs ++ k ∷ ys) → Fresh k xs
-Distinct-apart [] k ys d = tt
-Distinct-apart (x ∷ xs) k ys d = ((λ e. Fresh-here x k xs ys d.0 (sym e)), Distinct-apart xs k ys d.1)
-
--- without the one in the middle
-pub Fresh-without : (k x : ℕ) (xs ys : List ℕ) → Fresh k (xs ++ x ∷ ys) → Fresh k (xs ++ ys)
-Fresh-without k x xs ys f = Fresh-append k xs ys (Fresh-left k xs (x ∷ ys) f) (Fresh-right k xs (x ∷ ys) f).1
-
-pub Distinct-without : (xs : List ℕ) (k : ℕ) (ys : List ℕ) → Distinct (xs ++ k ∷ ys) → Distinct (xs ++ ys)
-Distinct-without [] k ys d = d.1
-Distinct-without (x ∷ xs) k ys d = (Fresh-without x k xs ys d.0, Distinct-without xs k ys d.1)
-
 pub Fresh-swap : (k a b : ℕ) (xs ys : List ℕ) → Fresh k (xs ++ a ∷ b ∷ ys) → Fresh k (xs ++ b ∷ a ∷ ys)
 Fresh-swap k a b [] ys f = (f.1.0, (f.0, f.1.1))
 Fresh-swap k a b (x ∷ xs) ys f = (f.0, Fresh-swap k a b xs ys f.1)
@@ -64,44 +30,13 @@ pub Distinct-swap : (xs : List ℕ) (a b : ℕ) (ys : List ℕ) → Distinct (xs
 Distinct-swap [] a b ys d = (((λ e. d.0.0 (sym e)), d.1.0), (d.0.1, d.1.1))
 Distinct-swap (x ∷ xs) a b ys d = (Fresh-swap x a b xs ys d.0, Distinct-swap xs a b ys d.1)
 
-pub Below-left : (n : ℕ) (xs ys : List ℕ) → Below n (xs ++ ys) → Below n xs
-Below-left n [] ys b = tt
-Below-left n (x ∷ xs) ys b = (b.0, Below-left n xs ys b.1)
-
-pub Below-right : (n : ℕ) (xs ys : List ℕ) → Below n (xs ++ ys) → Below n ys
-Below-right n [] ys b = b
-Below-right n (x ∷ xs) ys b = Below-right n xs ys b.1
-
 pub Below-swap : (n : ℕ) (xs : List ℕ) (a b : ℕ) (ys : List ℕ) → Below n (xs ++ a ∷ b ∷ ys) → Below n (xs ++ b ∷ a ∷ ys)
 Below-swap n [] a b ys l = (l.1.0, (l.0, l.1.1))
 Below-swap n (x ∷ xs) a b ys l = (l.0, Below-swap n xs a b ys l.1)
 
-pub Below-weaker : (m n : ℕ) (xs : List ℕ) → m ≤ n → Below m xs → Below n xs
-Below-weaker m n [] l b = tt
-Below-weaker m n (x ∷ xs) l b = (omega arith, Below-weaker m n xs l b.1)
-
 pub Below-without : (n : ℕ) (xs : List ℕ) (k : ℕ) (ys : List ℕ) → Below n (xs ++ k ∷ ys) → Below n (xs ++ ys)
 Below-without n [] k ys b = b.1
 Below-without n (x ∷ xs) k ys b = (b.0, Below-without n xs k ys b.1)
-
-not_in : (x : ℕ) (xs : List ℕ) → Fresh x xs → AllByRecursion (λ y. eqb x y ≡ false) xs
-not_in x [] f = tt
-not_in x (y ∷ ys) f = (elim (eqb_tells x y) as (λ _. eqb x y ≡ false) [ inl h ↦ absurd (f.0 h.1) | inr h ↦ h.0 ], not_in x ys f.1)
-
-distinct_is : (xs : List ℕ) → Distinct xs → AreDistinct eqb xs
-unfolding AreDistinct
-distinct_is [] d = tt
-distinct_is (x ∷ xs) d = (not_in x xs d.0, distinct_is xs d.1)
-
-below_any : (n q : ℕ) (xs : List ℕ) → Below n xs → list_any (eqb q) xs ≡ true → q < n
-below_any n q [] b h = cc
-below_any n q (x ∷ xs) b h = elim (eqb_tells q x) as (λ _. q < n) [
-  | inl t ↦ omega arith
-  | inr t ↦ below_any n q xs b.1 (rw t.0 at h)
-]
-
-pub length-le : (n : ℕ) (xs : List ℕ) → Distinct xs → Below n xs → length xs ≤ n
-length-le n xs d b = length-le_from_distinct_below xs n (distinct_is xs d) (λ q h. below_any n q xs b h)
 
 -- ---- the same in the words of clauses
 

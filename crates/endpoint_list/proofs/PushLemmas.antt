@@ -2,9 +2,11 @@
 use Rattle.std.proofs.Common.{◌≡◌, ◌≢◌, ℕ, ◌+◌, ◌<◌, ◌≤◌, List, [], ◌∷◌, ◌++◌, length, get_or, set, replicate, sym, ap, ◌∙◌, arith}
 use Rattle.std.proofs.lemmas.List.{get_or-set_same, get_or-set_other, length-set, length-replicate, get_or-replicate}
 use Rattle.endpoint_list.specs.declared.TheConstants.{NODES}
-use Rattle.endpoint_list.specs.Links.{Fresh, Links, Below, IsKept, pushed_next, pushed_prev}
-use Rattle.endpoint_list.proofs.NodeLemmas.{Below-weaker, Below-Fresh, Below-push, Distinct-push, Fresh-left, Fresh-right}
-use Rattle.endpoint_list.proofs.LinkLemmas.{before_end, before_end_below, retarget_last, frame_next, frame_prev, Links-append}
+use Rattle.fixed_box.specs.Links.{Fresh, Below, Links}
+use Rattle.fixed_box.specs.LinkLaws.{Fresh-left, Fresh-right, Below-weaker, frame_next, frame_prev, before_end, retarget_last, Links-append}
+use Rattle.endpoint_list.specs.Links.{IsKept, pushed_next, pushed_prev}
+use Rattle.endpoint_list.proofs.NodeLemmas.{Below-Fresh, Below-push, Distinct-push}
+use Rattle.endpoint_list.proofs.LinkLemmas.{before_end_below}
 
 pub started : (N P : List ℕ) → N ≡ set (replicate (NODES + 1) (NODES + 1)) NODES NODES → P ≡ replicate (NODES + 1) NODES → IsKept N P []
 started N P n p =

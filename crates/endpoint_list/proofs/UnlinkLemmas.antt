@@ -3,10 +3,11 @@ use Rattle.std.proofs.Common.{◌≡◌, ◌≢◌, ℕ, ◌+◌, List, [], ◌�
 use Rattle.std.proofs.lemmas.List.{get_or-set_same, get_or-set_other, length-set}
 use Rattle.std.proofs.lemmas.Bool.{cases_eq}
 use Rattle.endpoint_list.specs.declared.TheConstants.{NODES}
-use Rattle.endpoint_list.specs.Links.{Fresh, Distinct, Links, Below, IsKept, unlinked_next, unlinked_prev}
-use Rattle.endpoint_list.proofs.NodeLemmas.{Below-weaker, Below-Fresh, Below-left, Below-right, Below-without, Distinct-left}
-use Rattle.endpoint_list.proofs.NodeLemmas.{Distinct-right, Distinct-apart, Distinct-without, Fresh-append, Fresh-left, Fresh-right}
-use Rattle.endpoint_list.proofs.LinkLemmas.{before_end, before_end_fresh, retarget_last, frame_next, frame_prev, Links-append, Links-left, Links-right}
+use Rattle.fixed_box.specs.Links.{Fresh, Distinct, Below, Links}
+use Rattle.fixed_box.specs.LinkLaws.{Fresh-append, Fresh-left, Fresh-right, Distinct-left, Distinct-right, Distinct-apart, Distinct-without, Below-left, Below-right, Below-weaker, frame_next, frame_prev, before_end, retarget_last, Links-append, Links-left, Links-right}
+use Rattle.endpoint_list.specs.Links.{IsKept, unlinked_next, unlinked_prev}
+use Rattle.endpoint_list.proofs.NodeLemmas.{Below-Fresh, Below-without}
+use Rattle.endpoint_list.proofs.LinkLemmas.{before_end_fresh}
 
 -- the links around the node join
 bridge : (N P ys : List ℕ) (a : ℕ) (zs : List ℕ) (n : ℕ) → get_or N a 0 ≡ n → Links N P NODES ys a → Links N P a zs NODES → Distinct (ys ++ zs)

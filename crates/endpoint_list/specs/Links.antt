@@ -1,6 +1,7 @@
 -- This file only serves proofs: the links that keep a list. The node NODES stands before the first and behind the last.
 use Rattle.std.specs.Prelude.{◌≡◌, ◌≢◌, ℕ, zero, suc, ◌+◌, ◌<◌, ◌==◌, nat_lt, if◌then◌else◌, List, [], ◌∷◌, length, slice_index, slice_set, Option, None, Some}
 use Rattle.endpoint_list.specs.declared.TheConstants.{NODES}
+use Rattle.fixed_box.specs.Links.{Fresh, Distinct, Below, Links}
 
 -- the nodes from u on, at most n
 unfoldable pub walk : List ℕ → ℕ → ℕ → List ℕ
@@ -14,26 +15,6 @@ listed next = walk next NODES (slice_index next NODES)
 -- a node's neighbour, or none where that is an end of the list
 abbrev pub neighbour : ℕ → Option ℕ
 neighbour n = if n == NODES then None else Some n
-
--- k is none of these
-abbrev pub Fresh : ℕ → List ℕ → Type 0
-Fresh k [] = Unit {0}
-Fresh k (x ∷ xs) = (k ≢ x) × Fresh k xs
-
--- no two of these are one
-abbrev pub Distinct : List ℕ → Type 0
-Distinct [] = Unit {0}
-Distinct (x ∷ xs) = Fresh x xs × Distinct xs
-
--- all are below n
-abbrev pub Below : ℕ → List ℕ → Type 0
-Below n [] = Unit {0}
-Below n (x ∷ xs) = (x < n) × Below n xs
-
--- from u through these to e, forward and back
-abbrev pub Links : List ℕ → List ℕ → ℕ → List ℕ → ℕ → Type 0
-Links next prev u [] e = (slice_index next u ≡ e) × (slice_index prev e ≡ u)
-Links next prev u (x ∷ xs) e = (slice_index next u ≡ x) × (slice_index prev x ≡ u) × Links next prev x xs e
 
 -- the links keep these nodes, and every other one has the mark of absence
 pub record IsKept (next prev nodes : List ℕ) : Type 0 where

@@ -1,6 +1,8 @@
 pub mod Bounds
 pub mod Decimal
 pub mod Fix
+pub mod LinkLaws
+pub mod Links
 pub mod Point
 pub mod Puts
 pub mod Rising

@@ -3,8 +3,9 @@ use Rattle.std.proofs.Common.{◌++◌, ◌∷◌, ◌∙◌, subst, arith}
 use Rattle.endpoint_list.specs.declared.TheConstants.{NODES}
 use Rattle.endpoint_list.specs.Links.{IsKept}
 use Rattle.endpoint_list.specs.NodeList.{IsNodeList}
-use Rattle.endpoint_list.proofs.NodeLemmas.{node_list, Below-right}
-use Rattle.endpoint_list.proofs.LinkLemmas.{first_read, beside, Links-right}
+use Rattle.fixed_box.specs.LinkLaws.{Below-right, Links-right}
+use Rattle.endpoint_list.proofs.NodeLemmas.{node_list}
+use Rattle.endpoint_list.proofs.LinkLemmas.{first_read, beside}
 use Rattle.endpoint_list.proofs.end_list.EndList.next.Goals as goal
 
 pub neighbour-requires : goal.neighbour-requires

@@ -1,6 +1,7 @@
 -- The links keep the list with the node behind the last.
 use Rattle.std.proofs.Common.{◌++◌, ◌∷◌, [], ◌∙◌, ap}
-use Rattle.endpoint_list.specs.Links.{Fresh, listed}
+use Rattle.fixed_box.specs.Links.{Fresh}
+use Rattle.endpoint_list.specs.Links.{listed}
 use Rattle.endpoint_list.specs.NodeList.{has}
 use Rattle.endpoint_list.proofs.NodeLemmas.{has_fresh}
 use Rattle.endpoint_list.proofs.LinkLemmas.{kept, seen, seen_list}
