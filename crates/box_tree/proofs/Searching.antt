@@ -1,15 +1,15 @@
 -- What descents find is what the map has, and which slots are sought.
-use Rattle.std.proofs.Common.{◌≡◌, ◌≢◌, ℕ, zero, suc, ◌+◌, ◌<◌, ◌≤◌, Bool, true, false, not, cond, ◌&&◌, ◌||◌, ◌==◌, Option, None, Some, is_some, List, [], ◌∷◌, ◌++◌}
-use Rattle.std.proofs.Common.{length, map, filter, replicate, get_or, refl, sym, ap, ◌∙◌, subst, arith, inl, inr, ⊎_elim, ◌⊎◌}
+use Rattle.std.proofs.Common.{◌≡◌, ◌≢◌, ℕ, zero, suc, ◌<◌, Bool, true, false, not, cond, ◌&&◌, ◌||◌, ◌==◌, Option, None, Some, is_some, List, [], ◌∷◌, ◌++◌}
+use Rattle.std.proofs.Common.{length, map, filter, replicate, get_or, refl, sym, ap, ◌∙◌, subst, arith, inl, inr, ⊎_elim}
 use Rattle.std.specs.List.{All, Contains, list_any, sum, zip}
 use Rattle.std.specs.Ordering.{nat_cmp, eq_by_cmp}
 use Rattle.std.specs.FinMap.{FinMap, contains_key, get, entries, keys, contains_key-keys}
-use Rattle.std.proofs.lemmas.Bool.{cases_eq, cases_Bool, and_parts, false≢true, eq-eqb, eqb-true}
+use Rattle.std.proofs.lemmas.Bool.{cases_eq, cases_Bool, and_parts, eq-eqb}
 use Rattle.std.proofs.lemmas.Bool.Decides.{nat_tests}
 use Rattle.std.proofs.lemmas.List.Elements.{All-weaker, All-contains_itself, Contains-append_left, Contains-append_right, Contains-append_cases}
 use Rattle.std.proofs.lemmas.List.Folds.{list_any_at}
 use Rattle.fixed_box.specs.declared.TheConstants.{SLOTS}
-use Rattle.fixed_box.specs.Bounds.{Bounds, meets, encloses}
+use Rattle.fixed_box.specs.Bounds.{Bounds, meets}
 use Rattle.slot_search.specs.Reach.{reach, reach_of}
 use Rattle.broad_index.specs.declared.pair.Pair.{Pair}
 use Rattle.broad_index.specs.declared.query.Query.{Query}
@@ -24,8 +24,8 @@ use Rattle.tree_nodes.specs.Tree.{Tree, Leaf, tip, fork, leaves, leaves_in}
 use Rattle.box_tree.specs.Boxes.{Boxes, visits_for, cost, sought, raised, searched, untouched}
 use Rattle.box_tree.specs.Descent.{entry_of, exact, exact_in, IsLeafInside, IsInside, IsInsideIn}
 use Rattle.box_tree.specs.Searches.{sought_from, reached_by, reached_in, searches}
-use Rattle.box_tree.specs.SlotMap.{map_of, entries_from}
-use Rattle.box_tree.specs.Ties.{Ties, Sound}
+use Rattle.box_tree.specs.SlotMap.{map_of}
+use Rattle.box_tree.specs.Ties.{Sound}
 use Rattle.box_tree.proofs.SlotMapLemmas.{get_map, entries_of_map, tie_same, tie_other}
 use Rattle.box_tree.proofs.LeafTies.{some_there}
 use Rattle.box_tree.proofs.Soundness.{within, sound_paired}

@@ -1,5 +1,5 @@
 -- What stands at the slot is what the maps have.
-use Rattle.std.proofs.Common.{◌≡◌, ◌<◌, ◌≤◌, ◌∙◌, arith, sym, ap, subst, get_or, None, Some}
+use Rattle.std.proofs.Common.{arith, sym, ap, None}
 use Rattle.std.proofs.lemmas.List.{get_or_read}
 use Rattle.box_tree.proofs.Fats.{past, fat_viewed, none_viewed, inside_viewed}
 use Rattle.box_tree.proofs.tree.BoxTree.fat_of.Goals as goal

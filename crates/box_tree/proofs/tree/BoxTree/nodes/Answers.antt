@@ -1,5 +1,5 @@
 -- The leaves are tied to the fat boxes, and these to the boxes.
-use Rattle.std.proofs.Common.{◌≡◌, ap}
+use Rattle.std.proofs.Common.{ap}
 use Rattle.box_tree.proofs.Fats.{fats_held, both_present}
 use Rattle.box_tree.proofs.tree.BoxTree.nodes.Goals as goal
 

@@ -1,13 +1,10 @@
 -- The slot has a box, a fat box and a leaf.
-use Rattle.std.proofs.Common.{◌≡◌, ◌<◌, ◌∙◌, arith, sym, ap, subst, set, get_or, None, Some, true}
-use Rattle.std.proofs.lemmas.List.{get_or_read}
-use Rattle.fixed_box.specs.declared.TheConstants.{SLOTS}
+use Rattle.std.proofs.Common.{◌<◌, ◌∙◌, sym, ap, subst, set, Some, true}
 use Rattle.fixed_box.specs.Bounds.{fattened}
 use Rattle.box_tree.specs.declared.TheConstants.{MARGIN}
-use Rattle.box_tree.specs.Boxes.{is_inside}
 use Rattle.box_tree.specs.SlotMap.{map_of}
 use Rattle.box_tree.specs.Ties.{Sound, Ties}
-use Rattle.box_tree.proofs.Changes.{present_small, present_fat, absent_fat, put_viewed, take_viewed, inside_told, outside_told, inside_shifted, outside_shifted, sound_inside, sound_put, sound_taken}
+use Rattle.box_tree.proofs.Changes.{absent_fat, put_viewed, sound_put}
 use Rattle.box_tree.proofs.tree.BoxTreeBroadPhase.add.Goals as goal
 
 pub add_leaf-requires-clause-absent : goal.add_leaf-requires-clause-absent

@@ -1,5 +1,4 @@
 -- What the descent finds is what the map has.
-use Rattle.std.proofs.Common.{◌≡◌}
 use Rattle.box_tree.proofs.Searching.{inside_of, found_viewed}
 use Rattle.box_tree.proofs.tree.BoxTreeBroadPhase.hits.Goals as goal
 

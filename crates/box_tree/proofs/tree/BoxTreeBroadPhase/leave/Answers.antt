@@ -1,11 +1,8 @@
 -- The slot, its leaf and its fat box go.
-use Rattle.std.proofs.Common.{◌≡◌, ◌<◌, ◌∙◌, arith, sym, ap, subst, set, get_or, None, Some, true}
-use Rattle.std.proofs.lemmas.List.{get_or_read}
-use Rattle.fixed_box.specs.declared.TheConstants.{SLOTS}
-use Rattle.box_tree.specs.Boxes.{is_inside}
+use Rattle.std.proofs.Common.{◌<◌, ◌∙◌, arith, sym, ap, subst, set, None, true}
 use Rattle.box_tree.specs.SlotMap.{map_of}
 use Rattle.box_tree.specs.Ties.{Sound, Ties}
-use Rattle.box_tree.proofs.Changes.{present_small, present_fat, absent_fat, put_viewed, take_viewed, inside_told, outside_told, inside_shifted, outside_shifted, sound_inside, sound_put, sound_taken}
+use Rattle.box_tree.proofs.Changes.{present_small, present_fat, take_viewed, sound_taken}
 use Rattle.box_tree.proofs.tree.BoxTreeBroadPhase.leave.Goals as goal
 
 pub index_mut-requires : goal.index_mut-requires

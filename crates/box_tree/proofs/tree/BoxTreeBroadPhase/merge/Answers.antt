@@ -1,5 +1,5 @@
 -- The lists of what touched slots reach renew the pairs.
-use Rattle.std.proofs.Common.{◌≡◌, ◌∙◌, sym, ap, subst, map}
+use Rattle.std.proofs.Common.{◌∙◌, ap, map}
 use Rattle.std.specs.List.{sum}
 use Rattle.box_tree.specs.Boxes.{Boxes, raised, cost, sought}
 use Rattle.box_tree.specs.SlotMap.{map_of}

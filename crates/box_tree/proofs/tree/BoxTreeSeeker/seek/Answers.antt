@@ -1,5 +1,4 @@
 -- What the descent reaches is what the map has.
-use Rattle.std.proofs.Common.{◌≡◌}
 use Rattle.box_tree.proofs.Searching.{inside_of, reached_viewed, cost_viewed}
 use Rattle.box_tree.proofs.tree.BoxTreeSeeker.seek.Goals as goal
 
