@@ -10,7 +10,8 @@ use Rattle.broad_index.specs.Found.{query_meets, found_of}
 use Rattle.broad_index.specs.Members.{meets_query}
 use Rattle.tree_nodes.specs.declared.node_view.NodeView.{NodeView}
 use Rattle.tree_nodes.specs.Tree.{Tree, tip, fork, top, leaves, Leaf, height, bounds, view_of, view_in, IsTree, Balanced, Within}
-use Rattle.box_tree.specs.Descent.{visits_by, visits_by_in, entry_of, exact, exact_in, IsInside, IsNodeInside, all_leaves, all_visits, tops, AreLow, AllWithin, Stands, Popped, Laws, found_at, next_at}
+use Rattle.box_tree.specs.Descent.{visits_by, visits_by_in, entry_of, exact, exact_in, IsInside, IsNodeInside, all_leaves, all_visits, tops}
+use Rattle.box_tree.specs.Descent.{AreLow, AllWithin, Stands, Popped, Laws, found_at, next_at}
 
 pub found_append : (q : Query) (es fs : List (ℕ × Bounds)) → found_of (es ++ fs) q ≡ found_of es q ++ found_of fs q
 found_append q es fs =

@@ -218,7 +218,9 @@ are_marked marks m k h =
     and_yes false = refl
 
 pub marked_present : (marks : List Bool) (m : FinMap nat_cmp Bounds) → All (λ slot. contains_key m slot ≡ true) (marked_of marks m)
-marked_present marks m = All-weaker (Contains (marked_of marks m)) (λ slot. contains_key m slot ≡ true) each (marked_of marks m) (All-contains_itself (marked_of marks m))
+marked_present marks m =
+    All-weaker (Contains (marked_of marks m)) (λ slot. contains_key m slot ≡ true) each (marked_of marks m)
+    (All-contains_itself (marked_of marks m))
   where
     each : (x : ℕ) → Contains (marked_of marks m) x → contains_key m x ≡ true
     each x c =
@@ -239,13 +241,20 @@ abbrev pub seen : Option Tree → List (Option Bounds) → List (Option Bounds) 
 seen o bodies fats marks looked = record { bodies = map_of bodies; fats = map_of fats; tree = o; touched = marks; looked = looked }
 
 -- what a call of `pairs` leaves
-pub same_searched : (o : Option Tree) (bodies fats : List (Option Bounds)) (marks touched : List Bool) (looked n : ℕ) (v : Boxes) → seen o bodies fats marks looked ≡ v
+pub same_searched : (o : Option Tree) (bodies fats : List (Option Bounds)) (marks touched : List Bool) (looked n : ℕ) (v : Boxes)
+    → seen o bodies fats marks looked ≡ v
     → length marks ≡ SLOTS → touched ≡ replicate (length marks) false → n ≡ raised v.looked (sum (map (cost v) (sought v)))
     → seen o bodies fats touched n ≡ searched v
 same_searched o bodies fats marks touched looked n v view len et en =
     let t : touched ≡ untouched = et ∙ ap (λ k. replicate k false) len in
     ap (λ x. seen o bodies fats x n) t ∙ ap (λ x. seen o bodies fats untouched x) en
-    ∙ ap (λ (b : Boxes). record { bodies = b.bodies; fats = b.fats; tree = b.tree; touched = untouched; looked = raised v.looked (sum (map (cost v) (sought v))) }) view
+    ∙ ap (λ (b : Boxes). record {
+      bodies = b.bodies;
+      fats = b.fats;
+      tree = b.tree;
+      touched = untouched;
+      looked = raised v.looked (sum (map (cost v) (sought v)));
+    }) view
 
 pub costs_viewed : (o : Option Tree) (bodies fats : List (Option Bounds)) (marks : List Bool) (looked n : ℕ) (v : Boxes) → seen o bodies fats marks looked ≡ v
     → n ≡ raised looked (sum (map (λ k. visits_for o (get_or bodies k None)) (sought_from marks 0 bodies)))
