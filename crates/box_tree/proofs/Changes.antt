@@ -1,6 +1,6 @@
 -- What a change of one slot leaves of a tree of fat boxes.
-use Rattle.std.proofs.Common.{◌≡◌, ◌≢◌, ℕ, ◌<◌, Bool, true, false, cond, ◌==◌, Option, None, Some, is_some, List}
-use Rattle.std.proofs.Common.{length, get_or, set, refl, sym, ap, ◌∙◌, subst, arith}
+use Rattle.std.proofs.Common.{◌≡◌, ℕ, ◌<◌, Bool, true, false, cond, ◌==◌, Option, None, Some, is_some, List}
+use Rattle.std.proofs.Common.{length, get_or, set, refl, sym, ap, ◌∙◌, subst}
 use Rattle.std.specs.Ordering.{nat_cmp}
 use Rattle.std.specs.FinMap.{FinMap, contains_key, get, insert, remove}
 use Rattle.std.proofs.lemmas.Bool.{false≢true}
@@ -11,13 +11,12 @@ use Rattle.broad_index.specs.declared.pair.Pair.{Pair}
 use Rattle.broad_index.specs.Members.{is_near}
 use Rattle.tree_nodes.specs.Tree.{Tree}
 use Rattle.box_tree.specs.declared.TheConstants.{MARGIN}
-use Rattle.box_tree.specs.declared.moved.Moved.{Moved}
 use Rattle.box_tree.specs.declared.moved.Moved.TheVariants.{Inside, Relinked}
 use Rattle.box_tree.specs.Boxes.{is_inside, shifted, told}
 use Rattle.fixed_box.specs.SlotMap.{map_of}
-use Rattle.box_tree.specs.Ties.{Ties, AreFat, Sound}
+use Rattle.box_tree.specs.Ties.{Ties, Sound}
 use Rattle.fixed_box.specs.SlotMapLaws.{get_map, map_put, map_take}
-use Rattle.box_tree.proofs.Soundness.{within, is_some_map, none_there, fat_inside, fat_put, fat_taken, sound_changed}
+use Rattle.box_tree.proofs.Soundness.{within, none_there, fat_inside, fat_put, fat_taken, sound_changed}
 
 abbrev pub Inserted : Type 0
 Inserted = (bodies : FinMap nat_cmp Bounds) (k : ℕ) (v : Bounds) (p : Pair) → (p.a == k) ≡ false → (p.b == k) ≡ false

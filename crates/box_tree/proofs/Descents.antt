@@ -1,6 +1,6 @@
 -- The steps of a descent with a query.
-use Rattle.std.proofs.Common.{◌≡◌, ◌≢◌, ℕ, zero, suc, ◌+◌, ◌<◌, ◌≤◌, ◌*◌, max, Bool, true, false, cond, Option, None, Some, IsSome, List, [], ◌∷◌, ◌++◌}
-use Rattle.std.proofs.Common.{map, length, get_or, length-append, append_assoc, refl, sym, ap, ◌∙◌, subst, arith, rules, inl, inr, ⊎_elim, ◌⊎◌}
+use Rattle.std.proofs.Common.{◌≡◌, ℕ, ◌+◌, ◌<◌, ◌≤◌, max, true, false, cond, Option, None, Some, List, [], ◌∷◌, ◌++◌}
+use Rattle.std.proofs.Common.{map, length, get_or, length-append, append_assoc, refl, sym, ap, ◌∙◌, subst, arith, ⊎_elim}
 use Rattle.std.specs.List.{filter}
 use Rattle.std.proofs.lemmas.List.{same_from_push, append-nil, length_push, map-append}
 use Rattle.std.proofs.lemmas.List.Elements.{filter-append}
@@ -9,9 +9,9 @@ use Rattle.broad_index.specs.declared.query.Query.{Query}
 use Rattle.broad_index.specs.Found.{query_meets, found_of}
 use Rattle.broad_index.specs.Members.{meets_query}
 use Rattle.tree_nodes.specs.declared.node_view.NodeView.{NodeView}
-use Rattle.tree_nodes.specs.declared.node_view.NodeView.TheVariants.{Leaf as LeafNode, Inner}
-use Rattle.tree_nodes.specs.Tree.{Tree, tip, fork, top, leaves, Leaf, height, bounds, count_of, view_of, view_at, view_in, IsTree, Balanced, Within}
-use Rattle.box_tree.specs.Descent.{visits_by, visits_by_in, entry_of, exact, exact_in, IsLeafInside, IsInside, IsNodeInside, all_leaves, all_visits, tops, AreLow, AllWithin, Stands, Popped, Laws, found_at, next_at}
+use Rattle.tree_nodes.specs.Tree.{Tree, tip, fork, top, leaves, Leaf, height, bounds, view_of, view_in, IsTree, Balanced, Within}
+use Rattle.box_tree.specs.Descent.{visits_by, visits_by_in, entry_of, exact, exact_in, IsInside, IsNodeInside, all_leaves, all_visits, tops}
+use Rattle.box_tree.specs.Descent.{AreLow, AllWithin, Stands, Popped, Laws, found_at, next_at}
 
 pub found_append : (q : Query) (es fs : List (ℕ × Bounds)) → found_of (es ++ fs) q ≡ found_of es q ++ found_of fs q
 found_append q es fs =

@@ -1,9 +1,9 @@
 -- Fat boxes as clauses see them.
-use Rattle.std.proofs.Common.{◌≡◌, ℕ, zero, suc, ◌<◌, ◌≤◌, ◌+◌, Bool, true, false, Option, None, Some, is_some, IfSome, List, [], ◌∷◌, ◌++◌, length, map, get_or, refl, sym, ap, ◌∙◌, subst, arith}
+use Rattle.std.proofs.Common.{◌≡◌, ℕ, zero, suc, ◌<◌, ◌≤◌, true, false, Option, None, Some, is_some, IfSome, List, [], ◌∷◌, length, map}
+use Rattle.std.proofs.Common.{get_or, refl, sym, ap, ◌∙◌, subst, arith}
 use Rattle.std.specs.Ordering.{nat_cmp}
 use Rattle.std.specs.FinMap.{FinMap, contains_key, get}
 use Rattle.std.specs.List.{Contains}
-use Rattle.std.proofs.lemmas.Bool.{false≢true}
 use Rattle.std.proofs.lemmas.List.Elements.{Contains-append_right}
 use Rattle.fixed_box.specs.Bounds.{Bounds, encloses}
 use Rattle.broad_index.specs.Held.{Holds}
@@ -11,7 +11,6 @@ use Rattle.tree_nodes.specs.Tree.{Tree, Leaf, leaves_in}
 use Rattle.box_tree.specs.Boxes.{fat_entry}
 use Rattle.fixed_box.specs.SlotMap.{map_of}
 use Rattle.box_tree.specs.Ties.{Ties, AreFat}
-use Rattle.fixed_box.specs.SlotMapLaws.{get_map}
 use Rattle.box_tree.proofs.Changes.{get_viewed, has_viewed}
 use Rattle.box_tree.proofs.Soundness.{none_there}
 

@@ -1,5 +1,5 @@
 -- How leaves stay tied to slots while one of them comes, goes or has another box.
-use Rattle.std.proofs.Common.{◌≡◌, ◌≢◌, ℕ, zero, suc, ◌+◌, ◌<◌, ◌≤◌, Bool, true, false, cond, eqb, Option, None, Some, is_some, List, [], ◌∷◌, ◌++◌}
+use Rattle.std.proofs.Common.{◌≡◌, ◌≢◌, ℕ, zero, suc, ◌+◌, ◌<◌, ◌≤◌, true, false, cond, eqb, Option, None, Some, is_some, List, [], ◌∷◌}
 use Rattle.std.proofs.Common.{length, map, get_or, set, refl, sym, ap, ◌∙◌, subst, arith, inl, inr, ⊎_elim, ◌⊎◌}
 use Rattle.std.specs.List.{All, Contains, sum_by, count_by}
 use Rattle.std.specs.List.Sorted.{IsPermutation}
@@ -13,7 +13,7 @@ use Rattle.fixed_box.specs.declared.TheConstants.{SLOTS}
 use Rattle.fixed_box.specs.Bounds.{Bounds}
 use Rattle.tree_nodes.specs.declared.node_view.NodeView.TheVariants.{Leaf as LeafNode}
 use Rattle.tree_nodes.specs.Moved.{leaf_moved}
-use Rattle.tree_nodes.specs.Tree.{Tree, Leaf, leaves, leaves_in, one, count_of, view_at, view_in, IsTreeIn, IsLeafOf}
+use Rattle.tree_nodes.specs.Tree.{Tree, Leaf, leaves, leaves_in, one, count_of, view_at, view_in, IsTreeIn}
 use Rattle.box_tree.specs.Ties.{Ties}
 
 abbrev flag : {X : Type 0} → Option X → ℕ

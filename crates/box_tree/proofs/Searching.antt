@@ -1,15 +1,15 @@
 -- What descents find is what the map has, and which slots are sought.
-use Rattle.std.proofs.Common.{◌≡◌, ◌≢◌, ℕ, zero, suc, ◌+◌, ◌<◌, ◌≤◌, Bool, true, false, not, cond, ◌&&◌, ◌||◌, ◌==◌, Option, None, Some, is_some, List, [], ◌∷◌, ◌++◌}
-use Rattle.std.proofs.Common.{length, map, filter, replicate, get_or, refl, sym, ap, ◌∙◌, subst, arith, inl, inr, ⊎_elim, ◌⊎◌}
+use Rattle.std.proofs.Common.{◌≡◌, ◌≢◌, ℕ, zero, suc, ◌<◌, Bool, true, false, not, cond, ◌&&◌, ◌||◌, ◌==◌, Option, None, Some, is_some, List, [], ◌∷◌, ◌++◌}
+use Rattle.std.proofs.Common.{length, map, filter, replicate, get_or, refl, sym, ap, ◌∙◌, subst, arith, inl, inr, ⊎_elim}
 use Rattle.std.specs.List.{All, Contains, list_any, sum, zip}
 use Rattle.std.specs.Ordering.{nat_cmp, eq_by_cmp}
 use Rattle.std.specs.FinMap.{FinMap, contains_key, get, entries, keys, contains_key-keys}
-use Rattle.std.proofs.lemmas.Bool.{cases_eq, cases_Bool, and_parts, false≢true, eq-eqb, eqb-true}
+use Rattle.std.proofs.lemmas.Bool.{cases_eq, cases_Bool, and_parts, eq-eqb}
 use Rattle.std.proofs.lemmas.Bool.Decides.{nat_tests}
 use Rattle.std.proofs.lemmas.List.Elements.{All-weaker, All-contains_itself, Contains-append_left, Contains-append_right, Contains-append_cases}
 use Rattle.std.proofs.lemmas.List.Folds.{list_any_at}
 use Rattle.fixed_box.specs.declared.TheConstants.{SLOTS}
-use Rattle.fixed_box.specs.Bounds.{Bounds, meets, encloses}
+use Rattle.fixed_box.specs.Bounds.{Bounds, meets}
 use Rattle.slot_search.specs.Reach.{reach, reach_of}
 use Rattle.broad_index.specs.declared.pair.Pair.{Pair}
 use Rattle.broad_index.specs.declared.query.Query.{Query}
@@ -24,8 +24,8 @@ use Rattle.tree_nodes.specs.Tree.{Tree, Leaf, tip, fork, leaves, leaves_in}
 use Rattle.box_tree.specs.Boxes.{Boxes, visits_for, cost, sought, raised, searched, untouched}
 use Rattle.box_tree.specs.Descent.{entry_of, exact, exact_in, IsLeafInside, IsInside, IsInsideIn}
 use Rattle.box_tree.specs.Searches.{sought_from, reached_by, reached_in, searches}
-use Rattle.fixed_box.specs.SlotMap.{map_of, entries_from}
-use Rattle.box_tree.specs.Ties.{Ties, Sound}
+use Rattle.fixed_box.specs.SlotMap.{map_of}
+use Rattle.box_tree.specs.Ties.{Sound}
 use Rattle.fixed_box.specs.SlotMapLaws.{get_map, entries_of_map, tie_same, tie_other}
 use Rattle.box_tree.proofs.LeafTies.{some_there}
 use Rattle.box_tree.proofs.Soundness.{within, sound_paired}
@@ -218,7 +218,9 @@ are_marked marks m k h =
     and_yes false = refl
 
 pub marked_present : (marks : List Bool) (m : FinMap nat_cmp Bounds) → All (λ slot. contains_key m slot ≡ true) (marked_of marks m)
-marked_present marks m = All-weaker (Contains (marked_of marks m)) (λ slot. contains_key m slot ≡ true) each (marked_of marks m) (All-contains_itself (marked_of marks m))
+marked_present marks m =
+    All-weaker (Contains (marked_of marks m)) (λ slot. contains_key m slot ≡ true) each (marked_of marks m)
+    (All-contains_itself (marked_of marks m))
   where
     each : (x : ℕ) → Contains (marked_of marks m) x → contains_key m x ≡ true
     each x c =
@@ -239,13 +241,20 @@ abbrev pub seen : Option Tree → List (Option Bounds) → List (Option Bounds) 
 seen o bodies fats marks looked = record { bodies = map_of bodies; fats = map_of fats; tree = o; touched = marks; looked = looked }
 
 -- what a call of `pairs` leaves
-pub same_searched : (o : Option Tree) (bodies fats : List (Option Bounds)) (marks touched : List Bool) (looked n : ℕ) (v : Boxes) → seen o bodies fats marks looked ≡ v
+pub same_searched : (o : Option Tree) (bodies fats : List (Option Bounds)) (marks touched : List Bool) (looked n : ℕ) (v : Boxes)
+    → seen o bodies fats marks looked ≡ v
     → length marks ≡ SLOTS → touched ≡ replicate (length marks) false → n ≡ raised v.looked (sum (map (cost v) (sought v)))
     → seen o bodies fats touched n ≡ searched v
 same_searched o bodies fats marks touched looked n v view len et en =
     let t : touched ≡ untouched = et ∙ ap (λ k. replicate k false) len in
     ap (λ x. seen o bodies fats x n) t ∙ ap (λ x. seen o bodies fats untouched x) en
-    ∙ ap (λ (b : Boxes). record { bodies = b.bodies; fats = b.fats; tree = b.tree; touched = untouched; looked = raised v.looked (sum (map (cost v) (sought v))) }) view
+    ∙ ap (λ (b : Boxes). record {
+      bodies = b.bodies;
+      fats = b.fats;
+      tree = b.tree;
+      touched = untouched;
+      looked = raised v.looked (sum (map (cost v) (sought v)));
+    }) view
 
 pub costs_viewed : (o : Option Tree) (bodies fats : List (Option Bounds)) (marks : List Bool) (looked n : ℕ) (v : Boxes) → seen o bodies fats marks looked ≡ v
     → n ≡ raised looked (sum (map (λ k. visits_for o (get_or bodies k None)) (sought_from marks 0 bodies)))

@@ -1,11 +1,11 @@
 -- How the parts of a tree of fat boxes stay sound while one slot is touched.
-use Rattle.std.proofs.Common.{◌≡◌, ◌≢◌, ℕ, zero, suc, ◌+◌, ◌<◌, Bool, true, false, not, cond, eqb, nat_lt, ◌&&◌, ◌==◌, Option, None, Some, is_some, List, [], ◌∷◌}
-use Rattle.std.proofs.Common.{length, replicate, get_or, set, refl, sym, ap, ◌∙◌, subst, arith, inl, inr, ⊎_elim, ◌⊎◌}
+use Rattle.std.proofs.Common.{◌≡◌, ◌≢◌, ℕ, zero, suc, ◌<◌, Bool, true, false, not, cond, nat_lt, ◌&&◌, ◌==◌, Option, None, Some, is_some, List, [], ◌∷◌}
+use Rattle.std.proofs.Common.{length, replicate, get_or, set, refl, sym, ap, ◌∙◌, subst, arith, ⊎_elim, ◌⊎◌}
 use Rattle.std.specs.Ordering.{nat_cmp}
-use Rattle.std.specs.FinMap.{FinMap, contains_key, get, insert, remove, empty}
+use Rattle.std.specs.FinMap.{FinMap, contains_key, get, empty}
 use Rattle.std.proofs.lemmas.Bool.{cases_eq, and_parts, and_from, false≢true}
 use Rattle.std.proofs.lemmas.Bool.Decides.{nat_tests}
-use Rattle.std.proofs.lemmas.List.{get_or-set_same, get_or-set_other, length-set, length-replicate, get_or-replicate}
+use Rattle.std.proofs.lemmas.List.{get_or-set_same, get_or-set_other, length-set, length-replicate}
 use Rattle.std.specs.List.{count_by}
 use Rattle.std.proofs.lemmas.List.Sums.{sum_by-cons}
 use Rattle.fixed_box.specs.declared.TheConstants.{SLOTS}
@@ -13,9 +13,9 @@ use Rattle.fixed_box.specs.Bounds.{Bounds, encloses}
 use Rattle.broad_index.specs.declared.pair.Pair.{Pair}
 use Rattle.broad_index.specs.Members.{has_pair, is_near, both_meet}
 use Rattle.broad_index.specs.Near.{near, rises}
-use Rattle.broad_index.specs.Touched.{stays, AreKept}
+use Rattle.broad_index.specs.Touched.{AreKept}
 use Rattle.tree_nodes.specs.Tree.{Tree}
-use Rattle.box_tree.specs.Boxes.{Boxes, is_inside, untouched, no_boxes}
+use Rattle.box_tree.specs.Boxes.{Boxes, untouched, no_boxes}
 use Rattle.fixed_box.specs.SlotMap.{map_of}
 use Rattle.box_tree.specs.Ties.{Ties, AreFat, Sound}
 use Rattle.fixed_box.specs.SlotMapLaws.{get_map}

@@ -1,4 +1,5 @@
-ghost use Rattle.std.specs.Prelude.{◌≡◌, ◌↔◌, ℕ, ◌≤◌, ◌<◌, true, false, None, Some, Ok, IfOk, IfSome, IsTrue, length, map as mapped, slice_index_or, slice_set, refl};
+ghost use Rattle.std.specs.Prelude.{◌≡◌, ◌↔◌, ℕ, ◌≤◌, ◌<◌, true, false, None, Some, Ok, IfOk, IfSome};
+ghost use Rattle.std.specs.Prelude.{IsTrue, length, map as mapped, slice_index_or, slice_set, refl};
 ghost use Rattle.std.specs.FinMap as map;
 ghost use Rattle.fixed_box.specs.Bounds.{Bounds, encloses, fattened};
 ghost use Rattle.broad_index.specs.Fresh.{IsFresh};
@@ -52,7 +53,13 @@ impl Model for BoxTree {
 
     ghost coded = { coded_boxes };
 
-    ghost view = { λ t. record { bodies = map_of t.bodies.items; fats = map_of t.fats.items; tree = t.nodes; touched = t.marks.items; looked = t.looked } };
+    ghost view = { λ t. record {
+      bodies = map_of t.bodies.items;
+      fats = map_of t.fats.items;
+      tree = t.nodes;
+      touched = t.marks.items;
+      looked = t.looked;
+    } };
 
     ghost invariant = { λ t. Sound t.nodes t.bodies.items t.fats.items t.numbers.items t.marks.items t.kept.items };
 }
@@ -106,7 +113,8 @@ impl BoxTree {
     pub fn fat_of(&self, slot: u32) -> Option<FBox>
         ensures fat { result ≡ map.get self.now.fats slot }
         ensures none { (result ≡ None) ↔ (map.contains_key self.now.bodies slot ≡ false) }
-        ensures inside { (body : Bounds) → map.get self.now.bodies slot ≡ Some body → IfSome result (λ fat. IsTrue (encloses fat body)) }
+        ensures inside { (body : Bounds) → map.get self.now.bodies slot ≡ Some body →
+            IfSome result (λ fat. IsTrue (encloses fat body)) }
     {
         let slot = slot as usize;
         if slot < self.fats.len() {

@@ -1,5 +1,5 @@
 -- A fat box that is missed encloses no box that is met.
-use Rattle.std.proofs.Common.{◌≡◌, sym, ◌∙◌, None, slice_index_or}
+use Rattle.std.proofs.Common.{sym, ◌∙◌, None, slice_index_or}
 use Rattle.box_tree.proofs.Descents.{not_met}
 use Rattle.box_tree.proofs.descent.is_met.Goals as goal
 

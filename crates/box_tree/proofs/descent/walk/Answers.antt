@@ -1,5 +1,5 @@
 -- Each node adds what it finds, and puts its children onto the stack.
-use Rattle.std.proofs.Common.{◌≡◌, ◌≤◌, ◌<◌, ◌+◌, ◌-◌, [], ◌∷◌, ◌++◌, Bool, true, false, List, ℕ, arith, sym, ap, ◌∙◌, subst, refl, IsSome, length}
+use Rattle.std.proofs.Common.{◌≡◌, ◌<◌, ◌+◌, [], ◌∷◌, ◌++◌, true, false, List, ℕ, arith, sym, ◌∙◌, subst, refl, IsSome, length}
 use Rattle.box_tree.specs.Descent.{Stands, Popped, next_at}
 use Rattle.box_tree.proofs.Descents.{popped, popped_shown, popped_inside, looked_on, begun, done_ok, count_low}
 use Rattle.box_tree.proofs.descent.walk.Goals.{In-Some}

@@ -1,5 +1,4 @@
 -- The leaf that came is the slot's.
-use Rattle.std.proofs.Common.{◌≡◌}
 use Rattle.box_tree.proofs.LeafTies.{few, none_has, tied_added}
 use Rattle.box_tree.proofs.leaves.add_leaf.Goals as goal
 

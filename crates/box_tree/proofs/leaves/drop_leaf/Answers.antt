@@ -1,5 +1,5 @@
 -- The leaf that goes is the slot's.
-use Rattle.std.proofs.Common.{◌≡◌, get_or, None}
+use Rattle.std.proofs.Common.{get_or, None}
 use Rattle.box_tree.proofs.LeafTies.{some_there, own_viewed, tied_dropped}
 use Rattle.box_tree.proofs.leaves.drop_leaf.Goals as goal
 

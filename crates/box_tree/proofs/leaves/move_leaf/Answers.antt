@@ -1,5 +1,5 @@
 -- The leaf that has another box is the slot's.
-use Rattle.std.proofs.Common.{◌≡◌, get_or, None}
+use Rattle.std.proofs.Common.{get_or, None}
 use Rattle.box_tree.proofs.LeafTies.{some_there, own_viewed, tied_moved}
 use Rattle.box_tree.proofs.leaves.move_leaf.Goals as goal
 

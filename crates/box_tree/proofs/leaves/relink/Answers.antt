@@ -1,5 +1,5 @@
 -- A leaf that goes and comes again has the box that it comes with.
-use Rattle.std.proofs.Common.{◌≡◌, ◌∙◌, ap, set, None, Some}
+use Rattle.std.proofs.Common.{◌∙◌, ap, set, None, Some}
 use Rattle.std.proofs.lemmas.List.{set-set}
 use Rattle.box_tree.proofs.leaves.relink.Goals as goal
 

@@ -1,7 +1,6 @@
 -- Each kind of query has its law.
-use Rattle.std.proofs.Common.{◌≡◌}
 use Rattle.broad_index.specs.Found.{query_meets}
-use Rattle.box_tree.proofs.QueryMeets.{Laws, enclosed, missed}
+use Rattle.box_tree.proofs.QueryMeets.{enclosed, missed}
 use Rattle.box_tree.proofs.query_law.query_law.Goals as goal
 
 pub returns-clause-enclosed : goal.returns-clause-enclosed

@@ -1,5 +1,5 @@
 -- What stands at the slot is what the maps have.
-use Rattle.std.proofs.Common.{◌≡◌, ◌<◌, ◌≤◌, ◌∙◌, arith, sym, ap, subst, get_or, None, Some}
+use Rattle.std.proofs.Common.{arith, sym, ap, None}
 use Rattle.std.proofs.lemmas.List.{get_or_read}
 use Rattle.box_tree.proofs.Fats.{past, fat_viewed, none_viewed, inside_viewed}
 use Rattle.box_tree.proofs.tree.BoxTree.fat_of.Goals as goal
@@ -20,7 +20,8 @@ pub returns-then-slot-len-clause-inside : goal.returns-then-slot-len-clause-insi
 returns-then-slot-len-clause-inside c =
     let s = c.self.inside in
     let e = get_or_read s.fats.items c.args.slot c.index.result.now (omega (arith, c.if-slot-len.true, c.len.ensures)) c.index.ensures None in
-    inside_viewed s.fats.items s.bodies.items c.self.invariant.fat c.args.self.now.bodies (ap (λ b. b.bodies) c.self.view_is) c.args.slot c.index.result.now e
+    inside_viewed s.fats.items s.bodies.items c.self.invariant.fat c.args.self.now.bodies (ap (λ b. b.bodies) c.self.view_is) c.args.slot
+    c.index.result.now e
 
 pub returns-else-slot-len-clause-fat : goal.returns-else-slot-len-clause-fat
 returns-else-slot-len-clause-fat c =

@@ -1,7 +1,6 @@
 -- Nothing is there.
-use Rattle.std.proofs.Common.{◌≡◌, ℕ, ◌∙◌, ap, length, replicate, false, refl}
+use Rattle.std.proofs.Common.{ℕ, ◌∙◌, ap, length, false, refl}
 use Rattle.std.proofs.lemmas.List.{length-replicate}
-use Rattle.box_tree.specs.Boxes.{Boxes}
 use Rattle.fixed_box.specs.SlotMapLaws.{map_blank}
 use Rattle.box_tree.proofs.Soundness.{sound_none, same_outset}
 use Rattle.box_tree.proofs.tree.BoxTree.new.Goals as goal

@@ -1,12 +1,13 @@
 -- The leaves are tied to the fat boxes, and these to the boxes.
-use Rattle.std.proofs.Common.{◌≡◌, ap}
+use Rattle.std.proofs.Common.{ap}
 use Rattle.box_tree.proofs.Fats.{fats_held, both_present}
 use Rattle.box_tree.proofs.tree.BoxTree.nodes.Goals as goal
 
 pub returns-clause-leaves : goal.returns-clause-leaves
 returns-clause-leaves c =
     let s = c.self.inside in
-    fats_held s.nodes c.args.self.now.tree (ap (λ b. b.tree) c.self.view_is) s.fats.items s.numbers.items c.self.invariant.ties c.args.self.now.fats (ap (λ b. b.fats) c.self.view_is)
+    fats_held s.nodes c.args.self.now.tree (ap (λ b. b.tree) c.self.view_is) s.fats.items s.numbers.items c.self.invariant.ties
+    c.args.self.now.fats (ap (λ b. b.fats) c.self.view_is)
 
 pub returns-clause-present : goal.returns-clause-present
 returns-clause-present c slot =

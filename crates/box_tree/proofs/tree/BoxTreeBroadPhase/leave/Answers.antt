@@ -1,43 +1,52 @@
 -- The slot, its leaf and its fat box go.
-use Rattle.std.proofs.Common.{◌≡◌, ◌<◌, ◌∙◌, arith, sym, ap, subst, set, get_or, None, Some, true}
-use Rattle.std.proofs.lemmas.List.{get_or_read}
-use Rattle.fixed_box.specs.declared.TheConstants.{SLOTS}
-use Rattle.box_tree.specs.Boxes.{is_inside}
+use Rattle.std.proofs.Common.{◌<◌, ◌∙◌, arith, sym, ap, subst, set, None, true}
 use Rattle.fixed_box.specs.SlotMap.{map_of}
 use Rattle.box_tree.specs.Ties.{Sound, Ties}
-use Rattle.box_tree.proofs.Changes.{present_small, present_fat, absent_fat, put_viewed, take_viewed, inside_told, outside_told, inside_shifted, outside_shifted, sound_inside, sound_put, sound_taken}
+use Rattle.box_tree.proofs.Changes.{present_small, present_fat, take_viewed, sound_taken}
 use Rattle.box_tree.proofs.tree.BoxTreeBroadPhase.leave.Goals as goal
 
 pub index_mut-requires : goal.index_mut-requires
-index_mut-requires c = let s = c.self.inside in let l = present_small s.nodes s.bodies.items s.fats.items s.numbers.items s.marks.items s.kept.items c.self.invariant c.args.slot c.args.self.now.bodies (ap (λ b. b.bodies) c.self.view_is) c.requires.present in omega (arith, s.bodies.ok.0, c.self.invariant.bodies_len, l)
+index_mut-requires c = let s = c.self.inside in let l = present_small s.nodes s.bodies.items s.fats.items s.numbers.items s.marks.items
+    s.kept.items c.self.invariant c.args.slot c.args.self.now.bodies (ap (λ b. b.bodies) c.self.view_is) c.requires.present in
+    omega (arith, s.bodies.ok.0, c.self.invariant.bodies_len, l)
 
 pub index_mut-requires-2 : goal.index_mut-requires-2
-index_mut-requires-2 c = let s = c.self.inside in let l = present_small s.nodes s.bodies.items s.fats.items s.numbers.items s.marks.items s.kept.items c.self.invariant c.args.slot c.args.self.now.bodies (ap (λ b. b.bodies) c.self.view_is) c.requires.present in omega (arith, s.marks.ok.0, c.self.invariant.marks_len, l)
+index_mut-requires-2 c = let s = c.self.inside in let l = present_small s.nodes s.bodies.items s.fats.items s.numbers.items s.marks.items
+    s.kept.items c.self.invariant c.args.slot c.args.self.now.bodies (ap (λ b. b.bodies) c.self.view_is) c.requires.present in
+    omega (arith, s.marks.ok.0, c.self.invariant.marks_len, l)
 
 pub drop_leaf-requires-clause-small : goal.drop_leaf-requires-clause-small
-drop_leaf-requires-clause-small c = let s = c.self.inside in present_small s.nodes s.bodies.items s.fats.items s.numbers.items s.marks.items s.kept.items c.self.invariant c.args.slot c.args.self.now.bodies (ap (λ b. b.bodies) c.self.view_is) c.requires.present
+drop_leaf-requires-clause-small c = let s = c.self.inside in present_small s.nodes s.bodies.items s.fats.items s.numbers.items s.marks.items
+    s.kept.items c.self.invariant c.args.slot c.args.self.now.bodies (ap (λ b. b.bodies) c.self.view_is) c.requires.present
 
 pub drop_leaf-requires-clause-present : goal.drop_leaf-requires-clause-present
-drop_leaf-requires-clause-present c = let s = c.self.inside in present_fat s.nodes s.bodies.items s.fats.items s.numbers.items s.marks.items s.kept.items c.self.invariant c.args.slot c.args.self.now.bodies (ap (λ b. b.bodies) c.self.view_is) c.requires.present
+drop_leaf-requires-clause-present c = let s = c.self.inside in present_fat s.nodes s.bodies.items s.fats.items s.numbers.items s.marks.items
+    s.kept.items c.self.invariant c.args.slot c.args.self.now.bodies (ap (λ b. b.bodies) c.self.view_is) c.requires.present
 
 pub invariant_of-self : goal.invariant_of-self
 invariant_of-self c =
     let s = c.self.inside in
-    let l = present_small s.nodes s.bodies.items s.fats.items s.numbers.items s.marks.items s.kept.items c.self.invariant c.args.slot c.args.self.now.bodies (ap (λ b. b.bodies) c.self.view_is) c.requires.present in
+    let l = present_small s.nodes s.bodies.items s.fats.items s.numbers.items s.marks.items s.kept.items c.self.invariant c.args.slot
+    c.args.self.now.bodies (ap (λ b. b.bodies) c.self.view_is) c.requires.present in
     subst (λ fs. Sound c.drop_leaf.new.nodes (set s.bodies.items c.args.slot None) fs s.numbers.items (set s.marks.items c.args.slot true) s.kept.items)
     (sym c.drop_leaf.ensures.fats)
-    (sound_taken s.nodes s.bodies.items s.fats.items s.numbers.items s.marks.items s.kept.items c.self.invariant c.args.slot l c.keeping_laws.ensures.removed c.drop_leaf.new.nodes
+    (sound_taken s.nodes s.bodies.items s.fats.items s.numbers.items s.marks.items s.kept.items c.self.invariant c.args.slot l
+    c.keeping_laws.ensures.removed c.drop_leaf.new.nodes
     (subst (λ fs. Ties c.drop_leaf.new.nodes fs s.numbers.items) c.drop_leaf.ensures.fats
     (subst (λ ns. Ties c.drop_leaf.new.nodes c.drop_leaf.new.fats.items ns) c.deref.ensures.value c.drop_leaf.ensures.ties)))
 
 pub returns-clause-gone : goal.returns-clause-gone
 returns-clause-gone c =
     let s = c.self.inside in
-    let l = present_small s.nodes s.bodies.items s.fats.items s.numbers.items s.marks.items s.kept.items c.self.invariant c.args.slot c.args.self.now.bodies (ap (λ b. b.bodies) c.self.view_is) c.requires.present in
-    take_viewed s.bodies.items c.args.self.now.bodies (ap (λ b. b.bodies) c.self.view_is) c.args.slot (subst (λ n. c.args.slot < n) (sym c.self.invariant.bodies_len) l)
+    let l = present_small s.nodes s.bodies.items s.fats.items s.numbers.items s.marks.items s.kept.items c.self.invariant c.args.slot
+    c.args.self.now.bodies (ap (λ b. b.bodies) c.self.view_is) c.requires.present in
+    take_viewed s.bodies.items c.args.self.now.bodies (ap (λ b. b.bodies) c.self.view_is) c.args.slot (subst (λ n. c.args.slot < n) (sym
+    c.self.invariant.bodies_len) l)
 
 pub returns-clause-fats : goal.returns-clause-fats
 returns-clause-fats c =
     let s = c.self.inside in
-    let l = present_small s.nodes s.bodies.items s.fats.items s.numbers.items s.marks.items s.kept.items c.self.invariant c.args.slot c.args.self.now.bodies (ap (λ b. b.bodies) c.self.view_is) c.requires.present in
-    ap map_of c.drop_leaf.ensures.fats ∙ take_viewed s.fats.items c.args.self.now.fats (ap (λ b. b.fats) c.self.view_is) c.args.slot (subst (λ n. c.args.slot < n) (sym c.self.invariant.fats_len) l)
+    let l = present_small s.nodes s.bodies.items s.fats.items s.numbers.items s.marks.items s.kept.items c.self.invariant c.args.slot
+    c.args.self.now.bodies (ap (λ b. b.bodies) c.self.view_is) c.requires.present in
+    ap map_of c.drop_leaf.ensures.fats ∙ take_viewed s.fats.items c.args.self.now.fats (ap (λ b. b.fats) c.self.view_is) c.args.slot (subst (λ n.
+    c.args.slot < n) (sym c.self.invariant.fats_len) l)

@@ -9,26 +9,36 @@ use Rattle.box_tree.proofs.Searching.{inside_of, pairs_renewed, sound_renewed, n
 use Rattle.box_tree.proofs.tree.BoxTreeBroadPhase.pairs.Goals as goal
 
 pub search_all-requires : goal.search_all-requires
-search_all-requires c = let s = c.self.inside in inside_of s.nodes s.bodies.items s.fats.items s.numbers.items s.marks.items s.kept.items c.self.invariant c.args.self.now s.looked c.self.view_is c.deref-3.result.now c.deref-3.ensures.value
+search_all-requires c = let s = c.self.inside in inside_of s.nodes s.bodies.items s.fats.items s.numbers.items s.marks.items s.kept.items
+    c.self.invariant c.args.self.now s.looked c.self.view_is c.deref-3.result.now c.deref-3.ensures.value
 
 pub invariant_of-self-2 : goal.invariant_of-self-2
 invariant_of-self-2 c =
     let s = c.self.inside in
-    let r = c.in_ok-renew.ensures.near (map_of s.bodies.items) (pairs_renewed s.nodes s.bodies.items s.fats.items s.numbers.items s.marks.items s.kept.items c.self.invariant c.args.self.now s.looked c.self.view_is c.holding_laws.ensures.reach c.keeping_laws.ensures.renewing c.deref.result.now c.deref-2.result.now c.push_sought.new.out.items
+    let r = c.in_ok-renew.ensures.near (map_of s.bodies.items) (pairs_renewed s.nodes s.bodies.items s.fats.items s.numbers.items s.marks.items
+    s.kept.items c.self.invariant c.args.self.now s.looked c.self.view_is c.holding_laws.ensures.reach c.keeping_laws.ensures.renewing
+    c.deref.result.now c.deref-2.result.now c.push_sought.new.out.items
     c.deref-4.result.now c.clear-2.new.self.items c.search_all.new.found.items c.deref.ensures.value c.deref-2.ensures.value c.in_ok-push_sought.ensures.ok
-    c.deref-4.ensures.value c.clear-2.ensures.items (subst (λ bs. c.search_all.new.found.items ≡ c.clear-2.new.self.items ++ gathered_with (searches bs s.nodes c.deref-4.result.now))
+    c.deref-4.ensures.value c.clear-2.ensures.items (subst (λ bs. c.search_all.new.found.items ≡ c.clear-2.new.self.items ++ gathered_with
+    (searches bs s.nodes c.deref-4.result.now))
     (c.deref-3.ensures.value ∙ sym c.deref.ensures.value) c.in_ok-looked.ensures.ok)) in
-    sound_renewed s.nodes s.bodies.items s.fats.items s.numbers.items s.marks.items s.kept.items c.self.invariant c.args.self.now s.looked c.self.view_is (c.member_laws.ensures.near_rises (map_of s.bodies.items)) (c.member_laws.ensures.near (map_of s.bodies.items)) c.renew.new.marks.items c.renew.new.kept.items
+    sound_renewed s.nodes s.bodies.items s.fats.items s.numbers.items s.marks.items s.kept.items c.self.invariant c.args.self.now s.looked
+    c.self.view_is (c.member_laws.ensures.near_rises (map_of s.bodies.items)) (c.member_laws.ensures.near (map_of s.bodies.items))
+    c.renew.new.marks.items c.renew.new.kept.items
     c.in_ok-renew.ensures.marks r.1
 
 pub returns-clause-ok : goal.returns-clause-ok
 returns-clause-ok c =
     let s = c.self.inside in
-    let r = c.in_ok-renew.ensures.near (map_of s.bodies.items) (pairs_renewed s.nodes s.bodies.items s.fats.items s.numbers.items s.marks.items s.kept.items c.self.invariant c.args.self.now s.looked c.self.view_is c.holding_laws.ensures.reach c.keeping_laws.ensures.renewing c.deref.result.now c.deref-2.result.now c.push_sought.new.out.items
+    let r = c.in_ok-renew.ensures.near (map_of s.bodies.items) (pairs_renewed s.nodes s.bodies.items s.fats.items s.numbers.items s.marks.items
+    s.kept.items c.self.invariant c.args.self.now s.looked c.self.view_is c.holding_laws.ensures.reach c.keeping_laws.ensures.renewing
+    c.deref.result.now c.deref-2.result.now c.push_sought.new.out.items
     c.deref-4.result.now c.clear-2.new.self.items c.search_all.new.found.items c.deref.ensures.value c.deref-2.ensures.value c.in_ok-push_sought.ensures.ok
-    c.deref-4.ensures.value c.clear-2.ensures.items (subst (λ bs. c.search_all.new.found.items ≡ c.clear-2.new.self.items ++ gathered_with (searches bs s.nodes c.deref-4.result.now))
+    c.deref-4.ensures.value c.clear-2.ensures.items (subst (λ bs. c.search_all.new.found.items ≡ c.clear-2.new.self.items ++ gathered_with
+    (searches bs s.nodes c.deref-4.result.now))
     (c.deref-3.ensures.value ∙ sym c.deref.ensures.value) c.in_ok-looked.ensures.ok)) in
-    near_viewed s.nodes s.bodies.items s.fats.items s.numbers.items s.marks.items s.kept.items c.self.invariant c.args.self.now s.looked c.self.view_is c.args.out.now.items c.renew.new.out.items r.0
+    near_viewed s.nodes s.bodies.items s.fats.items s.numbers.items s.marks.items s.kept.items c.self.invariant c.args.self.now s.looked
+    c.self.view_is c.args.out.now.items c.renew.new.out.items r.0
 
 pub returns-clause-paired : goal.returns-clause-paired
 returns-clause-paired c =
