@@ -1,8 +1,8 @@
 ghost use Rattle.std.specs.Prelude.{◌<◌, ◌≤◌};
 
 use super::*;
-use cell_table::CellKey;
 use broad_index::{BroadPhase, Gate, NoGate, Pair, PlainIndex, Query};
+use cell_table::CellKey;
 use fixed_box::{FBox, NoMemory, Point, SLOTS};
 use ray_slabs::{Ray, Seg, WPoint};
 use slot_search::{Seeker, seek_many};
@@ -164,7 +164,13 @@ fn queries(body: &FBox) -> [Query; 4] {
 fn boxes_of_all_levels_are_found_as_in_a_list(rt: HostRuntime) -> Result<(), Fail> {
     let mut dice = Dice { state: 7 };
     let mut both = Both::new(rt.alloc())?;
-    for (slots, changes) in [(64, 200), (64, 40), (SLOTS, 20_000), (SLOTS, 4_000), (SLOTS, 4_000)] {
+    for (slots, changes) in [
+        (64, 200),
+        (64, 40),
+        (SLOTS, 20_000),
+        (SLOTS, 4_000),
+        (SLOTS, 4_000),
+    ] {
         both.change(&mut dice, slots, changes)?;
         let (plain, grid) = both.pairs(rt.alloc())?;
         assert_eq!(rt; grid.as_slice(), plain.as_slice());
@@ -194,15 +200,22 @@ fn workers_find_the_same_pairs(rt: HostRuntime) -> Result<(), Fail> {
     Ok(())
 }
 
+// Whether so many comparisons are no fewer than the pairs, and fewer than a tenth of all pairs of 2,000 slots.
+fn is_sparing(compared: u64, pairs: &[Pair]) -> bool {
+    pairs.len() as u64 <= compared && compared < 2_000 * 1_999 / 2 / 10
+}
+
 #[test]
 fn few_boxes_are_compared(rt: HostRuntime) -> Result<(), Fail> {
     let mut dice = Dice { state: 13 };
     let mut both = Both::new(rt.alloc())?;
     both.change(&mut dice, 2_000, 6_000)?;
-    let (_, pairs) = both.pairs(rt.alloc())?;
+    let (_, mut pairs) = both.pairs(rt.alloc())?;
     let looked = both.grid.looked();
-    assert!(rt; pairs.len() as u64 <= looked);
-    assert!(rt; looked < 2_000 * 1_999 / 2 / 10);
+    assert!(rt; is_sparing(looked, &pairs));
+    pairs.clear();
+    both.grid.pairs_with(&rt, 2, &NoGate, &mut pairs)?;
+    assert!(rt; is_sparing(both.grid.looked().saturating_sub(looked), &pairs));
     Ok(())
 }
 
