@@ -4,7 +4,7 @@ use Rattle.std.proofs.Common.{length-append, length-take, length-drop, length-se
 use Rattle.std.specs.List.{AllWithin}
 use Rattle.std.specs.List.Sorted.{IsPartitionedBy}
 use Rattle.std.specs.Ordering.{nat_cmp}
-use Rattle.std.specs.FinMap.{entries, contains_key, find, is_sorted, insert as insert_key, remove as remove_key}
+use Rattle.std.specs.FinMap.{FinMap, entries, contains_key, find, is_sorted, insert as insert_key, remove as remove_key}
 use Rattle.std.specs.FinMap.Entries.{put}
 use Rattle.std.proofs.lemmas.List.{drop_at, drop_more, get_or_default, take_at}
 use Rattle.std.proofs.lemmas.Simd.{map-map}
@@ -14,7 +14,7 @@ use Rattle.fixed_box.specs.Bounds.{Bounds, meets}
 use Rattle.fixed_box.specs.declared.TheConstants.{SLOTS}
 use Rattle.lane_boxes.specs.Places.{places}
 use Rattle.broad_index.specs.declared.pair.Pair.{Pair}
-use Rattle.broad_index.specs.Entries.{AreEntries, pairs_at}
+use Rattle.broad_index.specs.Entries.{AreEntries, Placed, pairs_at}
 use Rattle.broad_index.specs.declared.query.Query.{Query}
 use Rattle.broad_index.specs.Found.{found_of, query_meets}
 use Rattle.broad_index.specs.Index.{bodies_of}
@@ -50,13 +50,15 @@ module _ (slots : List ℕ) (boxes : List Bounds) (a : AreEntries slots boxes) w
   pub entries_are : entries (bodies_of (zip slots boxes)) ≡ zip slots boxes
   entries_are = entries_of_sorted (zip slots boxes) a.sorted
 
-  module _ (slot at : ℕ) (le : at ≤ length (zip slots boxes)) (below : AllWithin (λ e. nat_lt e.0 slot ≡ true) (zip slots boxes) 0 at)
-      (above : AllWithin (λ e. nat_lt e.0 slot ≡ false) (zip slots boxes) at (length (zip slots boxes))) where
+  pub placed : (bodies : FinMap nat_cmp Bounds) (slot at : ℕ) → bodies_of (zip slots boxes) ≡ bodies → Placed (entries bodies) slot at → Placed (zip slots boxes) slot at
+  placed bodies slot at e p = subst (λ es. Placed es slot at) (ap entries (sym e) ∙ entries_are) p
+
+  module _ (slot at : ℕ) (p : Placed (zip slots boxes) slot at) where
     pub inserted_map : (body : Bounds) → contains_key (bodies_of (zip slots boxes)) slot ≡ false
         → zip (insert slots at slot) (insert boxes at body) ≡ insert (zip slots boxes) at (slot, body)
         → bodies_of (zip (insert slots at slot) (insert boxes at body)) ≡ insert_key (bodies_of (zip slots boxes)) slot body
     inserted_map body absent law =
-        ap bodies_of (law ∙ insert_is_put (zip slots boxes) slot body at (absent_from (zip slots boxes) slot a.sorted absent) le below above)
+        ap bodies_of (law ∙ insert_is_put (zip slots boxes) slot body at (absent_from (zip slots boxes) slot a.sorted absent) p.bound p.below p.above)
         ∙ from_sorted-put (zip slots boxes) slot body a.sorted
 
     pub inserted_are : (body : Bounds) → slot < SLOTS → contains_key (bodies_of (zip slots boxes)) slot ≡ false
@@ -66,7 +68,7 @@ module _ (slots : List ℕ) (boxes : List Bounds) (a : AreEntries slots boxes) w
           omega (arith, length-append (take at slots) (slot ∷ drop at slots), length-append (take at boxes) (body ∷ drop at boxes), length-take at slots, length-take at boxes, length-drop at slots, length-drop at boxes, a.same);
       sorted =
           subst (λ es. T (is_sorted nat_cmp es))
-          (sym (law ∙ insert_is_put (zip slots boxes) slot body at (absent_from (zip slots boxes) slot a.sorted absent) le below above))
+          (sym (law ∙ insert_is_put (zip slots boxes) slot body at (absent_from (zip slots boxes) slot a.sorted absent) p.bound p.below p.above))
           (sorted_put (zip slots boxes) slot body a.sorted);
       small =
           All-append (λ s. s < SLOTS) (take at slots) (slot ∷ drop at slots) (All-take (λ s. s < SLOTS) at slots a.small)
@@ -78,15 +80,15 @@ module _ (slots : List ℕ) (boxes : List Bounds) (a : AreEntries slots boxes) w
       there = present_from (zip slots boxes) slot a.sorted present
 
       pub at_within : at < length slots
-      at_within = omega (arith, present_within (zip slots boxes) slot at there le below, zip_long)
+      at_within = omega (arith, present_within (zip slots boxes) slot at there p.bound p.below, zip_long)
 
       own_slot : get_or slots at 0 ≡ slot
-      own_slot = ap (λ e. e.0) (sym (zip_at at (0, origin) at_within)) ∙ key_there (zip slots boxes) slot at (0, origin) a.sorted there le below above
+      own_slot = ap (λ e. e.0) (sym (zip_at at (0, origin) at_within)) ∙ key_there (zip slots boxes) slot at (0, origin) a.sorted there p.bound p.below p.above
 
       set_put : (body : Bounds) → zip slots (set boxes at body) ≡ set (zip slots boxes) at (get_or slots at 0, body)
           → zip slots (set boxes at body) ≡ put nat_cmp slot body (zip slots boxes)
       set_put body law =
-          law ∙ ap (λ s. set (zip slots boxes) at (s, body)) own_slot ∙ set_is_put (zip slots boxes) slot body at a.sorted there le below above
+          law ∙ ap (λ s. set (zip slots boxes) at (s, body)) own_slot ∙ set_is_put (zip slots boxes) slot body at a.sorted there p.bound p.below p.above
 
       pub set_map : (body : Bounds) → zip slots (set boxes at body) ≡ set (zip slots boxes) at (get_or slots at 0, body)
           → bodies_of (zip slots (set boxes at body)) ≡ insert_key (bodies_of (zip slots boxes)) slot body
@@ -101,13 +103,13 @@ module _ (slots : List ℕ) (boxes : List Bounds) (a : AreEntries slots boxes) w
 
       pub removed_map : zip (remove slots at) (remove boxes at) ≡ remove (zip slots boxes) at
           → bodies_of (zip (remove slots at) (remove boxes at)) ≡ remove_key (bodies_of (zip slots boxes)) slot
-      removed_map law = ap bodies_of law ∙ from_sorted-remove (zip slots boxes) slot at a.sorted there le below above
+      removed_map law = ap bodies_of law ∙ from_sorted-remove (zip slots boxes) slot at a.sorted there p.bound p.below p.above
 
       pub removed_are : zip (remove slots at) (remove boxes at) ≡ remove (zip slots boxes) at → AreEntries (remove slots at) (remove boxes at)
       removed_are law = record {
         same =
             omega (arith, length-append (take at slots) (drop (suc at) slots), length-append (take at boxes) (drop (suc at) boxes), length-take at slots, length-take at boxes, length-drop (suc at) slots, length-drop (suc at) boxes, a.same);
-        sorted = subst (λ es. T (is_sorted nat_cmp es)) (sym law) (sorted_removed (zip slots boxes) slot at a.sorted there le below above);
+        sorted = subst (λ es. T (is_sorted nat_cmp es)) (sym law) (sorted_removed (zip slots boxes) slot at a.sorted there p.bound p.below p.above);
         small =
             All-append (λ s. s < SLOTS) (take at slots) (drop (suc at) slots) (All-take (λ s. s < SLOTS) at slots a.small)
             (All-drop (λ s. s < SLOTS) (suc at) slots a.small)

@@ -1,5 +1,6 @@
 -- This file only serves proofs: slots in order, and beside each its box.
-use Rattle.std.specs.Prelude.{◌≡◌, ℕ, ◌<◌, T, List, length, map, zip, slice_index_or, All}
+use Rattle.std.specs.Prelude.{◌≡◌, ℕ, ◌<◌, ◌≤◌, true, false, nat_lt, T, List, length, map, zip, slice_index_or, All}
+use Rattle.std.specs.List.{AllWithin}
 use Rattle.std.specs.Ordering.{nat_cmp}
 use Rattle.std.specs.FinMap.{is_sorted}
 use Rattle.fixed_box.specs.Bounds.{Bounds}
@@ -15,3 +16,9 @@ pub record AreEntries (slots : List ℕ) (boxes : List Bounds) : Type 0 where
 -- a slot with those at places of a list
 abbrev pub pairs_at : ℕ → List ℕ → List ℕ → List Pair
 pairs_at slot slots places = map (λ k. record { a = slot; b = slice_index_or slots k 0 }) places
+
+-- where the entries below a slot end
+pub record Placed (es : List (ℕ × Bounds)) (slot at : ℕ) : Type 0 where
+  pub bound : at ≤ length es
+  pub below : AllWithin (λ e. nat_lt e.0 slot ≡ true) es 0 at
+  pub above : AllWithin (λ e. nat_lt e.0 slot ≡ false) es at (length es)

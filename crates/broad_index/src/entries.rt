@@ -1,8 +1,7 @@
 ghost use Rattle.std.specs.Prelude.{◌≡◌, ◌+◌, ◌<◌, ◌≤◌, ◌++◌, true, false, OnOk, OnErr, All};
-ghost use Rattle.std.specs.Prelude.{length, map as mapped, take, drop, nat_lt, slice_index_or, vec_len};
-ghost use Rattle.std.specs.List.{AllWithin};
+ghost use Rattle.std.specs.Prelude.{length, map as mapped, take, drop, slice_index_or, vec_len};
 ghost use Rattle.std.specs.FinMap as map;
-ghost use Rattle.broad_index.specs.Entries.{pairs_at};
+ghost use Rattle.broad_index.specs.Entries.{Placed, pairs_at};
 ghost use Rattle.broad_index.specs.Found.{found};
 ghost use Rattle.broad_index.specs.declared.query.Query.TheVariants.{Region, Spot};
 ghost use Rattle.broad_index.specs.Near.{near, near_of};
@@ -85,9 +84,7 @@ impl Entries {
 
     // Where the slots below this one end.
     fn place(&self, slot: u32) -> usize
-        ensures bound { result ≤ length (map.entries self.now) }
-        ensures below { AllWithin (λ e. nat_lt e.0 slot ≡ true) (map.entries self.now) 0 result }
-        ensures above { AllWithin (λ e. nat_lt e.0 slot ≡ false) (map.entries self.now) result (length (map.entries self.now)) }
+        ensures { Placed (map.entries self.now) slot result }
     {
         self.slots.partition_point(|other| *other < slot)
     }

@@ -1,6 +1,6 @@
 -- Two lists side by side, whatever is made of their elements, and what an edit of both does.
-use Rattle.std.proofs.Common.{◌≡◌, ℕ, zero, suc, ◌+◌, ◌-◌, ◌<◌, ◌≤◌, List, [], ◌∷◌, ◌++◌, length, map, take, drop, set, get_or, insert, remove, swap_remove, zip, refl, ap, ap₂, sym, ◌∙◌, arith}
-use Rattle.std.proofs.Common.{length-take, length-drop}
+use Rattle.std.proofs.Common.{◌≡◌, ℕ, zero, suc, ◌+◌, ◌-◌, ◌<◌, List, [], ◌∷◌, ◌++◌, length, take, drop, set, get_or, insert, remove, swap_remove, zip, refl, ap, ap₂, sym, ◌∙◌, arith}
+use Rattle.std.proofs.Common.{length-take, length-set}
 use Rattle.std.proofs.lemmas.List.{get_or_default}
 use Rattle.std.specs.Simd.Lanes.{zip2}
 use Rattle.std.proofs.lemmas.Simd.{length-zip2}
@@ -75,3 +75,8 @@ zip_is (k ∷ ks) (x ∷ xs) = ap (λ l. (k, x) ∷ l) (zip_is ks xs)
 -- what `swap_remove` reads of an empty list alone
 pub swap_default : {X : Type 0} (xs : List X) (at : ℕ) (d e : X) → at < length xs → swap_remove xs at d ≡ swap_remove xs at e
 swap_default xs at d e l = ap (λ z. take (length xs - 1) (set xs at z)) (get_or_default xs (length xs - 1) d e (omega arith))
+
+pub swap_removed_long : {X : Type 0} (xs : List X) (at : ℕ) (d : X) → at < length xs → length (swap_remove xs at d) + 1 ≡ length xs
+swap_removed_long xs at d l =
+    let last = get_or xs (length xs - 1) d in
+    omega (arith, length-take (length xs - 1) (set xs at last), length-set xs at last)

@@ -1,9 +1,9 @@
 -- Comparisons of eight signed numbers at once, as lists of truth values.
-use Rattle.std.proofs.Common.{◌≡◌, ℕ, zero, suc, ◌+◌, ◌-◌, ◌≤◌, ◌<◌, ◌^◌, ◌%◌, ℤ, pos, int_le, Bool, true, false, cond, ◌&&◌, List, [], ◌∷◌, length, map, take, drop, replicate, w32, SFits, of_z, to_z, refl, ap, ap₂, sym, ◌∙◌, arith}
+use Rattle.std.proofs.Common.{◌≡◌, ℕ, zero, suc, ◌+◌, ◌≤◌, ℤ, int_le, Bool, true, false, cond, ◌&&◌, List, [], ◌∷◌, length, map, take, drop, replicate, w32, SFits, of_z, to_z, refl, ap, ◌∙◌, arith}
 use Rattle.std.proofs.Common.{length-take, length-drop}
-use Rattle.std.specs.Simd.Lanes.{zip2, Each1, mask_l, top}
+use Rattle.std.specs.Simd.Lanes.{zip2, Each1, top}
 use Rattle.std.proofs.lemmas.Int.{to_z-of_z}
-use Rattle.std.proofs.lemmas.Simd.{Each1-chunk, length-zip2, mask_l-mod}
+use Rattle.std.proofs.lemmas.Simd.{Each1-chunk}
 use borrow.Rule.Simd.Lanes.{act2}
 use borrow.Table.Row.{s_int}
 use mir.Syntax.{mask, le, signed, bit_and}

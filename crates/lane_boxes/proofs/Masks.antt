@@ -1,7 +1,6 @@
 -- Masks of boxes that pass a test, and the places of their bits.
-use Rattle.std.proofs.Common.{◌≡◌, ℕ, zero, suc, ◌+◌, ◌*◌, ◌-◌, ◌/◌, ◌%◌, ◌^◌, ◌<◌, ◌≤◌, ◌==◌, ℤ, Bool, true, false, cond, if◌then◌else◌, List, [], ◌∷◌, ◌++◌, length, map, filter, take, drop, get_or, All, zip, w32, of_z, refl, ap, ap₂, sym, ◌∙◌, arith, lit<, pow-suc}
+use Rattle.std.proofs.Common.{◌≡◌, ℕ, zero, suc, ◌+◌, ◌*◌, ◌/◌, ◌%◌, ◌^◌, ◌<◌, ◌≤◌, ◌==◌, ℤ, Bool, true, false, cond, List, [], ◌∷◌, ◌++◌, length, map, filter, take, drop, All, w32, of_z, refl, ap, sym, ◌∙◌, arith, lit<, pow-suc}
 use Rattle.std.proofs.Common.{length-take, length-drop}
-use Rattle.std.specs.List.{range_with_len}
 use Rattle.std.specs.Simd.Lanes.{zip2, mask_l, top}
 use Rattle.std.proofs.lemmas.List.{drop-drop, length-map}
 use Rattle.std.proofs.lemmas.List.Elements.{All-nil, All-cons, All-weaker}
@@ -14,7 +13,7 @@ use Rattle.lane_boxes.specs.Bits.{set_places}
 use Rattle.lane_boxes.specs.Places.{placed, places, next_eight}
 use Rattle.lane_boxes.specs.Spans.{boxes_of, crosses, lane, x_of, y_of, z_of}
 use Rattle.lane_boxes.proofs.BoxLists.{next_meet}
-use Rattle.lane_boxes.proofs.Crossing.{both, from_lanes, full, lane_and, and_lanes, tops}
+use Rattle.lane_boxes.proofs.Crossing.{both, from_lanes, lane_and, and_lanes, tops}
 
 -- a mask of few truth values is small
 pub mask_small : (n : ℕ) (bs : List Bool) → length bs ≤ n → mask_l bs < 2 ^ n

@@ -1,8 +1,8 @@
 -- The places of boxes that pass a test, in a list of slots beside them.
-use Rattle.std.proofs.Common.{◌≡◌, ℕ, zero, suc, ◌+◌, Bool, true, false, cond, List, [], ◌∷◌, length, map, filter, drop, zip, get_or, slice_index_or, refl, ap, ap₂, sym, ◌∙◌, arith, length-drop}
+use Rattle.std.proofs.Common.{◌≡◌, ℕ, suc, ◌+◌, Bool, true, false, cond, List, [], ◌∷◌, length, map, filter, drop, zip, get_or, slice_index_or, refl, ap, ap₂, sym, ◌∙◌, arith, length-drop}
 use Rattle.std.proofs.lemmas.List.{get_or-drop}
 use Rattle.fixed_box.specs.Bounds.{Bounds}
-use Rattle.lane_boxes.specs.Places.{placed, places}
+use Rattle.lane_boxes.specs.Places.{places}
 use Rattle.lane_boxes.proofs.Beside.{zip_is, beside_drop}
 use Rattle.lane_boxes.proofs.Masks.{one_more}
 

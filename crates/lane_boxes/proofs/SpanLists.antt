@@ -1,11 +1,11 @@
 -- Two columns stay those of intervals under each edit of both.
-use Rattle.std.proofs.Common.{◌≡◌, ℕ, suc, ◌+◌, ◌-◌, ◌<◌, ◌≤◌, ℤ, pos, int_le, IsTrue, List, [], ◌∷◌, ◌++◌, length, take, drop, set, get_or, insert, remove, swap_remove, All, SFits, w32, subst, sym, arith}
+use Rattle.std.proofs.Common.{◌≡◌, ℕ, suc, ◌-◌, ◌<◌, ℤ, pos, List, [], ◌∷◌, ◌++◌, length, take, drop, set, get_or, insert, remove, swap_remove, SFits, w32, subst, ap, sym, arith}
 use Rattle.std.proofs.Common.{length-append, length-take, length-drop, length-set}
 use Rattle.std.specs.Simd.Lanes.{Each1}
 use Rattle.std.proofs.lemmas.Simd.{length-zip2, Each1-from_get_or}
 use Rattle.std.proofs.lemmas.List.Elements.{All-append, All-cons, All-drop, All-push, All-set, All-take, All-get_or}
 use Rattle.lane_boxes.specs.declared.span.Span.{Span}
-use Rattle.lane_boxes.specs.Spans.{spans_of, IsSpan, AreSpans}
+use Rattle.lane_boxes.specs.Spans.{Spans, spans_of, IsSpan, AreSpans}
 use Rattle.lane_boxes.proofs.Beside.{beside_append, beside_at, beside_insert, beside_remove, beside_set, beside_swap_remove}
 
 abbrev pub span : ℤ → ℤ → Span
@@ -70,3 +70,14 @@ are_swapped los his at lo hi l a =
           (All-take IsSpan n (set ss at (get_or ss n (span lo hi)))
           (All-set IsSpan ss at (get_or ss n (span lo hi)) (All-get_or IsSpan ss n (span lo hi) (omega (arith, long)) a.each) a.each));
     }
+
+-- each column has a number of each interval
+pub record Ends (los his : List ℤ) (spans : List Span) : Type 0 where
+  pub lo : length los ≡ length spans
+  pub hi : length his ≡ length spans
+
+pub ends_long : (los his : List ℤ) (spare : ℕ) (s : Spans) → AreSpans los his → ◌≡◌ {A = Spans} (record { spans = spans_of los his; spare = spare }) s → Ends los his s.spans
+ends_long los his spare s a e =
+    let long = spans_long los his a in
+    let seen = ap (λ (s : Spans). length s.spans) e in
+    record { lo = omega (arith, long, seen); hi = omega (arith, long, seen, a.same) }

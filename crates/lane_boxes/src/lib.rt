@@ -10,8 +10,8 @@ mod span;
 pub use columns::Columns;
 pub use laws::{beside_laws, place_laws};
 
-/// How many boxes are tested at once.
-pub const LANES: usize = 8;
+// How many boxes are tested at once.
+const LANES: usize = 8;
 
 #[cfg(test)]
 mod tests;

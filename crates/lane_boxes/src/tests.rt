@@ -259,3 +259,22 @@ fn boxes_change_in_the_room_that_was_reserved(rt: HostRuntime) -> Result<(), Fai
     assert_eq!(rt; now, (Some(a), None, 1, true));
     Ok(())
 }
+
+#[test]
+fn the_last_of_nine_boxes_takes_the_place_of_one(rt: HostRuntime) -> Result<(), Fail> {
+    let mut boxes = Columns::new(rt.alloc());
+    for k in 0..9 {
+        boxes.push(FBox::new(at(k, 0, 0), at(k, 0, 0)).ok_or("a flat box")?)?;
+    }
+    let last = FBox::new(at(8, 0, 0), at(8, 0, 0)).ok_or("a flat box")?;
+    take(&mut boxes, 2, true);
+    assert_eq!(rt;
+        (box_in(&boxes, 2), box_in(&boxes, 8), boxes.len()),
+        (Some(last), None, 8)
+    );
+    boxes.reserve(3)?;
+    assert!(rt; boxes.spare() >= 3);
+    boxes.push(last)?;
+    assert_eq!(rt; boxes.len(), 9);
+    Ok(())
+}

@@ -1,5 +1,5 @@
 -- Each clause is an edit of two lists side by side.
-use Rattle.std.proofs.Common.{◌≡◌, ℕ, ◌+◌, [], ◌∷◌, ◌++◌, List, length, zip, insert, remove, swap_remove, slice_set, set, get_or, ap, sym, ◌∙◌}
+use Rattle.std.proofs.Common.{ℕ, [], ◌∷◌, ◌++◌, zip, insert, remove, swap_remove, set, get_or, ap, sym, ◌∙◌}
 use Rattle.std.proofs.lemmas.List.{set-get_or}
 use Rattle.fixed_box.specs.Bounds.{Bounds}
 use Rattle.lane_boxes.proofs.Beside.{zip_is, beside_append, beside_insert, beside_remove, beside_set, beside_swap_remove}

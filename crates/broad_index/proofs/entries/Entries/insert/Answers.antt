@@ -6,75 +6,51 @@ use Rattle.std.specs.FinMap.{FinMap, entries, contains_key, insert as insert_key
 use Rattle.fixed_box.specs.Bounds.{Bounds, meets, holds}
 use Rattle.broad_index.specs.Index.{bodies_of}
 use Rattle.broad_index.specs.Near.{near_of, partners}
-use Rattle.broad_index.proofs.PlainEntries.{entries_are, inserted_are, inserted_map, zip_long}
+use Rattle.broad_index.proofs.PlainEntries.{inserted_are, inserted_map, placed, zip_long}
 use Rattle.broad_index.proofs.entries.Entries.insert.Goals as goal
 
 pub insert-requires : goal.insert-requires
 insert-requires c =
     let slots = c.self.inside.slots.items in
     let boxes = c.self.inside.boxes.boxes in
-    let is : entries c.args.self.now ≡ zip slots boxes = ap entries (sym c.self.view_is) ∙ entries_are slots boxes c.self.invariant in
-    let le : c.place-at.result ≤ length (zip slots boxes) = omega (arith, ap length is, c.place-at.ensures.bound) in
-    let below =
-    subst (λ (es : List (ℕ × Bounds)). AllWithin (λ e. nat_lt e.0 c.args.slot ≡ true) es 0 c.place-at.result) is c.place-at.ensures.below
-    in
-    let above =
-    subst (λ (es : List (ℕ × Bounds)). AllWithin (λ e. nat_lt e.0 c.args.slot ≡ false) es c.place-at.result (length es)) is c.place-at.ensures.above
-    in
-    omega (arith, le, zip_long slots boxes c.self.invariant, c.self.invariant.same)
+    let a = c.self.invariant in
+    let at = c.place-at.result in
+    let p = placed slots boxes a c.args.self.now c.args.slot at c.self.view_is c.place-at.ensures in
+    omega (arith, p.bound, zip_long slots boxes a, a.same)
 
 pub insert-requires-2 : goal.insert-requires-2
 insert-requires-2 c =
     let slots = c.self.inside.slots.items in
     let boxes = c.self.inside.boxes.boxes in
-    let is : entries c.args.self.now ≡ zip slots boxes = ap entries (sym c.self.view_is) ∙ entries_are slots boxes c.self.invariant in
-    let le : c.place-at.result ≤ length (zip slots boxes) = omega (arith, ap length is, c.place-at.ensures.bound) in
-    let below =
-    subst (λ (es : List (ℕ × Bounds)). AllWithin (λ e. nat_lt e.0 c.args.slot ≡ true) es 0 c.place-at.result) is c.place-at.ensures.below
-    in
-    let above =
-    subst (λ (es : List (ℕ × Bounds)). AllWithin (λ e. nat_lt e.0 c.args.slot ≡ false) es c.place-at.result (length es)) is c.place-at.ensures.above
-    in
-    omega (arith, le, zip_long slots boxes c.self.invariant, c.reserve.ensures.len)
+    let a = c.self.invariant in
+    let at = c.place-at.result in
+    let p = placed slots boxes a c.args.self.now c.args.slot at c.self.view_is c.place-at.ensures in
+    omega (arith, p.bound, zip_long slots boxes a, c.reserve.ensures.len)
 
 pub invariant_of-self-2 : goal.invariant_of-self-2
 invariant_of-self-2 c =
     let slots = c.self.inside.slots.items in
     let boxes = c.self.inside.boxes.boxes in
-    let is : entries c.args.self.now ≡ zip slots boxes = ap entries (sym c.self.view_is) ∙ entries_are slots boxes c.self.invariant in
-    let le : c.place-at.result ≤ length (zip slots boxes) = omega (arith, ap length is, c.place-at.ensures.bound) in
-    let below =
-    subst (λ (es : List (ℕ × Bounds)). AllWithin (λ e. nat_lt e.0 c.args.slot ≡ true) es 0 c.place-at.result) is c.place-at.ensures.below
-    in
-    let above =
-    subst (λ (es : List (ℕ × Bounds)). AllWithin (λ e. nat_lt e.0 c.args.slot ≡ false) es c.place-at.result (length es)) is c.place-at.ensures.above
-    in
-    let absent : contains_key (bodies_of (zip slots boxes)) c.args.slot ≡ false =
-    ap (λ (m : FinMap nat_cmp Bounds). contains_key m c.args.slot) c.self.view_is ∙ c.requires.absent
-    in
-    let law = c.beside_laws.ensures.inserted slots boxes c.place-at.result c.args.slot c.args.body c.self.invariant.same in
+    let a = c.self.invariant in
+    let at = c.place-at.result in
+    let p = placed slots boxes a c.args.self.now c.args.slot at c.self.view_is c.place-at.ensures in
+    let absent = ap (λ (m : FinMap nat_cmp Bounds). contains_key m c.args.slot) c.self.view_is ∙ c.requires.absent in
+    let law = c.beside_laws.ensures.inserted slots boxes at c.args.slot c.args.body a.same in
     rw (c.insert-2.ensures.items, c.unwrap.ensures, c.reserve.ensures.items, c.in_ok-insert.ensures.ok)
-    (inserted_are slots boxes c.self.invariant c.args.slot c.place-at.result le below above c.args.body c.requires.small absent law)
+    (inserted_are slots boxes a c.args.slot at p c.args.body c.requires.small absent law)
 
 pub returns : goal.returns
 returns c =
     let slots = c.self.inside.slots.items in
     let boxes = c.self.inside.boxes.boxes in
-    let is : entries c.args.self.now ≡ zip slots boxes = ap entries (sym c.self.view_is) ∙ entries_are slots boxes c.self.invariant in
-    let le : c.place-at.result ≤ length (zip slots boxes) = omega (arith, ap length is, c.place-at.ensures.bound) in
-    let below =
-    subst (λ (es : List (ℕ × Bounds)). AllWithin (λ e. nat_lt e.0 c.args.slot ≡ true) es 0 c.place-at.result) is c.place-at.ensures.below
-    in
-    let above =
-    subst (λ (es : List (ℕ × Bounds)). AllWithin (λ e. nat_lt e.0 c.args.slot ≡ false) es c.place-at.result (length es)) is c.place-at.ensures.above
-    in
-    let absent : contains_key (bodies_of (zip slots boxes)) c.args.slot ≡ false =
-    ap (λ (m : FinMap nat_cmp Bounds). contains_key m c.args.slot) c.self.view_is ∙ c.requires.absent
-    in
-    let law = c.beside_laws.ensures.inserted slots boxes c.place-at.result c.args.slot c.args.body c.self.invariant.same in
+    let a = c.self.invariant in
+    let at = c.place-at.result in
+    let p = placed slots boxes a c.args.self.now c.args.slot at c.self.view_is c.place-at.ensures in
+    let absent = ap (λ (m : FinMap nat_cmp Bounds). contains_key m c.args.slot) c.self.view_is ∙ c.requires.absent in
+    let law = c.beside_laws.ensures.inserted slots boxes at c.args.slot c.args.body a.same in
     rw (c.insert-2.ensures.items, c.unwrap.ensures, c.reserve.ensures.items, c.in_ok-insert.ensures.ok)
     (record {
       ok =
-          inserted_map slots boxes c.self.invariant c.args.slot c.place-at.result le below above c.args.body absent law
+          inserted_map slots boxes a c.args.slot at p c.args.body absent law
           ∙ ap (λ (m : FinMap nat_cmp Bounds). insert_key m c.args.slot c.args.body) c.self.view_is
     })

@@ -6,78 +6,50 @@ use Rattle.std.specs.FinMap.{FinMap, entries, contains_key, insert as insert_key
 use Rattle.fixed_box.specs.Bounds.{Bounds, meets, holds}
 use Rattle.broad_index.specs.Index.{bodies_of}
 use Rattle.broad_index.specs.Near.{near_of, partners}
-use Rattle.broad_index.proofs.PlainEntries.{entries_are, at_within, removed_are, removed_map}
+use Rattle.broad_index.proofs.PlainEntries.{at_within, placed, removed_are, removed_map}
 use Rattle.broad_index.proofs.entries.Entries.remove.Goals as goal
 
 pub remove-requires : goal.remove-requires
 remove-requires c =
     let slots = c.self.inside.slots.items in
     let boxes = c.self.inside.boxes.boxes in
-    let is : entries c.args.self.now ≡ zip slots boxes = ap entries (sym c.self.view_is) ∙ entries_are slots boxes c.self.invariant in
-    let le : c.place-at.result ≤ length (zip slots boxes) = omega (arith, ap length is, c.place-at.ensures.bound) in
-    let below =
-    subst (λ (es : List (ℕ × Bounds)). AllWithin (λ e. nat_lt e.0 c.args.slot ≡ true) es 0 c.place-at.result) is c.place-at.ensures.below
-    in
-    let above =
-    subst (λ (es : List (ℕ × Bounds)). AllWithin (λ e. nat_lt e.0 c.args.slot ≡ false) es c.place-at.result (length es)) is c.place-at.ensures.above
-    in
-    let present : contains_key (bodies_of (zip slots boxes)) c.args.slot ≡ true =
-    ap (λ (m : FinMap nat_cmp Bounds). contains_key m c.args.slot) c.self.view_is ∙ c.requires
-    in
-    omega (arith, at_within slots boxes c.self.invariant c.args.slot c.place-at.result le below above present)
+    let a = c.self.invariant in
+    let at = c.place-at.result in
+    let p = placed slots boxes a c.args.self.now c.args.slot at c.self.view_is c.place-at.ensures in
+    let present = ap (λ (m : FinMap nat_cmp Bounds). contains_key m c.args.slot) c.self.view_is ∙ c.requires in
+    omega (arith, at_within slots boxes a c.args.slot at p present)
 
 pub remove-requires-2 : goal.remove-requires-2
 remove-requires-2 c =
     let slots = c.self.inside.slots.items in
     let boxes = c.self.inside.boxes.boxes in
-    let is : entries c.args.self.now ≡ zip slots boxes = ap entries (sym c.self.view_is) ∙ entries_are slots boxes c.self.invariant in
-    let le : c.place-at.result ≤ length (zip slots boxes) = omega (arith, ap length is, c.place-at.ensures.bound) in
-    let below =
-    subst (λ (es : List (ℕ × Bounds)). AllWithin (λ e. nat_lt e.0 c.args.slot ≡ true) es 0 c.place-at.result) is c.place-at.ensures.below
-    in
-    let above =
-    subst (λ (es : List (ℕ × Bounds)). AllWithin (λ e. nat_lt e.0 c.args.slot ≡ false) es c.place-at.result (length es)) is c.place-at.ensures.above
-    in
-    let present : contains_key (bodies_of (zip slots boxes)) c.args.slot ≡ true =
-    ap (λ (m : FinMap nat_cmp Bounds). contains_key m c.args.slot) c.self.view_is ∙ c.requires
-    in
-    omega (arith, at_within slots boxes c.self.invariant c.args.slot c.place-at.result le below above present, c.self.invariant.same)
+    let a = c.self.invariant in
+    let at = c.place-at.result in
+    let p = placed slots boxes a c.args.self.now c.args.slot at c.self.view_is c.place-at.ensures in
+    let present = ap (λ (m : FinMap nat_cmp Bounds). contains_key m c.args.slot) c.self.view_is ∙ c.requires in
+    omega (arith, at_within slots boxes a c.args.slot at p present, a.same)
 
 pub invariant_of-self : goal.invariant_of-self
 invariant_of-self c =
     let slots = c.self.inside.slots.items in
     let boxes = c.self.inside.boxes.boxes in
-    let is : entries c.args.self.now ≡ zip slots boxes = ap entries (sym c.self.view_is) ∙ entries_are slots boxes c.self.invariant in
-    let le : c.place-at.result ≤ length (zip slots boxes) = omega (arith, ap length is, c.place-at.ensures.bound) in
-    let below =
-    subst (λ (es : List (ℕ × Bounds)). AllWithin (λ e. nat_lt e.0 c.args.slot ≡ true) es 0 c.place-at.result) is c.place-at.ensures.below
-    in
-    let above =
-    subst (λ (es : List (ℕ × Bounds)). AllWithin (λ e. nat_lt e.0 c.args.slot ≡ false) es c.place-at.result (length es)) is c.place-at.ensures.above
-    in
-    let present : contains_key (bodies_of (zip slots boxes)) c.args.slot ≡ true =
-    ap (λ (m : FinMap nat_cmp Bounds). contains_key m c.args.slot) c.self.view_is ∙ c.requires
-    in
-    let law = c.beside_laws.ensures.removed slots boxes c.place-at.result c.self.invariant.same in
+    let a = c.self.invariant in
+    let at = c.place-at.result in
+    let p = placed slots boxes a c.args.self.now c.args.slot at c.self.view_is c.place-at.ensures in
+    let present = ap (λ (m : FinMap nat_cmp Bounds). contains_key m c.args.slot) c.self.view_is ∙ c.requires in
+    let law = c.beside_laws.ensures.removed slots boxes at a.same in
     rw (c.remove.ensures.items, c.remove-2.ensures.boxes)
-    (removed_are slots boxes c.self.invariant c.args.slot c.place-at.result le below above present law)
+    (removed_are slots boxes a c.args.slot at p present law)
 
 pub returns : goal.returns
 returns c =
     let slots = c.self.inside.slots.items in
     let boxes = c.self.inside.boxes.boxes in
-    let is : entries c.args.self.now ≡ zip slots boxes = ap entries (sym c.self.view_is) ∙ entries_are slots boxes c.self.invariant in
-    let le : c.place-at.result ≤ length (zip slots boxes) = omega (arith, ap length is, c.place-at.ensures.bound) in
-    let below =
-    subst (λ (es : List (ℕ × Bounds)). AllWithin (λ e. nat_lt e.0 c.args.slot ≡ true) es 0 c.place-at.result) is c.place-at.ensures.below
-    in
-    let above =
-    subst (λ (es : List (ℕ × Bounds)). AllWithin (λ e. nat_lt e.0 c.args.slot ≡ false) es c.place-at.result (length es)) is c.place-at.ensures.above
-    in
-    let present : contains_key (bodies_of (zip slots boxes)) c.args.slot ≡ true =
-    ap (λ (m : FinMap nat_cmp Bounds). contains_key m c.args.slot) c.self.view_is ∙ c.requires
-    in
-    let law = c.beside_laws.ensures.removed slots boxes c.place-at.result c.self.invariant.same in
+    let a = c.self.invariant in
+    let at = c.place-at.result in
+    let p = placed slots boxes a c.args.self.now c.args.slot at c.self.view_is c.place-at.ensures in
+    let present = ap (λ (m : FinMap nat_cmp Bounds). contains_key m c.args.slot) c.self.view_is ∙ c.requires in
+    let law = c.beside_laws.ensures.removed slots boxes at a.same in
     rw (c.remove.ensures.items, c.remove-2.ensures.boxes)
-    (removed_map slots boxes c.self.invariant c.args.slot c.place-at.result le below above present law
+    (removed_map slots boxes a c.args.slot at p present law
     ∙ ap (λ (m : FinMap nat_cmp Bounds). remove_key m c.args.slot) c.self.view_is)

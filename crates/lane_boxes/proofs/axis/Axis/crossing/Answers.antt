@@ -1,26 +1,23 @@
 -- The lanes of both comparisons, over the two columns.
-use Rattle.std.proofs.Common.{◌≡◌, ◌+◌, ◌<◌, ◌≤◌, [], ◌∷◌, ◌++◌, length, insert, remove, swap_remove, slice_set, slice_index_or, ap, sym, ◌∙◌, arith, rules, w32, SFits, to_z, of_z, map, take, drop, int_le}
+use Rattle.std.proofs.Common.{ap, ◌∙◌, arith, rules, w32, SFits, map, take, drop, int_le}
 use Rattle.std.proofs.lemmas.Int.{to_z-of_z}
-use Rattle.lane_boxes.specs.Spans.{spans_of, IsSpan, Spans}
-use Rattle.lane_boxes.proofs.SpanLists.{spans_long, lows_fit, highs_fit}
+use Rattle.lane_boxes.proofs.SpanLists.{ends_long, lows_fit, highs_fit}
 use Rattle.lane_boxes.specs.Spans.{lane}
 use Rattle.lane_boxes.proofs.Crossing.{both_lanes, crossing_is}
 use Rattle.lane_boxes.proofs.axis.Axis.crossing.Goals as goal
 
 pub at_most-requires-clause-room : goal.at_most-requires-clause-room
 at_most-requires-clause-room c =
-    let long = spans_long c.self.inside.lo.items c.self.inside.hi.items c.self.invariant in
-    let seen = ap (λ (s : Spans). length s.spans) c.self.view_is in
-    rw c.deref-2.ensures.value (omega (arith, long, seen))
+    let ends = ends_long c.self.inside.lo.items c.self.inside.hi.items _ c.args.self.now c.self.invariant c.self.view_is in
+    rw c.deref-2.ensures.value (omega (arith, ends.lo))
 
 pub at_most-requires-clause-fit : goal.at_most-requires-clause-fit
 at_most-requires-clause-fit c = rw c.deref-2.ensures.value (lows_fit c.self.inside.lo.items c.self.inside.hi.items c.self.invariant)
 
 pub at_least-requires-clause-room : goal.at_least-requires-clause-room
 at_least-requires-clause-room c =
-    let long = spans_long c.self.inside.lo.items c.self.inside.hi.items c.self.invariant in
-    let seen = ap (λ (s : Spans). length s.spans) c.self.view_is in
-    rw c.deref.ensures.value (omega (arith, long, seen, c.self.invariant.same))
+    let ends = ends_long c.self.inside.lo.items c.self.inside.hi.items _ c.args.self.now c.self.invariant c.self.view_is in
+    rw c.deref.ensures.value (omega (arith, ends.hi))
 
 pub at_least-requires-clause-fit : goal.at_least-requires-clause-fit
 at_least-requires-clause-fit c = rw c.deref.ensures.value (highs_fit c.self.inside.lo.items c.self.inside.hi.items c.self.invariant)

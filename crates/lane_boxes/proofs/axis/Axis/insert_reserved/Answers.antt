@@ -1,22 +1,20 @@
 -- Both columns get a number at the place.
-use Rattle.std.proofs.Common.{◌≡◌, ◌+◌, ◌<◌, ◌≤◌, [], ◌∷◌, ◌++◌, length, insert, remove, swap_remove, slice_set, slice_index_or, ap, sym, ◌∙◌, arith, rules, w32, SFits, to_z, of_z}
+use Rattle.std.proofs.Common.{sym, arith, rules, w32, SFits}
 use Rattle.std.proofs.lemmas.Int.{to_z-of_z}
-use Rattle.lane_boxes.specs.Spans.{spans_of, IsSpan, Spans}
-use Rattle.lane_boxes.proofs.SpanLists.{spans_long, span, are_inserted}
+use Rattle.lane_boxes.specs.Spans.{IsSpan}
+use Rattle.lane_boxes.proofs.SpanLists.{ends_long, span, are_inserted}
 use Rattle.lane_boxes.proofs.Beside.{beside_insert}
 use Rattle.lane_boxes.proofs.axis.Axis.insert_reserved.Goals as goal
 
 pub insert-requires : goal.insert-requires
 insert-requires c =
-    let long = spans_long c.self.inside.lo.items c.self.inside.hi.items c.self.invariant in
-    let seen = ap (λ (s : Spans). length s.spans) c.self.view_is in
-    omega (arith, long, seen, c.self.invariant.same)
+    let ends = ends_long c.self.inside.lo.items c.self.inside.hi.items _ c.args.self.now c.self.invariant c.self.view_is in
+    omega (arith, ends.lo)
 
 pub insert-requires-2 : goal.insert-requires-2
 insert-requires-2 c =
-    let long = spans_long c.self.inside.lo.items c.self.inside.hi.items c.self.invariant in
-    let seen = ap (λ (s : Spans). length s.spans) c.self.view_is in
-    omega (arith, long, seen, c.self.invariant.same)
+    let ends = ends_long c.self.inside.lo.items c.self.inside.hi.items _ c.args.self.now c.self.invariant c.self.view_is in
+    omega (arith, ends.hi)
 
 pub invariant_of-self : goal.invariant_of-self
 invariant_of-self c =

@@ -1,8 +1,8 @@
 -- Both columns get a number.
-use Rattle.std.proofs.Common.{◌≡◌, ◌+◌, ◌<◌, ◌≤◌, [], ◌∷◌, ◌++◌, length, insert, remove, swap_remove, slice_set, slice_index_or, ap, sym, ◌∙◌, arith, rules, w32, SFits, to_z, of_z}
+use Rattle.std.proofs.Common.{[], ◌∷◌, sym, rules, w32, SFits}
 use Rattle.std.proofs.lemmas.Int.{to_z-of_z}
-use Rattle.lane_boxes.specs.Spans.{spans_of, IsSpan, Spans}
-use Rattle.lane_boxes.proofs.SpanLists.{spans_long, span, are_pushed}
+use Rattle.lane_boxes.specs.Spans.{IsSpan}
+use Rattle.lane_boxes.proofs.SpanLists.{span, are_pushed}
 use Rattle.lane_boxes.proofs.Beside.{beside_append}
 use Rattle.lane_boxes.proofs.axis.Axis.push_reserved.Goals as goal
 

@@ -1,16 +1,13 @@
 -- Both columns lose the number at the place.
-use Rattle.std.proofs.Common.{◌≡◌, ◌+◌, ◌<◌, ◌≤◌, [], ◌∷◌, ◌++◌, length, insert, remove, swap_remove, slice_set, slice_index_or, ap, sym, ◌∙◌, arith, rules, w32, SFits, to_z, of_z}
-use Rattle.std.proofs.lemmas.Int.{to_z-of_z}
-use Rattle.lane_boxes.specs.Spans.{spans_of, IsSpan, Spans}
-use Rattle.lane_boxes.proofs.SpanLists.{spans_long, span, are_removed}
+use Rattle.std.proofs.Common.{sym, arith}
+use Rattle.lane_boxes.proofs.SpanLists.{ends_long, span, are_removed}
 use Rattle.lane_boxes.proofs.Beside.{beside_remove}
 use Rattle.lane_boxes.proofs.axis.Axis.remove.Goals as goal
 
 pub remove-requires : goal.remove-requires
 remove-requires c =
-    let long = spans_long c.self.inside.lo.items c.self.inside.hi.items c.self.invariant in
-    let seen = ap (λ (s : Spans). length s.spans) c.self.view_is in
-    omega (arith, long, seen, c.self.invariant.same)
+    let ends = ends_long c.self.inside.lo.items c.self.inside.hi.items _ c.args.self.now c.self.invariant c.self.view_is in
+    omega (arith, ends.lo)
 
 pub invariant_of-self : goal.invariant_of-self
 invariant_of-self c =

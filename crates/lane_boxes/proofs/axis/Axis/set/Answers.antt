@@ -1,22 +1,20 @@
 -- Both columns get another number at the place.
-use Rattle.std.proofs.Common.{◌≡◌, ◌+◌, ◌<◌, ◌≤◌, [], ◌∷◌, ◌++◌, length, insert, remove, swap_remove, slice_set, slice_index_or, ap, sym, ◌∙◌, arith, rules, w32, SFits, to_z, of_z}
+use Rattle.std.proofs.Common.{arith, rules, w32, SFits}
 use Rattle.std.proofs.lemmas.Int.{to_z-of_z}
-use Rattle.lane_boxes.specs.Spans.{spans_of, IsSpan, Spans}
-use Rattle.lane_boxes.proofs.SpanLists.{spans_long, span, are_set}
+use Rattle.lane_boxes.specs.Spans.{IsSpan}
+use Rattle.lane_boxes.proofs.SpanLists.{ends_long, span, are_set}
 use Rattle.lane_boxes.proofs.Beside.{beside_set}
 use Rattle.lane_boxes.proofs.axis.Axis.set.Goals as goal
 
 pub index_mut-requires : goal.index_mut-requires
 index_mut-requires c =
-    let long = spans_long c.self.inside.lo.items c.self.inside.hi.items c.self.invariant in
-    let seen = ap (λ (s : Spans). length s.spans) c.self.view_is in
-    omega (arith, long, seen, c.self.invariant.same)
+    let ends = ends_long c.self.inside.lo.items c.self.inside.hi.items _ c.args.self.now c.self.invariant c.self.view_is in
+    omega (arith, ends.lo)
 
 pub index_mut-requires-2 : goal.index_mut-requires-2
 index_mut-requires-2 c =
-    let long = spans_long c.self.inside.lo.items c.self.inside.hi.items c.self.invariant in
-    let seen = ap (λ (s : Spans). length s.spans) c.self.view_is in
-    omega (arith, long, seen, c.self.invariant.same)
+    let ends = ends_long c.self.inside.lo.items c.self.inside.hi.items _ c.args.self.now c.self.invariant c.self.view_is in
+    omega (arith, ends.hi)
 
 pub invariant_of-self : goal.invariant_of-self
 invariant_of-self c =

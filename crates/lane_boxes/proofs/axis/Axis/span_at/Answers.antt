@@ -1,29 +1,26 @@
 -- The interval is the two numbers there.
-use Rattle.std.proofs.Common.{◌≡◌, ◌+◌, ◌<◌, ◌≤◌, [], ◌∷◌, ◌++◌, length, insert, remove, swap_remove, slice_set, slice_index_or, ap, sym, ◌∙◌, arith, rules, w32, SFits, to_z, of_z, ap₂}
+use Rattle.std.proofs.Common.{sym, ◌∙◌, arith, w32, ap₂}
 use Rattle.std.proofs.lemmas.Int.{to_z-of_z}
-use Rattle.lane_boxes.specs.Spans.{spans_of, IsSpan, Spans}
-use Rattle.lane_boxes.proofs.SpanLists.{spans_long, span, spans_at, is_span}
+use Rattle.lane_boxes.specs.Spans.{IsSpan}
+use Rattle.lane_boxes.proofs.SpanLists.{ends_long, span, spans_at, is_span}
 use Rattle.lane_boxes.proofs.axis.Axis.span_at.Goals as goal
 
 pub index-requires : goal.index-requires
 index-requires c =
-    let long = spans_long c.self.inside.lo.items c.self.inside.hi.items c.self.invariant in
-    let seen = ap (λ (s : Spans). length s.spans) c.self.view_is in
-    omega (arith, long, seen, c.self.invariant.same)
+    let ends = ends_long c.self.inside.lo.items c.self.inside.hi.items _ c.args.self.now c.self.invariant c.self.view_is in
+    omega (arith, ends.lo)
 
 pub index-requires-2 : goal.index-requires-2
 index-requires-2 c =
-    let long = spans_long c.self.inside.lo.items c.self.inside.hi.items c.self.invariant in
-    let seen = ap (λ (s : Spans). length s.spans) c.self.view_is in
-    omega (arith, long, seen, c.self.invariant.same)
+    let ends = ends_long c.self.inside.lo.items c.self.inside.hi.items _ c.args.self.now c.self.invariant c.self.view_is in
+    omega (arith, ends.hi)
 
 pub returns-clause-span : goal.returns-clause-span
 returns-clause-span c =
-    let long = spans_long c.self.inside.lo.items c.self.inside.hi.items c.self.invariant in
-    let seen = ap (λ (s : Spans). length s.spans) c.self.view_is in
+    let ends = ends_long c.self.inside.lo.items c.self.inside.hi.items _ c.args.self.now c.self.invariant c.self.view_is in
     let one : IsSpan (span c.index.result.now c.index-2.result.now) =
     rw (c.index.ensures, c.index-2.ensures)
-    (is_span c.self.inside.lo.items c.self.inside.hi.items c.args.at c.index.result.now c.index-2.result.now (omega (arith, long, seen)) c.self.invariant)
+    (is_span c.self.inside.lo.items c.self.inside.hi.items c.args.at c.index.result.now c.index-2.result.now (omega (arith, ends.lo)) c.self.invariant)
     in
     rw (to_z-of_z w32 c.index.result.now one.lo, to_z-of_z w32 c.index-2.result.now one.hi, ← c.self.view_is)
     (ap₂ span c.index.ensures c.index-2.ensures
@@ -31,10 +28,9 @@ returns-clause-span c =
 
 pub returns-clause-ordered : goal.returns-clause-ordered
 returns-clause-ordered c =
-    let long = spans_long c.self.inside.lo.items c.self.inside.hi.items c.self.invariant in
-    let seen = ap (λ (s : Spans). length s.spans) c.self.view_is in
+    let ends = ends_long c.self.inside.lo.items c.self.inside.hi.items _ c.args.self.now c.self.invariant c.self.view_is in
     let one : IsSpan (span c.index.result.now c.index-2.result.now) =
     rw (c.index.ensures, c.index-2.ensures)
-    (is_span c.self.inside.lo.items c.self.inside.hi.items c.args.at c.index.result.now c.index-2.result.now (omega (arith, long, seen)) c.self.invariant)
+    (is_span c.self.inside.lo.items c.self.inside.hi.items c.args.at c.index.result.now c.index-2.result.now (omega (arith, ends.lo)) c.self.invariant)
     in
     rw (to_z-of_z w32 c.index.result.now one.lo, to_z-of_z w32 c.index-2.result.now one.hi) one.ordered

@@ -1,7 +1,6 @@
 -- An empty mask has no place.
-use Rattle.std.proofs.Common.{◌≡◌, ◌+◌, ◌-◌, ◌<◌, ◌≤◌, length, drop, sym, ◌∙◌, arith}
+use Rattle.std.proofs.Common.{◌≡◌, sym, ◌∙◌, arith}
 use Rattle.fixed_box.specs.Bounds.{meets}
-use Rattle.lane_boxes.specs.Places.{places}
 use Rattle.lane_boxes.proofs.Masks.{empty_mask}
 use Rattle.lane_boxes.proofs.columns.Columns.next_mask.Goals as goal
 
@@ -12,5 +11,5 @@ eights-preserved c =
     record {
       later = omega arith;
       within = omega (arith, c.len-len.ensures);
-      passed = c.eights.invariant.passed ∙ sym (empty_mask (meets c.args.body.now) c.eights.at c.args.self.now.boxes none)
+      passed = c.eights.invariant.passed ∙ sym (empty_mask (meets c.args.body.now) c.eights.at c.args.self.now.boxes none);
     }

@@ -8,7 +8,7 @@ abbrev pub invariant-eights : goal.invariant-eights
 invariant-eights l = record {
   later : l.from ≤ l.at;
   within : l.at ≤ length l.self.boxes;
-  passed : places (meets l.body) l.from (drop l.from l.self.boxes) ≡ places (meets l.body) l.at (drop l.at l.self.boxes)
+  passed : places (meets l.body) l.from (drop l.from l.self.boxes) ≡ places (meets l.body) l.at (drop l.at l.self.boxes);
 }
 
 abbrev pub decreases-eights : goal.decreases-eights

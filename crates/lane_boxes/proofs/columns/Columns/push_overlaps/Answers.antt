@@ -1,5 +1,5 @@
 -- Each mask appends the places of the next eight boxes.
-use Rattle.std.proofs.Common.{◌≡◌, ◌+◌, ◌^◌, ◌<◌, ◌≤◌, ◌++◌, drop, take, length, vec_len, append_assoc, ap, sym, ◌∙◌, arith}
+use Rattle.std.proofs.Common.{◌+◌, ◌^◌, ◌++◌, drop, append_assoc, ap, sym, ◌∙◌, arith}
 use Rattle.std.proofs.lemmas.Grind.{common_steps}
 use Rattle.fixed_box.specs.Bounds.{meets}
 use Rattle.lane_boxes.specs.Bits.{set_places}
@@ -25,5 +25,5 @@ hits-preserved c =
           (append_assoc c.hits.out.items (set_places 8 at (next_eight test at boxes)) (places test (at + 8) (drop (at + 8) boxes))
           ∙ ap (λ l. c.hits.out.items ++ l) (mask_before test at boxes ∙ sym c.next_mask-block.ensures.passed)
           ∙ c.hits.invariant.whole);
-      kept = rw more (grind (arith, common_steps))
+      kept = rw more (grind (arith, common_steps));
     }

@@ -1,5 +1,5 @@
 -- What was appended, with what a plain filter keeps from `at` on, is the whole.
-use Rattle.std.proofs.Common.{◌≡◌, ◌+◌, ◌-◌, ◌<◌, ◌≤◌, ◌^◌, ◌++◌, drop, take, vec_len}
+use Rattle.std.proofs.Common.{◌≡◌, ◌-◌, ◌≤◌, ◌++◌, drop, take, vec_len}
 use Rattle.fixed_box.specs.Bounds.{meets}
 use Rattle.lane_boxes.specs.Places.{places}
 use Rattle.lane_boxes.proofs.columns.Columns.push_overlaps.Given as goal

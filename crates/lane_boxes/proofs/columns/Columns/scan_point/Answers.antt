@@ -4,7 +4,7 @@ use Rattle.std.specs.Cmp.{first_so}
 use Rattle.std.specs.Option.{SomeIff}
 use Rattle.fixed_box.specs.declared.point.Point.{Point}
 use Rattle.fixed_box.specs.Point.{is_at_most}
-use Rattle.fixed_box.specs.Bounds.{Bounds, meets, holds, encloses}
+use Rattle.fixed_box.specs.Bounds.{Bounds, meets, holds}
 use Rattle.lane_boxes.specs.Places.{places}
 use Rattle.lane_boxes.proofs.columns.Columns.scan_point.Goals as goal
 

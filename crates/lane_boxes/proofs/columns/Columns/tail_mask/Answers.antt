@@ -1,5 +1,5 @@
 -- Fewer than eight boxes make a mask that fits.
-use Rattle.std.proofs.Common.{◌+◌, ◌<◌, ◌≤◌, ◌^◌, arith, length, map, drop, length-drop}
+use Rattle.std.proofs.Common.{◌≤◌, arith, length, map, drop, length-drop}
 use Rattle.std.proofs.lemmas.List.{length-map}
 use Rattle.fixed_box.specs.Bounds.{meets}
 use Rattle.lane_boxes.proofs.Masks.{mask_small, bit_small}
