@@ -1,5 +1,5 @@
 -- Slots in order with their boxes beside them, as the map that they are.
-use Rattle.std.proofs.Common.{◌≡◌, ℕ, zero, suc, ◌+◌, ◌-◌, ◌<◌, ◌≤◌, ℤ, pos, Bool, true, false, cond, T, List, [], ◌∷◌, ◌++◌, length, map, filter, take, drop, zip, insert, remove, set, get_or, All, refl, sym, ap, ap₂, subst, ◌∙◌, arith, nat_lt, is_some}
+use Rattle.std.proofs.Common.{◌≡◌, ℕ, suc, ◌+◌, ◌<◌, ◌≤◌, pos, Bool, true, false, cond, T, List, ◌∷◌, ◌++◌, length, map, filter, take, drop, zip, insert, remove, set, get_or, sym, ap, ap₂, subst, ◌∙◌, arith, nat_lt, is_some}
 use Rattle.std.proofs.Common.{length-append, length-take, length-drop, length-set}
 use Rattle.std.specs.List.{AllWithin}
 use Rattle.std.specs.List.Sorted.{IsPartitionedBy}
@@ -72,7 +72,7 @@ module _ (slots : List ℕ) (boxes : List Bounds) (a : AreEntries slots boxes) w
           (sorted_put (zip slots boxes) slot body a.sorted);
       small =
           All-append (λ s. s < SLOTS) (take at slots) (slot ∷ drop at slots) (All-take (λ s. s < SLOTS) at slots a.small)
-          (All-cons (λ s. s < SLOTS) slot (drop at slots) small (All-drop (λ s. s < SLOTS) at slots a.small))
+          (All-cons (λ s. s < SLOTS) slot (drop at slots) small (All-drop (λ s. s < SLOTS) at slots a.small));
     }
 
     module _ (present : contains_key (bodies_of (zip slots boxes)) slot ≡ true) where
@@ -98,7 +98,7 @@ module _ (slots : List ℕ) (boxes : List Bounds) (a : AreEntries slots boxes) w
       set_are body law = record {
         same = omega (arith, length-set boxes at body, a.same);
         sorted = subst (λ es. T (is_sorted nat_cmp es)) (sym (set_put body law)) (sorted_put (zip slots boxes) slot body a.sorted);
-        small = a.small
+        small = a.small;
       }
 
       pub removed_map : zip (remove slots at) (remove boxes at) ≡ remove (zip slots boxes) at
@@ -112,7 +112,7 @@ module _ (slots : List ℕ) (boxes : List Bounds) (a : AreEntries slots boxes) w
         sorted = subst (λ es. T (is_sorted nat_cmp es)) (sym law) (sorted_removed (zip slots boxes) slot at a.sorted there p.bound p.below p.above);
         small =
             All-append (λ s. s < SLOTS) (take at slots) (drop (suc at) slots) (All-take (λ s. s < SLOTS) at slots a.small)
-            (All-drop (λ s. s < SLOTS) (suc at) slots a.small)
+            (All-drop (λ s. s < SLOTS) (suc at) slots a.small);
       }
 
   -- the places of the later boxes that meet one name its partners

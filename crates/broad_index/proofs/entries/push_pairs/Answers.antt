@@ -1,13 +1,7 @@
 -- One place after the other.
-use Rattle.std.proofs.Common.{◌≡◌, ℕ, ◌+◌, ◌-◌, ◌<◌, ◌≤◌, ◌++◌, [], ◌∷◌, true, false, T, List, All, length, map, filter, take, drop, zip, insert, remove, set, slice_set, get_or, nat_lt, ap, sym, subst, ◌∙◌, arith, rules}
-use Rattle.std.specs.List.{AllWithin}
-use Rattle.std.specs.Ordering.{nat_cmp}
-use Rattle.std.specs.FinMap.{FinMap, entries, contains_key, insert as insert_key, remove as remove_key}
-use Rattle.fixed_box.specs.Bounds.{Bounds, meets, holds}
-use Rattle.broad_index.specs.Index.{bodies_of}
-use Rattle.broad_index.specs.Near.{near_of, partners}
+use Rattle.std.proofs.Common.{◌+◌, ◌++◌, [], ◌∷◌, drop, get_or, ap, sym, ◌∙◌, arith}
 use Rattle.std.proofs.lemmas.Grind.{common_steps}
-use Rattle.std.proofs.Common.{append_assoc, OnOk}
+use Rattle.std.proofs.Common.{append_assoc}
 use Rattle.std.proofs.lemmas.List.{drop_more}
 use Rattle.broad_index.specs.Entries.{pairs_at}
 use Rattle.broad_index.proofs.entries.push_pairs.Goals as goal
@@ -24,5 +18,5 @@ places-preserved c =
           (append_assoc c.places.out.items (pairs (get_or places at 0 ∷ [])) (pairs (drop (at + 1) places))
           ∙ ap (λ l. c.places.out.items ++ pairs l) (sym (drop_more places at 0 c.places-test.true))
           ∙ c.places.invariant.found);
-      kept = rw c.in_ok-push.ensures.items (grind (arith, common_steps))
+      kept = rw c.in_ok-push.ensures.items (grind (arith, common_steps));
     }

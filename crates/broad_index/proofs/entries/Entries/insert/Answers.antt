@@ -1,11 +1,8 @@
 -- An entry at the place for its slot is put in as in the map.
-use Rattle.std.proofs.Common.{◌≡◌, ℕ, ◌+◌, ◌-◌, ◌<◌, ◌≤◌, ◌++◌, [], ◌∷◌, true, false, T, List, All, length, map, filter, take, drop, zip, insert, remove, set, slice_set, get_or, nat_lt, ap, sym, subst, ◌∙◌, arith, rules}
-use Rattle.std.specs.List.{AllWithin}
+use Rattle.std.proofs.Common.{ap, ◌∙◌, arith}
 use Rattle.std.specs.Ordering.{nat_cmp}
-use Rattle.std.specs.FinMap.{FinMap, entries, contains_key, insert as insert_key, remove as remove_key}
-use Rattle.fixed_box.specs.Bounds.{Bounds, meets, holds}
-use Rattle.broad_index.specs.Index.{bodies_of}
-use Rattle.broad_index.specs.Near.{near_of, partners}
+use Rattle.std.specs.FinMap.{FinMap, contains_key, insert as insert_key}
+use Rattle.fixed_box.specs.Bounds.{Bounds}
 use Rattle.broad_index.proofs.PlainEntries.{inserted_are, inserted_map, placed, zip_long}
 use Rattle.broad_index.proofs.entries.Entries.insert.Goals as goal
 
@@ -52,5 +49,5 @@ returns c =
     (record {
       ok =
           inserted_map slots boxes a c.args.slot at p c.args.body absent law
-          ∙ ap (λ (m : FinMap nat_cmp Bounds). insert_key m c.args.slot c.args.body) c.self.view_is
+          ∙ ap (λ (m : FinMap nat_cmp Bounds). insert_key m c.args.slot c.args.body) c.self.view_is;
     })

@@ -1,5 +1,4 @@
 -- No slots and no boxes are the empty map.
-use Rattle.std.proofs.Common.{refl}
 use Rattle.broad_index.proofs.SortedEntries.{from_sorted-nil}
 use Rattle.broad_index.proofs.entries.Entries.new.Goals as goal
 

@@ -1,11 +1,7 @@
 -- Slots in order are parted by a slot, and their entries with them.
-use Rattle.std.proofs.Common.{◌≡◌, ℕ, ◌+◌, ◌-◌, ◌<◌, ◌≤◌, ◌++◌, [], ◌∷◌, true, false, T, List, All, length, map, filter, take, drop, zip, insert, remove, set, slice_set, get_or, nat_lt, ap, sym, subst, ◌∙◌, arith, rules}
+use Rattle.std.proofs.Common.{◌≡◌, ℕ, ◌≤◌, true, false, List, length, zip, nat_lt, ap, sym, subst, ◌∙◌, arith, rules}
 use Rattle.std.specs.List.{AllWithin}
-use Rattle.std.specs.Ordering.{nat_cmp}
-use Rattle.std.specs.FinMap.{FinMap, entries, contains_key, insert as insert_key, remove as remove_key}
-use Rattle.fixed_box.specs.Bounds.{Bounds, meets, holds}
-use Rattle.broad_index.specs.Index.{bodies_of}
-use Rattle.broad_index.specs.Near.{near_of, partners}
+use Rattle.std.specs.FinMap.{entries}
 use Rattle.broad_index.specs.Entries.{Placed}
 use Rattle.std.specs.List.Sorted.{IsPartitionedBy}
 use Rattle.std.proofs.lemmas.List.Sorted.{IsPartitionPoint-from_clause}
@@ -30,7 +26,7 @@ returns c =
     record {
       bound = omega (arith, long, bound);
       below = within_zip slots boxes c.self.invariant (λ s. below s ≡ true) 0 at bound first;
-      above = subst (λ (n : ℕ). AllWithin (λ e. below e.0 ≡ false) (zip slots boxes) at n) (sym long) above
+      above = subst (λ (n : ℕ). AllWithin (λ e. below e.0 ≡ false) (zip slots boxes) at n) (sym long) above;
     }
     in
     subst (λ es. Placed es c.args.slot at) (sym is) found

@@ -1,13 +1,8 @@
 -- One box after the other.
-use Rattle.std.proofs.Common.{◌≡◌, ℕ, ◌+◌, ◌-◌, ◌<◌, ◌≤◌, ◌++◌, [], ◌∷◌, true, false, T, List, All, length, map, filter, take, drop, zip, insert, remove, set, slice_set, get_or, nat_lt, ap, sym, subst, ◌∙◌, arith, rules}
-use Rattle.std.specs.List.{AllWithin}
-use Rattle.std.specs.Ordering.{nat_cmp}
-use Rattle.std.specs.FinMap.{FinMap, entries, contains_key, insert as insert_key, remove as remove_key}
-use Rattle.fixed_box.specs.Bounds.{Bounds, meets, holds}
-use Rattle.broad_index.specs.Index.{bodies_of}
-use Rattle.broad_index.specs.Near.{near_of, partners}
+use Rattle.std.proofs.Common.{◌≡◌, ◌+◌, ◌<◌, ◌≤◌, ◌++◌, [], ◌∷◌, length, drop, zip, ap, sym, ◌∙◌, arith}
+use Rattle.std.specs.FinMap.{entries}
 use Rattle.std.proofs.lemmas.Grind.{common_steps}
-use Rattle.std.proofs.Common.{append_assoc, OnOk}
+use Rattle.std.proofs.Common.{append_assoc}
 use Rattle.std.proofs.Common.{append-nil}
 use Rattle.std.proofs.lemmas.List.{drop_all}
 use Rattle.broad_index.specs.Found.{found_of}
@@ -27,22 +22,22 @@ boxes-preserved c =
     let within : at < length slots = omega (arith, c.len.ensures) in
     elim c.if-meets.branch [
       | then-meets+in_ok-push w ↦
-        let s = w.index.result.now in
-        let met = found_met slots boxes c.self.invariant query at s body within w.index.ensures c.box_at.ensures (sym c.meets.ensures ∙ w.if-meets.true) in
-        record {
-          within = omega (arith, within);
-          found =
-              rw (w.out-is, w.in_ok-push.ensures.items)
-              (append_assoc before (s ∷ []) rest ∙ ap (λ l. before ++ l) (sym met) ∙ c.boxes.invariant.found);
-          kept = rw (w.out-is, w.in_ok-push.ensures.items) (grind (arith, common_steps))
-        }
+          let s = w.index.result.now in
+          let met = found_met slots boxes c.self.invariant query at s body within w.index.ensures c.box_at.ensures (sym c.meets.ensures ∙ w.if-meets.true) in
+          record {
+            within = omega (arith, within);
+            found =
+                rw (w.out-is, w.in_ok-push.ensures.items)
+                (append_assoc before (s ∷ []) rest ∙ ap (λ l. before ++ l) (sym met) ∙ c.boxes.invariant.found);
+            kept = rw (w.out-is, w.in_ok-push.ensures.items) (grind (arith, common_steps));
+          }
       | else-meets w ↦
-        let missed = found_missed slots boxes c.self.invariant query at body within c.box_at.ensures (sym c.meets.ensures ∙ w.if-meets.false) in
-        record {
-          within = omega (arith, within);
-          found = rw w.out-is (ap (λ l. before ++ l) (sym missed) ∙ c.boxes.invariant.found);
-          kept = rw w.out-is c.boxes.invariant.kept
-        }
+          let missed = found_missed slots boxes c.self.invariant query at body within c.box_at.ensures (sym c.meets.ensures ∙ w.if-meets.false) in
+          record {
+            within = omega (arith, within);
+            found = rw w.out-is (ap (λ l. before ++ l) (sym missed) ∙ c.boxes.invariant.found);
+            kept = rw w.out-is c.boxes.invariant.kept;
+          }
     ]
 
 pub returns-clause-ok : goal.returns-clause-ok

@@ -7,8 +7,8 @@ abbrev pub invariant-boxes : goal.invariant-boxes
 invariant-boxes l = record {
   within : l.at ≤ length l.self-inside.slots.items;
   found : l.out.items ++ found_of (drop l.at (zip l.self-inside.slots.items l.self-inside.boxes.boxes)) l.query
-  ≡ l.fn.out.items ++ found_of (zip l.self-inside.slots.items l.self-inside.boxes.boxes) l.query;
-  kept : take (vec_len l.fn.out) l.out.items ≡ l.fn.out.items
+      ≡ l.fn.out.items ++ found_of (zip l.self-inside.slots.items l.self-inside.boxes.boxes) l.query;
+  kept : take (vec_len l.fn.out) l.out.items ≡ l.fn.out.items;
 }
 
 abbrev pub decreases-boxes : goal.decreases-boxes

@@ -1,11 +1,8 @@
 -- The entry at the place of its slot is taken out as in the map.
-use Rattle.std.proofs.Common.{◌≡◌, ℕ, ◌+◌, ◌-◌, ◌<◌, ◌≤◌, ◌++◌, [], ◌∷◌, true, false, T, List, All, length, map, filter, take, drop, zip, insert, remove, set, slice_set, get_or, nat_lt, ap, sym, subst, ◌∙◌, arith, rules}
-use Rattle.std.specs.List.{AllWithin}
+use Rattle.std.proofs.Common.{ap, ◌∙◌, arith}
 use Rattle.std.specs.Ordering.{nat_cmp}
-use Rattle.std.specs.FinMap.{FinMap, entries, contains_key, insert as insert_key, remove as remove_key}
-use Rattle.fixed_box.specs.Bounds.{Bounds, meets, holds}
-use Rattle.broad_index.specs.Index.{bodies_of}
-use Rattle.broad_index.specs.Near.{near_of, partners}
+use Rattle.std.specs.FinMap.{FinMap, contains_key, remove as remove_key}
+use Rattle.fixed_box.specs.Bounds.{Bounds}
 use Rattle.broad_index.proofs.PlainEntries.{at_within, placed, removed_are, removed_map}
 use Rattle.broad_index.proofs.entries.Entries.remove.Goals as goal
 
