@@ -20,7 +20,7 @@ pub still_there : (s : ℕ) (l ys zs : List ℕ) → l ≡ ys ++ 2 * s ∷ zs �
 still_there s l ys zs e h =
     let apart : (2 * s == 2 * s + 1) ≡ false = ne_eqb (2 * s) (2 * s + 1) (λ q. absurd (omega arith)) in
     let g : (2 * s == 2 * s + 1 || has (2 * s + 1) (ys ++ zs)) ≡ true =
-          sym (has_first (2 * s + 1) (2 * s) ys zs) ∙ ap (has (2 * s + 1)) (sym e) ∙ h in
+    sym (has_first (2 * s + 1) (2 * s) ys zs) ∙ ap (has (2 * s + 1)) (sym e) ∙ h in
     rw apart at g
 
 pub unlinked_both : (s : ℕ) (l ys zs us vs : List ℕ) → IsDistinct l → l ≡ ys ++ 2 * s ∷ zs → ys ++ zs ≡ us ++ (2 * s + 1) ∷ vs → us ++ vs ≡ withdrawn s l
