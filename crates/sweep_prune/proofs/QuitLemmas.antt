@@ -15,6 +15,14 @@ use Rattle.sweep_prune.specs.declared.lists.Lists.{Lists}
 use Rattle.sweep_prune.proofs.NodeLists.{has_first, distinct_without, has_filter, distinct_filter, filter_without, filter_whole}
 use Rattle.sweep_prune.proofs.StandsBefore.{absent_first, stands_filter}
 
+-- without its minimum a list still has a slot's maximum
+pub still_there : (s : ℕ) (l ys zs : List ℕ) → l ≡ ys ++ 2 * s ∷ zs → has (2 * s + 1) l ≡ true → has (2 * s + 1) (ys ++ zs) ≡ true
+still_there s l ys zs e h =
+    let apart : (2 * s == 2 * s + 1) ≡ false = ne_eqb (2 * s) (2 * s + 1) (λ q. absurd (omega arith)) in
+    let g : (2 * s == 2 * s + 1 || has (2 * s + 1) (ys ++ zs)) ≡ true =
+    sym (has_first (2 * s + 1) (2 * s) ys zs) ∙ ap (has (2 * s + 1)) (sym e) ∙ h in
+    rw apart at g
+
 pub unlinked_both : (s : ℕ) (l ys zs us vs : List ℕ) → IsDistinct l → l ≡ ys ++ 2 * s ∷ zs → ys ++ zs ≡ us ++ (2 * s + 1) ∷ vs → us ++ vs ≡ withdrawn s l
 unlinked_both s l ys zs us vs d e f =
     let p : ℕ → Bool = λ n. not (n / 2 == s) in

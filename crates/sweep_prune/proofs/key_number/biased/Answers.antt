@@ -1,3 +1,4 @@
+-- A value of 32 bits, counted from the least one, is no less than 0 and below 2 ^ 32.
 use Rattle.std.proofs.Common.{◌≡◌, ◌<◌, ℤ, pos, negsuc, ◌+ℤ◌, arith, w32, w64}
 use Rattle.std.specs.Prelude.{FitsSigned, unsigned_abs}
 use Rattle.std.proofs.lemmas.Int.{ints}

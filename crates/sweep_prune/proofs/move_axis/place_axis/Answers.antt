@@ -1,3 +1,4 @@
+-- The slot's nodes stand last with keys above all, and walk from there.
 use Rattle.std.proofs.Common.{◌≡◌, ◌+◌, ◌-◌, ◌*◌, ◌≤◌, take, drop, ◌++◌, length, get_or, set, length-set, ap, sym, subst, ◌∙◌, rules}
 use Rattle.sweep_prune.proofs.WalkLemmas.{on_ok_two}
 use Rattle.sweep_prune.specs.Places.{on}

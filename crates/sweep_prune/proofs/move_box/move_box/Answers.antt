@@ -1,3 +1,4 @@
+-- What changes on one axis leaves the other two.
 use Rattle.std.proofs.Common.{ap, sym, subst, ◌∙◌}
 use Rattle.sweep_prune.specs.declared.axis.Axis.TheVariants.{Y, Z}
 use Rattle.sweep_prune.specs.Keyed.{coord}

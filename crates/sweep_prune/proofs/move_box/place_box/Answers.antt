@@ -1,3 +1,4 @@
+-- What changes on one axis leaves the other two.
 use Rattle.std.proofs.Common.{ap, ◌∙◌}
 use Rattle.sweep_prune.proofs.SweepLemmas.{swept_added}
 use Rattle.sweep_prune.proofs.WalkLemmas.{on_ok_three}

@@ -1,3 +1,4 @@
+-- The end that leaves the old interval walks first, whichever it is.
 use Rattle.std.proofs.Common.{◌≡◌, ◌+◌, ◌-◌, ◌*◌, ◌/◌, ℕ, get_or, sym, ◌∙◌, arith, subst}
 use Rattle.std.proofs.lemmas.Result.{on_ok_weaker}
 use Rattle.sweep_prune.proofs.WalkLemmas.{on_ok_two}

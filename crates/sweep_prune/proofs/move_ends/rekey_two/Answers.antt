@@ -1,3 +1,4 @@
+-- After the first walk the second may begin, and both pass what lies between their old keys and their new ones.
 use Rattle.std.proofs.Common.{◌/◌, ap, ◌∙◌, arith}
 use Rattle.std.proofs.lemmas.Result.{on_ok_weaker}
 use Rattle.sweep_prune.specs.declared.lists.Lists.{Lists}

@@ -1,3 +1,4 @@
+-- What is asked of each axis.
 use Rattle.sweep_prune.specs.declared.axis.Axis.TheVariants.{X, Y, Z}
 use Rattle.sweep_prune.proofs.lists.Lists.quit.Goals as goal
 

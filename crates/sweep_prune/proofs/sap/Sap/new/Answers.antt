@@ -1,3 +1,4 @@
+-- Empty lists are those of the empty map.
 use Rattle.std.proofs.Common.{ap, sym, subst, rules}
 use Rattle.std.specs.FinMap.{empty}
 use Rattle.sweep_prune.specs.declared.axis.Axis.TheVariants.{X, Y, Z}

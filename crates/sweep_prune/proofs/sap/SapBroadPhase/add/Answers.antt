@@ -1,3 +1,4 @@
+-- On all axes the lists and keys are those of the map with the box.
 use Rattle.std.proofs.Common.{◌≡◌, false, ap, sym, subst, ◌∙◌, rules, is_err}
 use Rattle.std.specs.FinMap.{contains_key}
 use Rattle.sweep_prune.specs.Sweep.{SweepKeeps}

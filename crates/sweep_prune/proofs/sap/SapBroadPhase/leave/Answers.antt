@@ -1,3 +1,4 @@
+-- On all axes the lists and keys are those of the map without the slot.
 use Rattle.std.proofs.Common.{◌≡◌, true, ap, sym, subst, ◌∙◌}
 use Rattle.std.specs.FinMap.{contains_key, remove}
 use Rattle.sweep_prune.specs.Sweep.{SweepKeeps}

@@ -1,3 +1,4 @@
+-- The full overlaps are the pairs of boxes that meet.
 use Rattle.std.proofs.Common.{◌++◌, ap, ◌∙◌}
 use Rattle.std.proofs.lemmas.Result.{on_ok_weaker}
 use Rattle.broad_index.specs.Near.{near}

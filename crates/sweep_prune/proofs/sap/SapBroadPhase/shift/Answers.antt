@@ -1,3 +1,4 @@
+-- On all axes the lists and keys are those of the map with the new box.
 use Rattle.std.proofs.Common.{◌≡◌, true, false, ap, sym, subst, ◌∙◌, rules, is_err}
 use Rattle.std.specs.FinMap.{contains_key, get}
 use Rattle.sweep_prune.specs.Sweep.{SweepKeeps, SweepMoved}
