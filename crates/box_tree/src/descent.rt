@@ -3,7 +3,7 @@ ghost use Rattle.smallvec.specs.SmallVec.{small_vec_len};
 ghost use Rattle.tree_nodes.specs.Tree.{Tree, IsTree, top};
 ghost use Rattle.tree_nodes.specs.declared.node_view.NodeView.TheVariants.{Leaf as LeafNode};
 ghost use Rattle.broad_index.specs.declared.query.Query.{Query};
-ghost use Rattle.broad_index.specs.Found.{found_of};
+ghost use Rattle.broad_index.specs.Found.{found_of, query_meets};
 ghost use Rattle.broad_index.specs.Members.{meets_query};
 ghost use Rattle.box_tree.specs.Descent.{visits_by_in, exact_in, IsInside, IsInsideIn, IsNodeInside, Laws, found_at, next_at};
 
@@ -91,7 +91,7 @@ fn look(
             hull,
             height: _,
         } => {
-            if query.meets(hull) {
+            if meets(query, hull) {
                 stack.push_reserved(*right);
                 stack.push_reserved(*left);
             }
@@ -106,7 +106,7 @@ fn is_met(bodies: &[Option<FBox>], slot: u32, fat: &FBox, query: &Query) -> bool
     ensures { result ≡ meets_query query.now (slice_index_or bodies.now slot None) }
 {
     query_law();
-    query.meets(fat) && is_found(&bodies[slot as usize], query)
+    meets(query, fat) && is_found(&bodies[slot as usize], query)
 }
 
 // Whether there is a box, and a query meets it.
@@ -114,7 +114,17 @@ fn is_found(body: &Option<FBox>, query: &Query) -> bool
     ensures { result ≡ meets_query query.now body.now }
 {
     match body {
-        Some(body) => query.meets(body),
+        Some(body) => meets(query, body),
         None => false,
     }
+}
+
+// Whether a box meets a query. A region, as each search for pairs has it, is asked here, without a call.
+fn meets(query: &Query, body: &FBox) -> bool
+    ensures { result ≡ query_meets query.now body.now }
+{
+    if let Query::Region(region) = query {
+        return region.overlaps(body);
+    }
+    query.meets(body)
 }
