@@ -1,5 +1,6 @@
 -- Slots in order with their boxes beside them, as the map that they are.
-use Rattle.std.proofs.Common.{◌≡◌, ℕ, suc, ◌+◌, ◌<◌, ◌≤◌, pos, Bool, true, false, cond, T, List, ◌∷◌, ◌++◌, length, map, filter, take, drop, zip, insert, remove, set, get_or, sym, ap, ap₂, subst, ◌∙◌, arith, nat_lt, is_some}
+use Rattle.std.proofs.Common.{◌≡◌, ℕ, suc, ◌+◌, ◌<◌, ◌≤◌, pos, Bool, true, false, cond, T, List, ◌∷◌, ◌++◌, length, map, filter, take, drop, zip}
+use Rattle.std.proofs.Common.{insert, remove, set, get_or, sym, ap, ap₂, subst, ◌∙◌, arith, nat_lt, is_some}
 use Rattle.std.proofs.Common.{length-append, length-take, length-drop, length-set}
 use Rattle.std.specs.List.{AllWithin}
 use Rattle.std.specs.List.Sorted.{IsPartitionedBy}
@@ -19,7 +20,8 @@ use Rattle.broad_index.specs.declared.query.Query.{Query}
 use Rattle.broad_index.specs.Found.{found_of, query_meets}
 use Rattle.broad_index.specs.Index.{bodies_of}
 use Rattle.broad_index.specs.Near.{near_of, partners}
-use Rattle.broad_index.proofs.SortedEntries.{absent_from, entries_of_sorted, from_sorted-put, from_sorted-remove, insert_is_put, key_there, partitioned, present_from, present_within, rising_few, set_is_put, sorted_put, sorted_removed}
+use Rattle.broad_index.proofs.SortedEntries.{absent_from, entries_of_sorted, from_sorted-put, from_sorted-remove, insert_is_put, key_there}
+use Rattle.broad_index.proofs.SortedEntries.{partitioned, present_from, present_within, rising_few, set_is_put, sorted_put, sorted_removed}
 
 origin : Bounds
 origin = record { lo = record { x = pos 0; y = pos 0; z = pos 0 }; hi = record { x = pos 0; y = pos 0; z = pos 0 } }
@@ -50,7 +52,8 @@ module _ (slots : List ℕ) (boxes : List Bounds) (a : AreEntries slots boxes) w
   pub entries_are : entries (bodies_of (zip slots boxes)) ≡ zip slots boxes
   entries_are = entries_of_sorted (zip slots boxes) a.sorted
 
-  pub placed : (bodies : FinMap nat_cmp Bounds) (slot at : ℕ) → bodies_of (zip slots boxes) ≡ bodies → Placed (entries bodies) slot at → Placed (zip slots boxes) slot at
+  pub placed : (bodies : FinMap nat_cmp Bounds) (slot at : ℕ) → bodies_of (zip slots boxes) ≡ bodies → Placed (entries bodies) slot at → Placed
+      (zip slots boxes) slot at
   placed bodies slot at e p = subst (λ es. Placed es slot at) (ap entries (sym e) ∙ entries_are) p
 
   module _ (slot at : ℕ) (p : Placed (zip slots boxes) slot at) where
@@ -62,10 +65,20 @@ module _ (slots : List ℕ) (boxes : List Bounds) (a : AreEntries slots boxes) w
         ∙ from_sorted-put (zip slots boxes) slot body a.sorted
 
     pub inserted_are : (body : Bounds) → slot < SLOTS → contains_key (bodies_of (zip slots boxes)) slot ≡ false
-        → zip (insert slots at slot) (insert boxes at body) ≡ insert (zip slots boxes) at (slot, body) → AreEntries (insert slots at slot) (insert boxes at body)
+        → zip (insert slots at slot) (insert boxes at body) ≡ insert (zip slots boxes) at (slot, body) → AreEntries (insert slots at slot)
+        (insert boxes at body)
     inserted_are body small absent law = record {
       same =
-          omega (arith, length-append (take at slots) (slot ∷ drop at slots), length-append (take at boxes) (body ∷ drop at boxes), length-take at slots, length-take at boxes, length-drop at slots, length-drop at boxes, a.same);
+          omega (
+            arith,
+            length-append (take at slots) (slot ∷ drop at slots),
+            length-append (take at boxes) (body ∷ drop at boxes),
+            length-take at slots,
+            length-take at boxes,
+            length-drop at slots,
+            length-drop at boxes,
+            a.same,
+          );
       sorted =
           subst (λ es. T (is_sorted nat_cmp es))
           (sym (law ∙ insert_is_put (zip slots boxes) slot body at (absent_from (zip slots boxes) slot a.sorted absent) p.bound p.below p.above))
@@ -108,7 +121,16 @@ module _ (slots : List ℕ) (boxes : List Bounds) (a : AreEntries slots boxes) w
       pub removed_are : zip (remove slots at) (remove boxes at) ≡ remove (zip slots boxes) at → AreEntries (remove slots at) (remove boxes at)
       removed_are law = record {
         same =
-            omega (arith, length-append (take at slots) (drop (suc at) slots), length-append (take at boxes) (drop (suc at) boxes), length-take at slots, length-take at boxes, length-drop (suc at) slots, length-drop (suc at) boxes, a.same);
+            omega (
+              arith,
+              length-append (take at slots) (drop (suc at) slots),
+              length-append (take at boxes) (drop (suc at) boxes),
+              length-take at slots,
+              length-take at boxes,
+              length-drop (suc at) slots,
+              length-drop (suc at) boxes,
+              a.same,
+            );
         sorted = subst (λ es. T (is_sorted nat_cmp es)) (sym law) (sorted_removed (zip slots boxes) slot at a.sorted there p.bound p.below p.above);
         small =
             All-append (λ s. s < SLOTS) (take at slots) (drop (suc at) slots) (All-take (λ s. s < SLOTS) at slots a.small)
@@ -129,7 +151,8 @@ module _ (slots : List ℕ) (boxes : List Bounds) (a : AreEntries slots boxes) w
   entry_step : (at s : ℕ) (body : Bounds) → at < length slots → s ≡ get_or slots at s → body ≡ get_or boxes at body
       → drop at (zip slots boxes) ≡ (s, body) ∷ drop (at + 1) (zip slots boxes)
   entry_step at s body l es eb =
-      let here : get_or (zip slots boxes) at (s, body) ≡ (s, body) = zip_at at (s, body) l ∙ sym (ap (λ x. (x, body)) es ∙ ap (λ b. (get_or slots at s, b)) eb) in
+      let here : get_or (zip slots boxes) at (s, body) ≡ (s, body) = zip_at at (s, body) l ∙ sym
+      (ap (λ x. (x, body)) es ∙ ap (λ b. (get_or slots at s, b)) eb) in
       drop_more (zip slots boxes) at (s, body) (omega (arith, zip_long)) ∙ ap (λ e. e ∷ drop (at + 1) (zip slots boxes)) here
 
   -- the pairs from a place on

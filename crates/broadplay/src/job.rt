@@ -1,5 +1,6 @@
 ghost use Rattle.std.specs.Prelude.{◌≡◌, ◌≤◌, true, map, string_bytes, IfSome};
-ghost use Rattle.broadplay.specs.JobWords.{job, choices_of, choose, choose_exchanges, no_choices, job_of, structure_of, workers_of, as_workers, is_digit, counts};
+ghost use Rattle.broadplay.specs.JobWords.{job, choices_of, choose, choose_exchanges, no_choices};
+ghost use Rattle.broadplay.specs.JobWords.{job_of, structure_of, workers_of, as_workers, is_digit, counts};
 
 use frame_player::Options;
 

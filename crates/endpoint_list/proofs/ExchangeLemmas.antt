@@ -3,7 +3,9 @@ use Rattle.std.proofs.Common.{◌≡◌, ◌≢◌, ℕ, ◌+◌, ◌<◌, ◌�
 use Rattle.std.proofs.lemmas.List.{get_or-set_same, get_or-set_other, length-set}
 use Rattle.endpoint_list.specs.declared.TheConstants.{NODES}
 use Rattle.fixed_box.specs.Links.{Fresh, Distinct, Below, Links}
-use Rattle.fixed_box.specs.LinkLaws.{Fresh-left, Fresh-right, Distinct-left, Distinct-right, Distinct-apart, Distinct-without, Below-left, Below-right, Below-weaker, frame_next, frame_prev, before_end, retarget_last, retarget_first, Links-append, Links-left, Links-right, after_start}
+use Rattle.fixed_box.specs.LinkLaws.{Fresh-left, Fresh-right, Distinct-left, Distinct-right, Distinct-apart, Distinct-without, Below-left}
+use Rattle.fixed_box.specs.LinkLaws.{Below-right, Below-weaker, frame_next, frame_prev, before_end, retarget_last, retarget_first, Links-append}
+use Rattle.fixed_box.specs.LinkLaws.{Links-left, Links-right, after_start}
 use Rattle.endpoint_list.specs.Links.{IsKept, exchanged_next, exchanged_prev}
 use Rattle.endpoint_list.proofs.NodeLemmas.{Below-Fresh, Below-swap}
 use Rattle.endpoint_list.proofs.NodeLemmas.{Distinct-swap, Fresh-swap}

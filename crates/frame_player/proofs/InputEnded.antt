@@ -37,7 +37,8 @@ ended_or w n header =
     cond header (record { replies = []; last = end_line (n - 1) w.frames (length w.table.entries); status = Done; passed = true })
     (record (refused_at n cause.Header) { passed = true })
 
-pub end_refused : {shows : Bool} {limit : ℕ} {given : List ℕ} {left now : Option (List ℕ)} (old new : Reading) {w : World} {out : List ℕ} {n : ℕ} → n ≡ new.number
+pub end_refused : {shows : Bool} {limit : ℕ} {given : List ℕ} {left now : Option (List ℕ)} (old new : Reading) {w : World} {out : List ℕ} {n : ℕ} → n ≡
+    new.number
     → InParts → IsReached shows limit given left old.held old.over w (old.number + 1) out → IsLastAnswer End limit left now old new
     → new.number ≡ old.number → w.header ≡ false
     → IsTextOf shows limit given now (out ++ refused_line (n + 1) cause.Header) (Refused (n + 1) cause.Header)
@@ -58,7 +59,8 @@ none_left held None h = absurd (cc)
 none_left [] (Some l) h = h
 none_left (b ∷ held) (Some l) h = absurd (cc)
 
-pub end_done : {shows : Bool} {limit : ℕ} {given : List ℕ} {left now : Option (List ℕ)} (old new : Reading) {w : World} {out : List ℕ} {n live : ℕ} → n ≡ new.number → live ≡ length w.table.entries
+pub end_done : {shows : Bool} {limit : ℕ} {given : List ℕ} {left now : Option (List ℕ)} (old new : Reading) {w : World} {out : List ℕ} {n live : ℕ} → n ≡
+    new.number → live ≡ length w.table.entries
     → IsReached shows limit given left old.held old.over w (old.number + 1) out → IsLastAnswer End limit left now old new → new.number ≡ old.number
     → w.header ≡ true
     → IsTextOf shows limit given now (out ++ end_line n w.frames live) Done

@@ -89,7 +89,8 @@ refused_next shows limit given bytes line more w n c out so_far first asks =
     (ap (λ a. reply_first out (step shows w n a (λ next. play_from shows limit next (n + 1) more))) (sym asks)
     ∙ ap (λ ls. reply_first out (play_from shows limit w n ls)) (sym first) ∙ so_far)
 
-pub line_refused : {shows : Bool} {limit : ℕ} {given : List ℕ} {left now : Option (List ℕ)} (old new : Reading) {w : World} {c : Cause} {out : List ℕ} {n : ℕ} → n ≡ new.number
+pub line_refused : {shows : Bool} {limit : ℕ} {given : List ℕ} {left now : Option (List ℕ)} (old new : Reading) {w : World} {c : Cause} {out : List ℕ}
+    {n : ℕ} → n ≡ new.number
     → InParts → EndsNear → IsReached shows limit given left old.held old.over w (old.number + 1) out → IsNextLine left now old new
     → length new.held ≤ BUFFER_LEN → new.number ≤ limit
     → allowed w (command One new.line) ≡ Err c → IsTextOf shows limit given now (out ++ refused_line n c) (Refused n c)
@@ -149,7 +150,8 @@ above_all limit number h = grind (arith, nat_tests)
 at_least : (limit number : ℕ) → nat_le limit number ≡ true → limit < number + 1
 at_least limit number h = grind (arith, nat_tests)
 
-pub long_refused : {shows : Bool} {limit : ℕ} {given : List ℕ} {left now : Option (List ℕ)} (old new : Reading) {w : World} {out : List ℕ} {n : ℕ} → n ≡ new.number
+pub long_refused : {shows : Bool} {limit : ℕ} {given : List ℕ} {left now : Option (List ℕ)} (old new : Reading) {w : World} {out : List ℕ} {n : ℕ} → n ≡
+    new.number
     → FirstLine → InParts → IsReached shows limit given left old.held old.over w (old.number + 1) out → IsLastAnswer Long limit left now old new
     → new.number ≡ old.number + 1
     → IsTextOf shows limit given now (out ++ refused_line n cause.Long) (Refused n cause.Long)
@@ -168,7 +170,8 @@ long_refused {shows} {limit} {given} {left} {now} old new {w} {out} told law par
           ∙ reached.coming) (subst (λ k. count_by is_feed reached.front < k) (sym number) reached.feeds) last.small,
     )
 
-pub too_many_refused : {shows : Bool} {limit : ℕ} {given : List ℕ} {left now : Option (List ℕ)} (old new : Reading) {w : World} {out : List ℕ} {n : ℕ} → n ≡ new.number
+pub too_many_refused : {shows : Bool} {limit : ℕ} {given : List ℕ} {left now : Option (List ℕ)} (old new : Reading) {w : World} {out : List ℕ} {n : ℕ} → n
+    ≡ new.number
     → FirstLine → InParts → IsReached shows limit given left old.held old.over w (old.number + 1) out → IsLastAnswer TooMany limit left now old new
     → new.number ≡ old.number + 1
     → IsTextOf shows limit given now (out ++ refused_line n cause.Lines) (Refused n cause.Lines)

@@ -105,7 +105,7 @@ rose_by before now counts few = counts.rose few
 pub play_ended : (shows : Bool) (limit : ℕ) (before now : Ends) (since since' : Option ℕ) (b : Outlet) (held : List ℕ) (last : Last)
     (sent : Result (Unit {0}) SinkFault) → Begins shows limit
     → IsSaid (outlet before.written before.write_faults since) b held
-        (λ all. IfSome before.left (λ given. IsTextOf shows limit given now.left (all ++ last_line last) (status_of last)))
+    (λ all. IfSome before.left (λ given. IsTextOf shows limit given now.left (all ++ last_line last) (status_of last)))
     → IsCountedAs before.read_faults now.read_faults (status_of last)
     → IsSent b (outlet now.written now.write_faults since') (held ++ last_line last) [] sent
     → OnOk sent (now.settled ≡ option_map length now.written) → before.write_faults < 2 ^ 64 - 1

@@ -1,5 +1,6 @@
 -- Two lists side by side, whatever is made of their elements, and what an edit of both does.
-use Rattle.std.proofs.Common.{◌≡◌, ℕ, zero, suc, ◌+◌, ◌-◌, ◌<◌, List, [], ◌∷◌, ◌++◌, length, take, drop, set, get_or, insert, remove, swap_remove, zip, refl, ap, ap₂, sym, ◌∙◌, arith}
+use Rattle.std.proofs.Common.{◌≡◌, ℕ, zero, suc, ◌+◌, ◌-◌, ◌<◌, List, [], ◌∷◌, ◌++◌, length, take, drop, set, get_or, insert, remove, swap_remove}
+use Rattle.std.proofs.Common.{zip, refl, ap, ap₂, sym, ◌∙◌, arith}
 use Rattle.std.proofs.Common.{length-take, length-set}
 use Rattle.std.proofs.lemmas.List.{get_or_default}
 use Rattle.std.specs.Simd.Lanes.{zip2}
@@ -35,7 +36,8 @@ module _ {X Y Z : Type 0} (f : X → Y → Z) where
   beside_set (a ∷ xs) (b ∷ ys) zero x y = refl
   beside_set (a ∷ xs) (b ∷ ys) (suc at) x y = ap (λ l. f a b ∷ l) (beside_set xs ys at x y)
 
-  pub beside_at : (xs : List X) (ys : List Y) (at : ℕ) (d : X) (e : Y) → length xs ≡ length ys → get_or (zip2 f xs ys) at (f d e) ≡ f (get_or xs at d) (get_or ys at e)
+  pub beside_at : (xs : List X) (ys : List Y) (at : ℕ) (d : X) (e : Y) → length xs ≡ length ys → get_or (zip2 f xs ys) at (f d e) ≡ f (get_or xs at d)
+      (get_or ys at e)
   beside_at [] [] at d e h = refl
   beside_at [] (y ∷ ys) at d e h = absurd (omega arith)
   beside_at (x ∷ xs) [] at d e h = absurd (omega arith)
@@ -45,7 +47,8 @@ module _ {X Y Z : Type 0} (f : X → Y → Z) where
   same_take : (xs : List X) (ys : List Y) (n : ℕ) → length xs ≡ length ys → length (take n xs) ≡ length (take n ys)
   same_take xs ys n h = omega (arith, length-take n xs, length-take n ys)
 
-  pub beside_insert : (xs : List X) (ys : List Y) (at : ℕ) (x : X) (y : Y) → length xs ≡ length ys → zip2 f (insert xs at x) (insert ys at y) ≡ insert (zip2 f xs ys) at (f x y)
+  pub beside_insert : (xs : List X) (ys : List Y) (at : ℕ) (x : X) (y : Y) → length xs ≡ length ys → zip2 f (insert xs at x) (insert ys at y) ≡ insert
+      (zip2 f xs ys) at (f x y)
   beside_insert xs ys at x y h =
       beside_append (take at xs) (x ∷ drop at xs) (take at ys) (y ∷ drop at ys) (same_take xs ys at h)
       ∙ ap₂ (λ a b. a ++ f x y ∷ b) (beside_take at xs ys) (beside_drop at xs ys)

@@ -1,5 +1,6 @@
 -- Three axes side by side are a list of boxes, and what an edit of all three does to it.
-use Rattle.std.proofs.Common.{◌≡◌, ℕ, Bool, true, false, ◌&&◌, int_le, List, [], ◌∷◌, ◌++◌, length, map, take, drop, set, get_or, insert, remove, swap_remove, refl, ap, ap₂, sym, ◌∙◌, arith}
+use Rattle.std.proofs.Common.{◌≡◌, ℕ, Bool, true, false, ◌&&◌, int_le, List, [], ◌∷◌, ◌++◌, length, map, take, drop, set, get_or, insert, remove}
+use Rattle.std.proofs.Common.{swap_remove, refl, ap, ap₂, sym, ◌∙◌, arith}
 use Rattle.std.specs.Simd.Lanes.{zip2}
 use Rattle.std.proofs.lemmas.Simd.{length-zip2}
 use Rattle.fixed_box.specs.Bounds.{Bounds, meets}
@@ -22,29 +23,37 @@ module _ (x y z : Spans) (spare : ℕ) (l : AreAxes x y z spare) where
   pub boxes_long : length (boxes_of x.spans y.spans z.spans) ≡ length x.spans
   boxes_long = length-zip2 box_with x.spans (pairs_of y.spans z.spans) tail_long
 
-  pub boxes_at : (at : ℕ) (a b c : Span) → get_or (boxes_of x.spans y.spans z.spans) at (box_of a b c) ≡ box_of (get_or x.spans at a) (get_or y.spans at b) (get_or z.spans at c)
-  boxes_at at a b c = beside_at box_with x.spans (pairs_of y.spans z.spans) at a (b, c) tail_long ∙ ap (box_with (get_or x.spans at a)) (beside_at pair y.spans z.spans at b c same_tail)
+  pub boxes_at : (at : ℕ) (a b c : Span) → get_or (boxes_of x.spans y.spans z.spans) at (box_of a b c) ≡ box_of (get_or x.spans at a) (get_or y.spans at b)
+      (get_or z.spans at c)
+  boxes_at at a b c = beside_at box_with x.spans (pairs_of y.spans z.spans) at a (b, c) tail_long ∙ ap (box_with (get_or x.spans at a))
+      (beside_at pair y.spans z.spans at b c same_tail)
 
-  pub boxes_read : (at : ℕ) (a b c : Span) → a ≡ get_or x.spans at a → b ≡ get_or y.spans at b → c ≡ get_or z.spans at c → box_of a b c ≡ get_or (boxes_of x.spans y.spans z.spans) at (box_of a b c)
+  pub boxes_read : (at : ℕ) (a b c : Span) → a ≡ get_or x.spans at a → b ≡ get_or y.spans at b → c ≡ get_or z.spans at c → box_of a b c ≡ get_or
+      (boxes_of x.spans y.spans z.spans) at (box_of a b c)
   boxes_read at a b c ex ey ez =
       ap (λ s. box_of s b c) ex
       ∙ ap (λ s. box_of (get_or x.spans at a) s c) ey
       ∙ ap (box_of (get_or x.spans at a) (get_or y.spans at b)) ez
       ∙ sym (boxes_at at a b c)
 
-  pub boxes_pushed : (a b c : Span) → boxes_of (x.spans ++ a ∷ []) (y.spans ++ b ∷ []) (z.spans ++ c ∷ []) ≡ boxes_of x.spans y.spans z.spans ++ box_of a b c ∷ []
+  pub boxes_pushed : (a b c : Span) → boxes_of (x.spans ++ a ∷ []) (y.spans ++ b ∷ []) (z.spans ++ c ∷ []) ≡ boxes_of x.spans y.spans z.spans ++ box_of a b
+      c ∷ []
   boxes_pushed a b c =
       ap (zip2 box_with (x.spans ++ a ∷ [])) (beside_append pair y.spans (b ∷ []) z.spans (c ∷ []) same_tail)
       ∙ beside_append box_with x.spans (a ∷ []) (pairs_of y.spans z.spans) ((b, c) ∷ []) tail_long
 
-  pub boxes_inserted : (at : ℕ) (a b c : Span) → boxes_of (insert x.spans at a) (insert y.spans at b) (insert z.spans at c) ≡ insert (boxes_of x.spans y.spans z.spans) at (box_of a b c)
+  pub boxes_inserted : (at : ℕ) (a b c : Span) → boxes_of (insert x.spans at a) (insert y.spans at b) (insert z.spans at c) ≡ insert
+      (boxes_of x.spans y.spans z.spans) at (box_of a b c)
   boxes_inserted at a b c =
-      ap (zip2 box_with (insert x.spans at a)) (beside_insert pair y.spans z.spans at b c same_tail) ∙ beside_insert box_with x.spans (pairs_of y.spans z.spans) at a (b, c) tail_long
+      ap (zip2 box_with (insert x.spans at a)) (beside_insert pair y.spans z.spans at b c same_tail) ∙ beside_insert box_with x.spans
+      (pairs_of y.spans z.spans) at a (b, c) tail_long
 
   pub boxes_removed : (at : ℕ) → boxes_of (remove x.spans at) (remove y.spans at) (remove z.spans at) ≡ remove (boxes_of x.spans y.spans z.spans) at
-  boxes_removed at = ap (zip2 box_with (remove x.spans at)) (beside_remove pair y.spans z.spans at same_tail) ∙ beside_remove box_with x.spans (pairs_of y.spans z.spans) at tail_long
+  boxes_removed at = ap (zip2 box_with (remove x.spans at)) (beside_remove pair y.spans z.spans at same_tail) ∙ beside_remove box_with x.spans
+      (pairs_of y.spans z.spans) at tail_long
 
-  pub boxes_swapped : (at : ℕ) (a b c : Span) → boxes_of (swap_remove x.spans at a) (swap_remove y.spans at b) (swap_remove z.spans at c) ≡ swap_remove (boxes_of x.spans y.spans z.spans) at (box_of a b c)
+  pub boxes_swapped : (at : ℕ) (a b c : Span) → boxes_of (swap_remove x.spans at a) (swap_remove y.spans at b) (swap_remove z.spans at c) ≡ swap_remove
+      (boxes_of x.spans y.spans z.spans) at (box_of a b c)
   boxes_swapped at a b c =
       ap (zip2 box_with (swap_remove x.spans at a)) (beside_swap_remove pair y.spans z.spans at b c same_tail)
       ∙ beside_swap_remove box_with x.spans (pairs_of y.spans z.spans) at a (b, c) tail_long

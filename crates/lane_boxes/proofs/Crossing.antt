@@ -1,5 +1,6 @@
 -- Comparisons of eight signed numbers at once, as lists of truth values.
-use Rattle.std.proofs.Common.{◌≡◌, ℕ, zero, suc, ◌+◌, ◌≤◌, ℤ, int_le, Bool, true, false, cond, ◌&&◌, List, [], ◌∷◌, length, map, take, drop, replicate, w32, SFits, of_z, to_z, refl, ap, ◌∙◌, arith}
+use Rattle.std.proofs.Common.{◌≡◌, ℕ, zero, suc, ◌+◌, ◌≤◌, ℤ, int_le, Bool, true, false, cond, ◌&&◌, List, [], ◌∷◌, length, map, take, drop}
+use Rattle.std.proofs.Common.{replicate, w32, SFits, of_z, to_z, refl, ap, ◌∙◌, arith}
 use Rattle.std.proofs.Common.{length-take, length-drop}
 use Rattle.std.specs.Simd.Lanes.{zip2, Each1, top}
 use Rattle.std.proofs.lemmas.Int.{to_z-of_z}
@@ -98,7 +99,8 @@ crossed s (lo ∷ los) [] = refl
 crossed s (lo ∷ los) (hi ∷ his) = ap (λ l. (int_le s.lo hi && int_le lo s.hi) ∷ l) (crossed s los his)
 
 pub crossing_is : (s : Span) (los his : List ℤ) (at : ℕ)
-    → both (map (λ x. int_le s.lo x) (take 8 (drop at his))) (map (λ x. int_le x s.hi) (take 8 (drop at los))) ≡ map (crosses s) (take 8 (drop at (spans_of los his)))
+    → both (map (λ x. int_le s.lo x) (take 8 (drop at his))) (map (λ x. int_le x s.hi) (take 8 (drop at los))) ≡ map (crosses s)
+    (take 8 (drop at (spans_of los his)))
 crossing_is s los his at =
     crossed s (take 8 (drop at los)) (take 8 (drop at his))
     ∙ ap (map (crosses s)) (beside_take span 8 (drop at los) (drop at his) ∙ ap (take 8) (beside_drop span at los his))

@@ -1,5 +1,6 @@
 -- Masks of boxes that pass a test, and the places of their bits.
-use Rattle.std.proofs.Common.{◌≡◌, ℕ, zero, suc, ◌+◌, ◌*◌, ◌/◌, ◌%◌, ◌^◌, ◌<◌, ◌≤◌, ◌==◌, ℤ, Bool, true, false, cond, List, [], ◌∷◌, ◌++◌, length, map, filter, take, drop, All, w32, of_z, refl, ap, sym, ◌∙◌, arith, lit<, pow-suc}
+use Rattle.std.proofs.Common.{◌≡◌, ℕ, zero, suc, ◌+◌, ◌*◌, ◌/◌, ◌%◌, ◌^◌, ◌<◌, ◌≤◌, ◌==◌, ℤ, Bool, true, false, cond, List, [], ◌∷◌, ◌++◌, length}
+use Rattle.std.proofs.Common.{map, filter, take, drop, All, w32, of_z, refl, ap, sym, ◌∙◌, arith, lit<, pow-suc}
 use Rattle.std.proofs.Common.{length-take, length-drop}
 use Rattle.std.specs.Simd.Lanes.{zip2, mask_l, top}
 use Rattle.std.proofs.lemmas.List.{drop-drop, length-map}
@@ -33,17 +34,26 @@ pub eight_small : (test : Bounds → Bool) (at : ℕ) (boxes : List Bounds) → 
 eight_small test at boxes = mask_small 8 (map test (take 8 (drop at boxes))) (eight_long boxes test at)
 
 three_lanes : (ps qs rs : List Bool)
-    → map (top 31) (zip2 lane_and (zip2 lane_and (map (of_z w32) (map lane ps)) (map (of_z w32) (map lane qs))) (map (of_z w32) (map lane rs))) ≡ both (both ps qs) rs
+    → map (top 31) (zip2 lane_and (zip2 lane_and (map (of_z w32) (map lane ps)) (map (of_z w32) (map lane qs))) (map (of_z w32) (map lane rs))) ≡ both
+    (both ps qs) rs
 three_lanes ps qs rs = rw (from_lanes ps, from_lanes qs, from_lanes rs, and_lanes ps qs, and_lanes (both ps qs) rs) (tops (both (both ps qs) rs))
 
 -- the lanes of three axes make the mask of the boxes
 pub mask_is : (b : Bounds) (xs ys zs : List Span) (at : ℕ) (rx ry rz : List ℤ) → rx ≡ map lane (map (crosses (x_of b)) (take 8 (drop at xs)))
     → ry ≡ map lane (map (crosses (y_of b)) (take 8 (drop at ys))) → rz ≡ map lane (map (crosses (z_of b)) (take 8 (drop at zs)))
-    → mask_l (map (top 31) (zip2 lane_and (zip2 lane_and (map (of_z w32) rx) (map (of_z w32) ry)) (map (of_z w32) rz))) % 2 ^ 64 ≡ next_eight (meets b) at (boxes_of xs ys zs)
+    → mask_l (map (top 31) (zip2 lane_and (zip2 lane_and (map (of_z w32) rx) (map (of_z w32) ry)) (map (of_z w32) rz))) % 2 ^ 64 ≡ next_eight (meets b) at
+    (boxes_of xs ys zs)
 mask_is b xs ys zs at rx ry rz ex ey ez =
     let bools = map (meets b) (take 8 (drop at (boxes_of xs ys zs))) in
     let met = next_meet b xs ys zs at in
-    rw (ex, ey, ez, three_lanes (map (crosses (x_of b)) (take 8 (drop at xs))) (map (crosses (y_of b)) (take 8 (drop at ys))) (map (crosses (z_of b)) (take 8 (drop at zs))), met)
+    rw (
+      ex,
+      ey,
+      ez,
+      three_lanes (map (crosses (x_of b)) (take 8 (drop at xs))) (map (crosses (y_of b)) (take 8 (drop at ys)))
+          (map (crosses (z_of b)) (take 8 (drop at zs))),
+      met,
+    )
     (mask_l-mod bools 64 (omega (arith, eight_long (boxes_of xs ys zs) (meets b) at)))
 
 pub none_set : (n from : ℕ) → set_places n from 0 ≡ []
@@ -85,11 +95,16 @@ module _ (test : Bounds → Bool) where
   bits_are_places (suc n) from (b ∷ boxes) l =
       let m = mask_l (map test boxes) in
       rw (bit_test (test b) m, later_bits (test b) m, bits_are_places n (from + 1) boxes (omega arith))
-      (elim (test b) as (λ t. cond t (from ∷ places test (from + 1) boxes) (places test (from + 1) boxes) ≡ map (λ e. e.0) (cond t ((from, b) ∷ filter (λ e. test e.1) (placed (from + 1) boxes)) (filter (λ e. test e.1) (placed (from + 1) boxes)))) [ true ↦ refl | false ↦ refl ])
+      (elim (test b) as (λ t. cond t (from ∷ places test (from + 1) boxes) (places test (from + 1) boxes) ≡ map (λ e. e.0)
+      (cond t ((from, b) ∷ filter (λ e. test e.1) (placed (from + 1) boxes)) (filter (λ e. test e.1) (placed (from + 1) boxes))))
+      [ true ↦ refl | false ↦ refl ])
 
-  pub one_more : (from : ℕ) (b : Bounds) (boxes : List Bounds) → places test from (b ∷ boxes) ≡ cond (test b) (from ∷ places test (from + 1) boxes) (places test (from + 1) boxes)
+  pub one_more : (from : ℕ) (b : Bounds) (boxes : List Bounds) → places test from (b ∷ boxes) ≡ cond (test b) (from ∷ places test (from + 1) boxes)
+      (places test (from + 1) boxes)
   one_more from b boxes =
-      elim (test b) as (λ t. map (λ e. e.0) (cond t ((from, b) ∷ filter (λ e. test e.1) (placed (from + 1) boxes)) (filter (λ e. test e.1) (placed (from + 1) boxes))) ≡ cond t (from ∷ places test (from + 1) boxes) (places test (from + 1) boxes)) [ true ↦ refl | false ↦ refl ]
+      elim (test b) as (λ t. map (λ e. e.0) (cond t ((from, b) ∷ filter (λ e. test e.1) (placed (from + 1) boxes))
+      (filter (λ e. test e.1) (placed (from + 1) boxes))) ≡ cond t (from ∷ places test (from + 1) boxes) (places test (from + 1) boxes))
+      [ true ↦ refl | false ↦ refl ]
 
   split_more : (t : Bool) (k : ℕ) (xs ys : List ℕ) → cond t (k ∷ (xs ++ ys)) (xs ++ ys) ≡ cond t (k ∷ xs) xs ++ ys
   split_more true k xs ys = refl
@@ -125,7 +140,8 @@ module _ (test : Bounds → Bool) where
   mask_places at boxes = bits_are_places 8 at (take 8 (drop at boxes)) (omega (arith, length-take 8 (drop at boxes)))
 
   -- the mask of the next eight has the places before those from the ninth on
-  pub mask_before : (at : ℕ) (boxes : List Bounds) → set_places 8 at (next_eight test at boxes) ++ places test (at + 8) (drop (at + 8) boxes) ≡ places test at (drop at boxes)
+  pub mask_before : (at : ℕ) (boxes : List Bounds) → set_places 8 at (next_eight test at boxes) ++ places test (at + 8) (drop (at + 8) boxes) ≡ places test
+      at (drop at boxes)
   mask_before at boxes =
       ap (λ l. l ++ places test (at + 8) (drop (at + 8) boxes)) (mask_places at boxes)
       ∙ sym (places_split 8 at (drop at boxes) ∙ ap (λ l. places test at (take 8 (drop at boxes)) ++ places test (at + 8) l) (drop-drop 8 at boxes))
@@ -135,9 +151,11 @@ module _ (test : Bounds → Bool) where
   empty_mask at boxes h =
       sym (ap (λ l. l ++ places test (at + 8) (drop (at + 8) boxes)) (ap (set_places 8 at) h ∙ none_set 8 at)) ∙ mask_before at boxes
 
-  pub mask_within : (at most : ℕ) (boxes : List Bounds) → at ≤ length boxes → length boxes < most → All (λ k. k < most) (set_places 8 at (next_eight test at boxes))
+  pub mask_within : (at most : ℕ) (boxes : List Bounds) → at ≤ length boxes → length boxes < most → All (λ k. k < most)
+      (set_places 8 at (next_eight test at boxes))
   mask_within at most boxes l h =
       rw (mask_places at boxes)
       (All-weaker (λ k. k < at + length (take 8 (drop at boxes))) (λ k. k < most)
-      (λ k (s : k < at + length (take 8 (drop at boxes))). omega (arith, length-take 8 (drop at boxes), length-drop at boxes)) (places test at (take 8 (drop at boxes)))
+      (λ k (s : k < at + length (take 8 (drop at boxes))). omega (arith, length-take 8 (drop at boxes), length-drop at boxes))
+      (places test at (take 8 (drop at boxes)))
       (places_within at (take 8 (drop at boxes))))

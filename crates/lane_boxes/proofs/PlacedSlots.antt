@@ -1,5 +1,6 @@
 -- The places of boxes that pass a test, in a list of slots beside them.
-use Rattle.std.proofs.Common.{◌≡◌, ℕ, suc, ◌+◌, Bool, true, false, cond, List, [], ◌∷◌, length, map, filter, drop, zip, get_or, slice_index_or, refl, ap, ap₂, sym, ◌∙◌, arith, length-drop}
+use Rattle.std.proofs.Common.{◌≡◌, ℕ, suc, ◌+◌, Bool, true, false, cond, List, [], ◌∷◌, length, map, filter, drop, zip, get_or, slice_index_or, refl}
+use Rattle.std.proofs.Common.{ap, ap₂, sym, ◌∙◌, arith, length-drop}
 use Rattle.std.proofs.lemmas.List.{get_or-drop}
 use Rattle.fixed_box.specs.Bounds.{Bounds}
 use Rattle.lane_boxes.specs.Places.{places}
@@ -21,7 +22,8 @@ module _ (test : Bounds → Bool) where
   kept_at at from (s ∷ slots) (b ∷ boxes) h f =
       let here : at from ≡ s = ap at (omega arith) ∙ f 0 in
       let rest = kept_at at (from + 1) slots boxes (omega arith) (λ k. ap at (omega arith) ∙ f (suc k)) in
-      ap (map at) (one_more test from b boxes) ∙ kept_more at (test b) from s (places test (from + 1) boxes) b (filter (λ e. test e.1) (zip slots boxes)) here rest
+      ap (map at) (one_more test from b boxes) ∙ kept_more at (test b) from s (places test (from + 1) boxes) b (filter (λ e. test e.1) (zip slots boxes))
+      here rest
 
   same_drop : (n : ℕ) (slots : List ℕ) (boxes : List Bounds) → length slots ≡ length boxes → length (drop n slots) ≡ length (drop n boxes)
   same_drop n slots boxes h = omega (arith, length-drop n slots, length-drop n boxes)

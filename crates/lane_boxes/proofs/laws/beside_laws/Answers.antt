@@ -10,11 +10,13 @@ entry k b = (k, b)
 
 pub returns-clause-pushed : goal.returns-clause-pushed
 returns-clause-pushed c slots boxes slot body h =
-    zip_is (slots ++ slot ∷ []) (boxes ++ body ∷ []) ∙ beside_append entry slots (slot ∷ []) boxes (body ∷ []) h ∙ sym (ap (λ l. l ++ (slot, body) ∷ []) (zip_is slots boxes))
+    zip_is (slots ++ slot ∷ []) (boxes ++ body ∷ []) ∙ beside_append entry slots (slot ∷ []) boxes (body ∷ []) h ∙ sym
+    (ap (λ l. l ++ (slot, body) ∷ []) (zip_is slots boxes))
 
 pub returns-clause-inserted : goal.returns-clause-inserted
 returns-clause-inserted c slots boxes at slot body h =
-    zip_is (insert slots at slot) (insert boxes at body) ∙ beside_insert entry slots boxes at slot body h ∙ sym (ap (λ l. insert l at (slot, body)) (zip_is slots boxes))
+    zip_is (insert slots at slot) (insert boxes at body) ∙ beside_insert entry slots boxes at slot body h ∙ sym
+    (ap (λ l. insert l at (slot, body)) (zip_is slots boxes))
 
 pub returns-clause-set : goal.returns-clause-set
 returns-clause-set c slots boxes at body h =

@@ -21,7 +21,15 @@ invariant_of-self c =
     let lo : SFits w32 c.args.span.lo = search rules in
     let hi : SFits w32 c.args.span.hi = search rules in
     let one : IsSpan c.args.span = record { lo = lo; hi = hi; ordered = c.requires.ordered } in
-    rw (c.insert.ensures.items, c.insert-2.ensures.items, c.unwrap.ensures, c.unwrap-2.ensures, to_z-of_z w32 c.args.span.lo lo, to_z-of_z w32 c.args.span.hi hi)
+    rw (
+      c.insert.ensures.items,
+      c.insert-2.ensures.items,
+      c.unwrap.ensures,
+      c.unwrap-2.ensures,
+      to_z-of_z w32 c.args.span.lo lo,
+      to_z-of_z w32
+          c.args.span.hi hi,
+    )
     (are_inserted c.self.inside.lo.items c.self.inside.hi.items c.args.at c.args.span.lo c.args.span.hi c.self.invariant one)
 
 pub returns-clause-spans : goal.returns-clause-spans
@@ -29,5 +37,14 @@ returns-clause-spans c =
     let lo : SFits w32 c.args.span.lo = search rules in
     let hi : SFits w32 c.args.span.hi = search rules in
     let one : IsSpan c.args.span = record { lo = lo; hi = hi; ordered = c.requires.ordered } in
-    rw (c.insert.ensures.items, c.insert-2.ensures.items, c.unwrap.ensures, c.unwrap-2.ensures, to_z-of_z w32 c.args.span.lo lo, to_z-of_z w32 c.args.span.hi hi, ← c.self.view_is)
+    rw (
+      c.insert.ensures.items,
+      c.insert-2.ensures.items,
+      c.unwrap.ensures,
+      c.unwrap-2.ensures,
+      to_z-of_z w32 c.args.span.lo lo,
+      to_z-of_z w32
+          c.args.span.hi hi,
+      ← c.self.view_is,
+    )
     (beside_insert span c.self.inside.lo.items c.self.inside.hi.items c.args.at c.args.span.lo c.args.span.hi (sym c.self.invariant.same))

@@ -30,5 +30,6 @@ returns c =
     let zh : SFits w32 c.span_at-z.result.hi = search rules in
     let is = simp to_z-of_z at made.1 in
     rw (is, ← c.self.view_is)
-    (boxes_read c.self.inside.x c.self.inside.y c.self.inside.z c.self.inside.spare c.self.invariant c.args.at c.span_at-x.result c.span_at-y.result c.span_at-z.result
+    (boxes_read c.self.inside.x c.self.inside.y c.self.inside.z c.self.inside.spare c.self.invariant c.args.at c.span_at-x.result c.span_at-y.result
+    c.span_at-z.result
     c.span_at-x.ensures.span c.span_at-y.ensures.span c.span_at-z.ensures.span)

@@ -24,7 +24,8 @@ crossing-z-requires c =
 pub overflow_cast-result : goal.overflow_cast-result
 overflow_cast-result c =
     let mask =
-    mask_is c.args.body.now c.self.inside.x.spans c.self.inside.y.spans c.self.inside.z.spans c.args.at c.crossing-x.result c.crossing-y.result c.crossing-z.result
+    mask_is c.args.body.now c.self.inside.x.spans c.self.inside.y.spans c.self.inside.z.spans c.args.at c.crossing-x.result c.crossing-y.result
+    c.crossing-z.result
     (rw c.on_x.ensures.span at c.crossing-x.ensures) (rw c.on_y.ensures.span at c.crossing-y.ensures) (rw c.on_z.ensures.span at c.crossing-z.ensures)
     in
     rw mask (record { fits = eight_small (meets c.args.body.now) c.args.at (boxes_of c.self.inside.x.spans c.self.inside.y.spans c.self.inside.z.spans) })
@@ -32,7 +33,8 @@ overflow_cast-result c =
 pub returns : goal.returns
 returns c =
     let mask =
-    mask_is c.args.body.now c.self.inside.x.spans c.self.inside.y.spans c.self.inside.z.spans c.args.at c.crossing-x.result c.crossing-y.result c.crossing-z.result
+    mask_is c.args.body.now c.self.inside.x.spans c.self.inside.y.spans c.self.inside.z.spans c.args.at c.crossing-x.result c.crossing-y.result
+    c.crossing-z.result
     (rw c.on_x.ensures.span at c.crossing-x.ensures) (rw c.on_y.ensures.span at c.crossing-y.ensures) (rw c.on_z.ensures.span at c.crossing-z.ensures)
     in
     rw (mask, ← c.self.view_is) refl

@@ -22,5 +22,15 @@ insert_reserved-requires-3-clause-within c =
 pub returns-clause-ok : goal.returns-clause-ok
 returns-clause-ok c =
     let kept = c.reserve.ensures.boxes in
-    rw (c.insert_reserved.ensures.spans, c.insert_reserved-2.ensures.spans, c.insert_reserved-3.ensures.spans, c.on_x.ensures.span, c.on_y.ensures.span, c.on_z.ensures.span, ← kept, ← c.self.view_is)
-    (boxes_inserted c.self.inside.x c.self.inside.y c.self.inside.z c.self.inside.spare c.self.invariant c.args.at (x_of c.args.body) (y_of c.args.body) (z_of c.args.body))
+    rw (
+      c.insert_reserved.ensures.spans,
+      c.insert_reserved-2.ensures.spans,
+      c.insert_reserved-3.ensures.spans,
+      c.on_x.ensures.span,
+      c.on_y.ensures.span,
+      c.on_z.ensures.span,
+      ← kept,
+      ← c.self.view_is,
+    )
+    (boxes_inserted c.self.inside.x c.self.inside.y c.self.inside.z c.self.inside.spare c.self.invariant c.args.at (x_of c.args.body) (y_of c.args.body)
+    (z_of c.args.body))

@@ -20,4 +20,5 @@ remove-requires-3 c =
 
 pub returns-clause-boxes : goal.returns-clause-boxes
 returns-clause-boxes c =
-    rw (c.remove.ensures.spans, c.remove-2.ensures.spans, c.remove-3.ensures.spans, ← c.self.view_is) (boxes_removed c.self.inside.x c.self.inside.y c.self.inside.z c.self.inside.spare c.self.invariant c.args.at)
+    rw (c.remove.ensures.spans, c.remove-2.ensures.spans, c.remove-3.ensures.spans, ← c.self.view_is)
+    (boxes_removed c.self.inside.x c.self.inside.y c.self.inside.z c.self.inside.spare c.self.invariant c.args.at)

@@ -24,7 +24,8 @@ swap_out-requires-3 c =
 origin : Bounds
 origin = record { lo = record { x = pos 0; y = pos 0; z = pos 0 }; hi = record { x = pos 0; y = pos 0; z = pos 0 } }
 
-moved : (c : goal.After-self-1) (d : Bounds) → boxes_of c.swap_out.new.self.spans c.swap_out-2.new.self.spans c.swap_out-3.new.self.spans ≡ swap_remove c.args.self.now.boxes c.args.at d
+moved : (c : goal.After-self-1) (d : Bounds) → boxes_of c.swap_out.new.self.spans c.swap_out-2.new.self.spans c.swap_out-3.new.self.spans ≡ swap_remove
+    c.args.self.now.boxes c.args.at d
 moved c d =
     rw (c.swap_out.ensures.spans (x_of d), c.swap_out-2.ensures.spans (y_of d), c.swap_out-3.ensures.spans (z_of d), ← c.self.view_is)
     (boxes_swapped c.self.inside.x c.self.inside.y c.self.inside.z c.self.inside.spare c.self.invariant c.args.at (x_of d) (y_of d) (z_of d))
