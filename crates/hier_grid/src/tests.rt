@@ -10,6 +10,7 @@ use std::alloc::Global;
 use std::marker::Model;
 use std::sync::atomic::{AtomicBool, AtomicU32, Ordering};
 use std::test::Fail;
+use std::thread::Threads;
 
 // Numbers without order, from a linear congruence.
 #[derive(Drop)]
@@ -261,6 +262,31 @@ fn all_slots_are_sought_in_their_order(rt: HostRuntime) -> Result<(), Fail> {
     assert_eq!(rt; slots.as_slice(), [2, 4].as_slice());
     assert_eq!(rt; lists.len(), 2);
     for (list, other) in lists.iter().zip([4, 2]) {
+        assert_eq!(rt; list.as_slice(), [other].as_slice());
+    }
+    Ok(())
+}
+
+// What slots 4 and 2 reach, where both are present.
+fn seek_both<R: Threads + Sync>(
+    rt: &R,
+    alloc: Global,
+    grid: &HierGrid,
+) -> Result<Vec<Vec<u32>>, NoMemory> {
+    if grid.cells().key_of(4).is_some() && grid.cells().key_of(2).is_some() {
+        let (lists, _) = seek_many(rt, alloc, grid, &[4, 2], 2, &NoGate)?;
+        Ok(lists)
+    } else {
+        Ok(Vec::new(alloc))
+    }
+}
+
+#[test]
+fn slots_are_sought_in_the_order_asked_for(rt: HostRuntime) -> Result<(), Fail> {
+    let both = two_at(rt.alloc(), Point { x: 0, y: 0, z: 0 })?;
+    let lists = seek_both(&rt, rt.alloc(), &both.grid)?;
+    assert_eq!(rt; lists.len(), 2);
+    for (list, other) in lists.iter().zip([2, 4]) {
         assert_eq!(rt; list.as_slice(), [other].as_slice());
     }
     Ok(())
