@@ -1,6 +1,10 @@
+ghost use Rattle.broad_index.specs.Fresh.{IsFresh};
+
 use super::*;
-use broad_index::{Gate, NoGate, PlainIndex};
+use box_tree::BoxTree;
+use broad_index::{BroadPhase, Gate, NoGate, PlainIndex};
 use frame_player::{Limits, Options, play};
+use hier_grid::HierGrid;
 use pair_report::Cause;
 use play_io::{HonestSink, HonestSource, MemSink, MemSource};
 use std::alloc::{AllocError, Global};
@@ -8,6 +12,7 @@ use std::process::Abort;
 use std::sync::atomic::{AtomicBool, AtomicU32, Ordering};
 use std::test::Fail;
 use std::thread::Threads;
+use sweep_prune::Sap;
 
 // What a command line writes for a scene, with the status. Reads and writes go in pieces of at most 7 bytes.
 fn written<R: Threads + Sync + Abort>(
@@ -27,6 +32,31 @@ fn written<R: Threads + Sync + Abort>(
     let answer = broadplay(rt, alloc, &list, &mut source, &mut sink);
     assert_eq!(rt; sink.bytes(), report);
     assert_eq!(rt; answer, status);
+    Ok(())
+}
+
+// What each structure writes for a scene, with one thread and with several.
+fn written_by_all<R: Threads + Sync + Abort>(
+    rt: &R,
+    alloc: Global,
+    scene: &[u8],
+    report: &[u8],
+    status: Status,
+) -> Result<(), Fail> {
+    let words: [&[&str]; 9] = [
+        &["play"],
+        &["play", "--workers", "4"],
+        &["play", "--with", "sap"],
+        &["play", "--with", "plain"],
+        &["play", "--workers", "16", "--with", "plain"],
+        &["play", "--with", "tree"],
+        &["play", "--with", "tree", "--workers", "4"],
+        &["play", "--with", "grid"],
+        &["play", "--with", "grid", "--workers", "4"],
+    ];
+    for list in words {
+        written(rt, alloc, list, scene, report, status)?;
+    }
     Ok(())
 }
 
@@ -126,21 +156,8 @@ fn scenes_give_their_reports(rt: HostRuntime) -> Result<(), Fail> {
             Status::Done,
         ),
     ];
-    let words: [&[&str]; 9] = [
-        &["play"],
-        &["play", "--workers", "4"],
-        &["play", "--with", "sap"],
-        &["play", "--with", "plain"],
-        &["play", "--workers", "16", "--with", "plain"],
-        &["play", "--with", "tree"],
-        &["play", "--with", "tree", "--workers", "4"],
-        &["play", "--with", "grid"],
-        &["play", "--with", "grid", "--workers", "4"],
-    ];
     for (scene, report, status) in rows {
-        for list in words {
-            written(&rt, rt.alloc(), list, scene, report, status)?;
-        }
+        written_by_all(&rt, rt.alloc(), scene, report, status)?;
     }
     Ok(())
 }
@@ -166,14 +183,7 @@ fn bad_lines_are_refused(rt: HostRuntime) -> Result<(), Fail> {
         let mut report = String::new(rt.alloc());
         writeln!(report, "refused 2 {word}")?;
         let status = refused(2, cause);
-        written(
-            &rt,
-            rt.alloc(),
-            &["play"],
-            scene.as_bytes(),
-            report.as_bytes(),
-            status,
-        )?;
+        written_by_all(&rt, rt.alloc(), scene.as_bytes(), report.as_bytes(), status)?;
     }
     Ok(())
 }
@@ -198,12 +208,12 @@ fn a_line_has_at_most_1024_bytes(rt: HostRuntime) -> Result<(), Fail> {
     ];
     for (bytes, end, report, status) in rows {
         let scene = commented(rt.alloc(), bytes, end)?;
-        written(&rt, rt.alloc(), &["play"], scene.as_bytes(), report, status)?;
+        written_by_all(&rt, rt.alloc(), scene.as_bytes(), report, status)?;
     }
     Ok(())
 }
 
-// What `play` writes for a scene where calls of the source and of the sink fail, a byte at a time.
+// What each structure writes for a scene where calls of the source and of the sink fail, a byte at a time.
 fn written_with_faults<R: Threads + Sync + Abort>(
     rt: &R,
     alloc: Global,
@@ -212,13 +222,17 @@ fn written_with_faults<R: Threads + Sync + Abort>(
     report: &[u8],
     status: Status,
 ) -> Result<(), Fail> {
-    let mut list = Vec::new(alloc);
-    list.push(String::from_str(alloc, "play")?)?;
-    let mut source = MemSource::new(alloc, scene, 1, failing.0)?;
-    let mut sink = MemSink::new(alloc, 1, failing.1)?;
-    let answer = broadplay(rt, alloc, &list, &mut source, &mut sink);
-    assert_eq!(rt; sink.bytes(), report);
-    assert_eq!(rt; answer, status);
+    for structure in ["plain", "sap", "tree", "grid"] {
+        let mut list = Vec::new(alloc);
+        for word in ["play", "--with", structure] {
+            list.push(String::from_str(alloc, word)?)?;
+        }
+        let mut source = MemSource::new(alloc, scene, 1, failing.0)?;
+        let mut sink = MemSink::new(alloc, 1, failing.1)?;
+        let answer = broadplay(rt, alloc, &list, &mut source, &mut sink);
+        assert_eq!(rt; sink.bytes(), report);
+        assert_eq!(rt; answer, status);
+    }
     Ok(())
 }
 
@@ -418,14 +432,17 @@ fn other_command_lines_touch_nothing(rt: HostRuntime) -> Result<(), Fail> {
     Ok(())
 }
 
-fn played_within<R: Threads + Sync + Abort>(
+// What a play of at most three lines over an index writes.
+fn played_over<R: Threads + Sync + Abort, B: BroadPhase + Sync + Drop>(
     rt: &R,
     alloc: Global,
+    index: B,
     scene: &[u8],
     report: &[u8],
     status: Status,
-) -> Result<(), Fail> {
-    let index = PlainIndex::new(alloc)?;
+) -> Result<(), Fail>
+    requires { IsFresh (B.bodies index) (B.spent index) (B.exchanges index) }
+{
     let mut source = HonestSource::new(alloc, scene, 5)?;
     let mut sink = HonestSink::new(alloc, 5);
     let answer = play(
@@ -444,6 +461,19 @@ fn played_within<R: Threads + Sync + Abort>(
     assert_eq!(rt; sink.bytes(), report);
     assert_eq!(rt; answer, status);
     Ok(())
+}
+
+fn played_within<R: Threads + Sync + Abort>(
+    rt: &R,
+    alloc: Global,
+    scene: &[u8],
+    report: &[u8],
+    status: Status,
+) -> Result<(), Fail> {
+    played_over(rt, alloc, PlainIndex::new(alloc)?, scene, report, status)?;
+    played_over(rt, alloc, Sap::new(alloc)?, scene, report, status)?;
+    played_over(rt, alloc, BoxTree::new(alloc)?, scene, report, status)?;
+    played_over(rt, alloc, HierGrid::new(alloc)?, scene, report, status)
 }
 
 #[test]
@@ -484,14 +514,7 @@ fn so_many_boxes_live_and_no_more(rt: HostRuntime) -> Result<(), Fail> {
     let (scene, mut report) = crowd(rt.alloc(), 8193, 8192)?;
     report.push_str("refused 8194 full\n")?;
     let status = refused(8194, Cause::Full);
-    written(
-        &rt,
-        rt.alloc(),
-        &["play"],
-        scene.as_bytes(),
-        report.as_bytes(),
-        status,
-    )
+    written_by_all(&rt, rt.alloc(), scene.as_bytes(), report.as_bytes(), status)
 }
 
 #[test]
@@ -499,10 +522,9 @@ fn a_slot_that_is_free_again_takes_the_next_box(rt: HostRuntime) -> Result<(), F
     let (mut scene, mut report) = crowd(rt.alloc(), 8192, 8192)?;
     scene.push_str("remove 5:0\nadd 8192 8192 8192 8192 8192 8192\n")?;
     report.push_str("add 5:1\nend 8195 0 8192\n")?;
-    written(
+    written_by_all(
         &rt,
         rt.alloc(),
-        &["play"],
         scene.as_bytes(),
         report.as_bytes(),
         Status::Done,
