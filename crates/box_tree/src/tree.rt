@@ -1,6 +1,7 @@
-ghost use Rattle.std.specs.Prelude.{◌≡◌, ◌↔◌, ℕ, ◌≤◌, ◌<◌, true, false, None, Some, Ok, IfOk, IfSome};
+ghost use Rattle.std.specs.Prelude.{◌≡◌, ◌↔◌, ℕ, ◌≤◌, ◌<◌, ◌^◌, true, false, None, Some, is_some, Ok, IfOk, IfSome};
 ghost use Rattle.std.specs.Prelude.{IsTrue, length, map as mapped, slice_index_or, slice_set, refl};
 ghost use Rattle.std.specs.FinMap as map;
+ghost use Rattle.std.specs.List.{All};
 ghost use Rattle.fixed_box.specs.Bounds.{Bounds, encloses, fattened};
 ghost use Rattle.broad_index.specs.Fresh.{IsFresh};
 ghost use Rattle.broad_index.specs.Held.{Holds};
@@ -259,7 +260,14 @@ impl BroadPhase for BoxTree {
         ensures { self.new ≡ self.old }
     {}
 
-    fn share(&self, alloc: Global) -> Result<Option<(&BoxTree, Vec<u32>)>, NoMemory> {
+    // Several threads search wherever they may.
+    fn share(&self, alloc: Global) -> Result<Option<(&BoxTree, Vec<u32>)>, NoMemory>
+        ensures shares { IfOk result (λ shared. is_some shared ≡ true) }
+        ensures index { IfOk result (λ shared. IfSome shared (λ s. s.0.now ≡ self.now)) }
+        ensures slots { IfOk result (λ shared. IfSome shared (λ s. s.1.items ≡ sought self.now)) }
+        ensures present { IfOk result (λ shared. IfSome shared (λ s. All (λ slot. map.contains_key self.now.bodies slot ≡ true) s.1.items)) }
+        ensures few { IfOk result (λ shared. IfSome shared (λ s. length s.1.items < 2 ^ 32)) }
+    {
         let mut slots = Vec::new(alloc);
         push_sought(&self.bodies, &self.marks, &mut slots)?;
         Ok(Some((self, slots)))

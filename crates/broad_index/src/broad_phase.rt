@@ -107,7 +107,8 @@ pub trait BroadPhase {
         ensures kept { OnErr result (self.new ≡ self.old) };
 
     /// The same, where several threads search at once. The slots that are sought are cut into pieces of
-    /// `ceil(n / workers)`, and each piece enters the gate once, as [`seek_many`] says.
+    /// `ceil(n / workers)`, and each piece enters the gate once, as [`seek_many`] says. With one worker it is `pairs`, and
+    /// no gate is entered.
     final fn pairs_with<R: Threads + Sync, G: Gate + Sync>(
         &mut self,
         rt: &R,
@@ -127,6 +128,9 @@ pub trait BroadPhase {
         ensures paired { OnOk result (paired self.old self.new) }
         ensures kept { OnErr result (self.new ≡ self.old) }
     {
+        if workers == 1 {
+            return self.pairs(out);
+        }
         let alloc = *out.allocator();
         let Some((index, slots)) = self.share(alloc)? else {
             return self.pairs(out);

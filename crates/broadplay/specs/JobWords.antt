@@ -1,11 +1,14 @@
 -- What a command line asks for.
-use Rattle.std.specs.Prelude.{ℕ, ◌+◌, ◌*◌, ◌-◌, Bool, true, false, not, ◌&&◌, nat_le, List, []}
-use Rattle.std.specs.Prelude.{◌∷◌, codes, bytes_eq, if◌then◌else◌, is_some, unwrap_or, option_map, Option, Some, None}
+use Rattle.std.specs.Prelude.{ℕ, ◌≤◌, Bool, true, false, not, ◌&&◌, nat_le, List, [], ◌∷◌, codes, bytes_eq, if◌then◌else◌}
+use Rattle.std.specs.Prelude.{is_some, unwrap_or, option_map, Option, Some, None}
+use Rattle.std.specs.Str.Parse.{digits_value}
+use Rattle.scene_words.specs.Values.{is_numeral}
 use Rattle.broadplay.specs.declared.job.Choices.{Choices}
 use Rattle.broadplay.specs.declared.job.Job.{Job}
 use Rattle.broadplay.specs.declared.job.Structure.{Structure}
 use Rattle.broadplay.specs.declared.job.Structure.TheVariants.{Plain, Sap, Tree, Grid}
-use Rattle.broadplay.specs.declared.job.Task.TheVariants.{Play}
+use Rattle.broadplay.specs.declared.job.Task.{Task}
+use Rattle.broadplay.specs.declared.job.Task.TheVariants.{Play, Drill}
 
 -- a structure by its word
 abbrev pub structure_of : List ℕ → Option Structure
@@ -20,19 +23,15 @@ abbrev pub counts : Structure → Bool
 counts Sap = true
 counts other = false
 
-abbrev pub is_digit : ℕ → Bool
-is_digit b = nat_le 48 b && nat_le b 57
+-- one to `most` decimal digits with a value from `least` to `greatest`
+abbrev pub number_within : ℕ → ℕ → ℕ → List ℕ → Option ℕ
+number_within most least greatest word =
+    if is_numeral 10 most word && nat_le least (digits_value 10 word) && nat_le (digits_value 10 word) greatest then Some (digits_value 10 word)
+    else None
 
--- a number of workers, from 1 to 16
-abbrev pub as_workers : ℕ → Option ℕ
-as_workers n = if nat_le 1 n && nat_le n 16 then Some n else None
-
--- in one or two digits
+-- a number of workers: one or two digits with a value from 1 to 16
 abbrev pub workers_of : List ℕ → Option ℕ
-workers_of [] = None
-workers_of (a ∷ []) = if is_digit a then as_workers (a - 48) else None
-workers_of (a ∷ b ∷ []) = if is_digit a && is_digit b then as_workers (10 * (a - 48) + (b - 48)) else None
-workers_of (a ∷ b ∷ c ∷ more) = None
+workers_of word = number_within 2 1 16 word
 
 -- a choice that wasn't made before
 abbrev pub choose_structure : Choices → Option Structure → Option Choices
@@ -66,28 +65,55 @@ abbrev pub no_choices : Choices
 no_choices = record { structure = None; workers = None; exchanges = false }
 
 -- What is left out is sweep and prune and one worker. Exchanges are shown of a structure that counts them alone.
-abbrev pub job_over : Choices → Structure → Option Job
-job_over choices structure =
+abbrev pub job_over : Task → Choices → Structure → Option Job
+job_over task choices structure =
     if choices.exchanges && not (counts structure) then None
     else Some (record {
-      task = Play;
+      task = task;
       structure = structure;
       options = record { workers = unwrap_or choices.workers 1; exchanges = choices.exchanges };
     })
 
-abbrev pub job_of : Choices → Option Job
-job_of choices = job_over choices (unwrap_or choices.structure Sap)
+abbrev pub job_of : Task → Choices → Option Job
+job_of task choices = job_over task choices (unwrap_or choices.structure Sap)
 
-abbrev pub then_job : Option Choices → Option Job
-then_job None = None
-then_job (Some choices) = job_of choices
+abbrev pub then_job : Task → Option Choices → Option Job
+then_job task None = None
+then_job task (Some choices) = job_of task choices
 
--- The word `play` and its options are the job to play a scene. No other list of words has a meaning.
+-- a task with its options
+abbrev pub with_options : Task → List (List ℕ) → Option Job
+with_options task more = then_job task (choices_of no_choices more)
+
+-- a load that can be made
+abbrev pub IsLoad : Task → Type 0
+IsLoad Play = Unit {0}
+IsLoad (Drill seed boxes frames) = (1 ≤ boxes) × (boxes ≤ 8192) × (1 ≤ frames) × (frames ≤ 100)
+
+-- the load of a drill: a seed of one to twenty digits within 64 bits, one to four digits of 1 to 8,192 boxes, one to three digits of 1
+-- to 100 frames
+abbrev pub drill_over : Option ℕ → Option ℕ → Option ℕ → Option Task
+drill_over (Some seed) (Some boxes) (Some frames) = Some (Drill seed boxes frames)
+drill_over seed boxes frames = None
+
+abbrev pub drill_of : List ℕ → List ℕ → List ℕ → Option Task
+drill_of seed boxes frames = drill_over (number_within 20 0 18446744073709551615 seed) (number_within 4 1 8192 boxes) (number_within 3 1 100 frames)
+
+abbrev pub then_options : Option Task → List (List ℕ) → Option Job
+then_options None more = None
+then_options (Some task) more = with_options task more
+
+-- The three numbers of a drill, and its options.
+abbrev pub drill_job : List (List ℕ) → Option Job
+drill_job [] = None
+drill_job (seed ∷ []) = None
+drill_job (seed ∷ boxes ∷ []) = None
+drill_job (seed ∷ boxes ∷ frames ∷ more) = then_options (drill_of seed boxes frames) more
+
+-- The word `play` and its options are the job to play a scene; the word `drill`, three numbers and options are the job to make and play
+-- one. No other list of words has a meaning.
 abbrev pub job : List (List ℕ) → Option Job
 job [] = None
-job (word ∷ more) = if bytes_eq word (codes "play") then then_job (choices_of no_choices more) else None
-
--- whether the frames of a job end with their exchanges
-abbrev pub shows_exchanges : Option Job → Bool
-shows_exchanges None = false
-shows_exchanges (Some j) = j.options.exchanges
+job (word ∷ more) =
+    if bytes_eq word (codes "play") then with_options Play more
+    else (if bytes_eq word (codes "drill") then drill_job more else None)

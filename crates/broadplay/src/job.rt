@@ -1,13 +1,17 @@
 ghost use Rattle.std.specs.Prelude.{◌≡◌, ◌≤◌, true, map, string_bytes, IfSome};
-ghost use Rattle.broadplay.specs.JobWords.{job, choices_of, choose, choose_exchanges, no_choices};
-ghost use Rattle.broadplay.specs.JobWords.{job_of, structure_of, workers_of, as_workers, is_digit, counts};
+ghost use Rattle.broadplay.specs.JobWords.{job, drill_job, drill_of, with_options, job_of, IsLoad};
+ghost use Rattle.broadplay.specs.JobWords.{choices_of, choose, choose_exchanges, no_choices, structure_of, workers_of, number_within, counts};
 
 use frame_player::Options;
+use scene_words::numeral;
 
 /// What the program is to do.
 #[derive(Clone, Copy, Debug, PartialEq, Eq)]
 pub enum Task {
+    /// Play the scene on standard input, and write its report.
     Play,
+    /// Make a scene of 1 to 8,192 boxes and 1 to 100 frames, play it, and write a summary.
+    Drill { seed: u64, boxes: u32, frames: u32 },
 }
 
 /// By which structure the boxes are kept.
@@ -44,27 +48,86 @@ pub fn read_words(words: &[String]) -> Option<Job>
     ensures job { result ≡ job (map string_bytes words.now) }
     ensures workers { IfSome result (λ j. (1 ≤ j.options.workers) × (j.options.workers ≤ 16)) }
     ensures counted { IfSome result (λ j. j.options.exchanges ≡ true → counts j.structure ≡ true) }
+    ensures loads { IfSome result (λ j. IsLoad j.task) }
 {
     let (word, more) = words.split_first()?;
-    if word.as_str() != "play" {
-        return None;
+    if word.as_str() == "play" {
+        return with_options(Task::Play, more);
     }
-    job_of(read_options(more)?)
+    if word.as_str() == "drill" {
+        return drill_job(more);
+    }
+    None
+}
+
+// The three numbers of a drill, and its options.
+fn drill_job(words: &[String]) -> Option<Job>
+    ensures job { result ≡ drill_job (map string_bytes words.now) }
+    ensures workers { IfSome result (λ j. (1 ≤ j.options.workers) × (j.options.workers ≤ 16)) }
+    ensures counted { IfSome result (λ j. j.options.exchanges ≡ true → counts j.structure ≡ true) }
+    ensures loads { IfSome result (λ j. IsLoad j.task) }
+{
+    let [seed, boxes, frames, more @ ..] = words else {
+        return None;
+    };
+    let task = drill_of(seed.as_bytes(), boxes.as_bytes(), frames.as_bytes())?;
+    with_options(task, more)
+}
+
+fn drill_of(seed: &[u8], boxes: &[u8], frames: &[u8]) -> Option<Task>
+    ensures task { result ≡ drill_of seed.now boxes.now frames.now }
+    ensures loads { IfSome result (λ task. IsLoad task) }
+{
+    let seed = number_within(20, 0, u64::MAX, seed)?;
+    let boxes = number_within(4, 1, 8192, boxes)?;
+    let frames = number_within(3, 1, 100, frames)?;
+    Some(Task::Drill {
+        seed,
+        boxes: boxes as u32,
+        frames: frames as u32,
+    })
+}
+
+// One to `most` digits with a value from `least` to `greatest`.
+fn number_within(most: usize, least: u64, greatest: u64, word: &[u8]) -> Option<u64>
+    requires { most ≤ 20 }
+    ensures number { result ≡ number_within most least greatest word.now }
+    ensures within { IfSome result (λ n. (least ≤ n) × (n ≤ greatest)) }
+{
+    match numeral(10, most, word) {
+        Some(number) if u128::from(least) <= number && number <= u128::from(greatest) => {
+            Some(number as u64)
+        }
+        _ => None,
+    }
+}
+
+// A task with its options.
+fn with_options(task: Task, words: &[String]) -> Option<Job>
+    requires load { IsLoad task }
+    ensures job { result ≡ with_options task (map string_bytes words.now) }
+    ensures workers { IfSome result (λ j. (1 ≤ j.options.workers) × (j.options.workers ≤ 16)) }
+    ensures counted { IfSome result (λ j. j.options.exchanges ≡ true → counts j.structure ≡ true) }
+    ensures loads { IfSome result (λ j. IsLoad j.task) }
+{
+    job_of(task, read_options(words)?)
 }
 
 // The job of the options. Exchanges are shown of a structure that counts them alone.
-fn job_of(choices: Choices) -> Option<Job>
-    requires { IfSome choices.workers (λ n. (1 ≤ n) × (n ≤ 16)) }
-    ensures job { result ≡ job_of choices }
+fn job_of(task: Task, choices: Choices) -> Option<Job>
+    requires workers { IfSome choices.workers (λ n. (1 ≤ n) × (n ≤ 16)) }
+    requires load { IsLoad task }
+    ensures job { result ≡ job_of task choices }
     ensures workers { IfSome result (λ j. (1 ≤ j.options.workers) × (j.options.workers ≤ 16)) }
     ensures counted { IfSome result (λ j. j.options.exchanges ≡ true → counts j.structure ≡ true) }
+    ensures loads { IfSome result (λ j. IsLoad j.task) }
 {
     let structure = choices.structure.unwrap_or(Structure::Sap);
     if choices.exchanges && structure != Structure::Sap {
         return None;
     }
     Some(Job {
-        task: Task::Play,
+        task,
         structure,
         options: Options {
             workers: choices.workers.unwrap_or(1),
@@ -149,33 +212,10 @@ fn read_structure(word: &str) -> Option<Structure>
     }
 }
 
-// One or two digits with a value from 1 to 16.
 fn read_workers(word: &[u8]) -> Option<u32>
     ensures workers { result ≡ workers_of word.now }
     ensures within { IfSome result (λ n. (1 ≤ n) × (n ≤ 16)) }
 {
-    match word {
-        [a] if is_digit(*a) => as_workers(u32::from(*a) - 48),
-        [a, b] if is_digit(*a) && is_digit(*b) => {
-            as_workers(10 * (u32::from(*a) - 48) + (u32::from(*b) - 48))
-        }
-        _ => None,
-    }
-}
-
-fn is_digit(byte: u8) -> bool
-    ensures { result ≡ is_digit byte }
-{
-    48 <= byte && byte <= 57
-}
-
-fn as_workers(number: u32) -> Option<u32>
-    ensures workers { result ≡ as_workers number }
-    ensures within { IfSome result (λ n. (1 ≤ n) × (n ≤ 16)) }
-{
-    if 1 <= number && number <= 16 {
-        Some(number)
-    } else {
-        None
-    }
+    let number = number_within(2, 1, 16, word)?;
+    Some(number as u32)
 }

@@ -1,4 +1,5 @@
-//! Plays text scenes of boxes through a broad phase, from standard input to standard output.
+//! Plays text scenes of boxes through a broad phase, from standard input to standard output, and makes such scenes to
+//! compare structures, machines and versions by.
 #![tactic(auto)]
 
 mod job;
@@ -6,6 +7,7 @@ mod run_job;
 
 use frame_player::Status;
 pub use job::{Job, Structure, Task, read_words};
+pub use made_scene::drill_scene;
 use play_io::{FileSink, FileSource};
 pub use run_job::broadplay;
 use std::env;
@@ -13,7 +15,7 @@ use std::process::ExitCode;
 use std::rt::Env;
 
 const USAGE: &str =
-    "usage: broadplay play, then --with plain, sap, tree or grid, --workers N, --exchanges";
+    "usage: broadplay play or drill SEED BOXES FRAMES, then --with plain, sap, tree or grid, --workers N, --exchanges";
 
 fn main(rt: HostRuntime) -> ExitCode {
     let status = match words_of(&rt) {

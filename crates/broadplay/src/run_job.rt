@@ -1,29 +1,34 @@
 ghost use Rattle.std.specs.Prelude.{◌≡◌, ◌≢◌, ◌↔◌, ◌-◌, ◌^◌, ◌<◌, ◌≤◌, true, map, string_bytes, None, IfOk};
 ghost use Rattle.broad_index.specs.Fresh.{IsFresh};
 ghost use Rattle.frame_player.specs.declared.status.Status.TheVariants.{Usage};
-ghost use Rattle.frame_player.specs.Outcome.{ends, IsOutcome};
-ghost use Rattle.frame_player.specs.Play.{played};
-ghost use Rattle.broadplay.specs.JobWords.{job, shows_exchanges};
+ghost use Rattle.frame_player.specs.Outcome.{ends};
+ghost use Rattle.broadplay.specs.JobWords.{job, IsLoad};
+ghost use Rattle.broadplay.specs.JobOutcome.{IsJobDone, IsTaskDone, is_drill, reads_nothing};
 
-use crate::job::{Structure, read_words};
+use crate::job::{Job, Structure, Task, read_words};
 use box_tree::BoxTree;
 use broad_index::{BroadPhase, NoGate, PlainIndex};
 use fixed_box::NoMemory;
-use frame_player::{Limits, Options, Status, play};
+use frame_player::{Limits, Status, play};
 use hier_grid::HierGrid;
 use play_io::{Sink, Source};
+use scene_drill::{Load, drill};
 use scene_lines::MOST_LINES;
 use std::alloc::Global;
 use std::thread::Threads;
 use sweep_prune::Sap;
 
-/// Does what a command line asks for: plays the scene that a source has left, and writes its report.
+/// Does what a command line asks for: plays the scene that a source has left, and writes its report, or makes a scene,
+/// plays it, and writes a summary of its report.
 ///
 /// The report tells at each frame exactly the pairs of live boxes that meet and may, with what began, stayed and is
 /// over since the last frame, and for each query exactly the boxes that meet it. Which report that is, is a function of
 /// the scene's bytes, whatever pieces reads cut them into, and whichever structure and number of workers are named. The
 /// first line that can't be read is refused. Otherwise the play stops early only where memory runs out, or the source or
 /// the sink fails.
+///
+/// A drill reads nothing, and is never refused: its summary is a function of its seed and its numbers of boxes and
+/// frames alone.
 pub fn broadplay<R: Threads + Sync, S: Source, K: Sink>(
     rt: &R,
     alloc: Global,
@@ -37,9 +42,10 @@ pub fn broadplay<R: Threads + Sync, S: Source, K: Sink>(
     // The command line has no meaning, and nothing was touched.
     ensures usage { (result ≡ Usage) ↔ (job (map string_bytes words.now) ≡ None) }
     ensures untouched { result ≡ Usage → (source.new ≡ source.old) × (sink.new ≡ sink.old) }
+    ensures unread { reads_nothing (job (map string_bytes words.now)) ≡ true → source.new ≡ source.old }
 
     // How each status leaves the source and the sink.
-    ensures outcome { IsOutcome (played (shows_exchanges (job (map string_bytes words.now))) MOST_LINES)
+    ensures outcome { IsJobDone (job (map string_bytes words.now))
         (ends (S.left source.old) (S.faults source.old) (K.written sink.old) (K.settled sink.old) (K.faults sink.old))
         (ends (S.left source.new) (S.faults source.new) (K.written sink.new) (K.settled sink.new) (K.faults sink.new)) result }
     // After a fault the sink isn't called again.
@@ -49,38 +55,54 @@ pub fn broadplay<R: Threads + Sync, S: Source, K: Sink>(
         return Status::Usage;
     };
     match job.structure {
-        Structure::Plain => play_over(rt, alloc, PlainIndex::new(alloc), job.options, source, sink),
-        Structure::Sap => play_over(rt, alloc, Sap::new(alloc), job.options, source, sink),
-        Structure::Tree => play_over(rt, alloc, BoxTree::new(alloc), job.options, source, sink),
-        Structure::Grid => play_over(rt, alloc, HierGrid::new(alloc), job.options, source, sink),
+        Structure::Plain => run_over(rt, alloc, PlainIndex::new(alloc), job, source, sink),
+        Structure::Sap => run_over(rt, alloc, Sap::new(alloc), job, source, sink),
+        Structure::Tree => run_over(rt, alloc, BoxTree::new(alloc), job, source, sink),
+        Structure::Grid => run_over(rt, alloc, HierGrid::new(alloc), job, source, sink),
     }
 }
 
-// Plays over a structure, where there was memory to make it.
-fn play_over<R: Threads + Sync, B: BroadPhase + Sync + Drop, S: Source, K: Sink>(
+// Does a job over a structure, where there was memory to make it.
+fn run_over<R: Threads + Sync, B: BroadPhase + Sync + Drop, S: Source, K: Sink>(
     rt: &R,
     alloc: Global,
     made: Result<B, NoMemory>,
-    options: Options,
+    job: Job,
     source: &mut S,
     sink: &mut K,
 ) -> Status
     requires fresh { IfOk made (λ index. IsFresh (B.bodies index) (B.spent index) (B.exchanges index)) }
-    requires workers { (1 ≤ options.workers) × (options.workers ≤ 16) }
-    requires shown { options.exchanges ≡ true → B.COUNTS ≡ true }
+    requires workers { (1 ≤ job.options.workers) × (job.options.workers ≤ 16) }
+    requires shown { job.options.exchanges ≡ true → B.COUNTS ≡ true }
+    requires load { IsLoad job.task }
     requires source_count { S.faults source.old < 2 ^ 64 - 1 }
     requires sink_count { K.faults sink.old < 2 ^ 64 - 1 }
-    ensures outcome { IsOutcome (played options.exchanges MOST_LINES)
+    ensures unread { is_drill job.task ≡ true → source.new ≡ source.old }
+    ensures outcome { IsTaskDone job.task job.options.exchanges
         (ends (S.left source.old) (S.faults source.old) (K.written sink.old) (K.settled sink.old) (K.faults sink.old))
         (ends (S.left source.new) (S.faults source.new) (K.written sink.new) (K.settled sink.new) (K.faults sink.new)) result }
     ensures uncalled { K.faults sink.old ≡ 0 → K.since sink.new ≡ K.since sink.old }
     ensures never_usage { result ≢ Usage }
 {
-    match made {
-        Ok(index) => {
+    let Ok(index) = made else {
+        return Status::NoMemory;
+    };
+    match job.task {
+        Task::Play => {
             let limits = Limits { lines: MOST_LINES };
-            play(rt, alloc, index, options, limits, &NoGate, source, sink)
+            play(rt, alloc, index, job.options, limits, &NoGate, source, sink)
         }
-        Err(NoMemory) => Status::NoMemory,
+        Task::Drill {
+            seed,
+            boxes,
+            frames,
+        } => {
+            let load = Load {
+                seed,
+                boxes,
+                frames,
+            };
+            drill(rt, alloc, index, load, job.options, &NoGate, sink)
+        }
     }
 }

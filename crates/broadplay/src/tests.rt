@@ -1,5 +1,7 @@
 ghost use Rattle.broad_index.specs.Fresh.{IsFresh};
 
+mod drill;
+
 use super::*;
 use box_tree::BoxTree;
 use broad_index::{BroadPhase, Gate, NoGate, PlainIndex};
@@ -101,8 +103,10 @@ fn scenes_give_their_reports(rt: HostRuntime) -> Result<(), Fail> {
             Status::Done,
         ),
         (
-            b"scene 1\nadd 0 0 0 1 1 1\nadd 1 0 0 2 1 1\nframe\nremove 0:0\nadd 0 0 0 1 1 1\nframe\nmove 0:0 9 9 9 9 9 9\nremove 77:0\nmask 007:00 1 1\nframe\n",
-            b"add 0:0\nadd 1:0\nframe 1 1\nbegin 0:0 1:0\nadd 0:1\nframe 2 1\nbegin 0:1 1:0\nover 0:0 1:0\nstale 0:0\nstale 77:0\nstale 7:0\nframe 3 1\nstay 0:1 1:0\nend 11 3 2\n",
+            b"scene 1\nadd 0 0 0 1 1 1\nadd 1 0 0 2 1 1\nframe\nremove 0:0\nadd 0 0 0 1 1 1\nframe\n\
+                move 0:0 9 9 9 9 9 9\nremove 77:0\nmask 007:00 1 1\nframe\n",
+            b"add 0:0\nadd 1:0\nframe 1 1\nbegin 0:0 1:0\nadd 0:1\nframe 2 1\nbegin 0:1 1:0\nover 0:0 1:0\nstale 0:0\n\
+                stale 77:0\nstale 7:0\nframe 3 1\nstay 0:1 1:0\nend 11 3 2\n",
             Status::Done,
         ),
         (
@@ -136,7 +140,9 @@ fn scenes_give_their_reports(rt: HostRuntime) -> Result<(), Fail> {
             Status::Done,
         ),
         (
-            b"scene 1\nadd 0 0 0 0 0 0\nadd 100 0 0 100 0 0\nadd -100 0 0 -100 0 0\nadd 0 100 0 0 100 0\nadd 0 0 100 0 0 100 2\nbox -32768 -32768 -32768 32767.99999 32767.99999 32767.99999\nbox -32768 -32768 -32768 32767.99999 32767.99999 32767.99999 1\n",
+            b"scene 1\nadd 0 0 0 0 0 0\nadd 100 0 0 100 0 0\nadd -100 0 0 -100 0 0\nadd 0 100 0 0 100 0\n\
+                add 0 0 100 0 0 100 2\nbox -32768 -32768 -32768 32767.99999 32767.99999 32767.99999\n\
+                box -32768 -32768 -32768 32767.99999 32767.99999 32767.99999 1\n",
             b"add 0:0\nadd 1:0\nadd 2:0\nadd 3:0\nadd 4:0\nbox 5 0:0 1:0 2:0 3:0 4:0\nbox 4 0:0 1:0 2:0 3:0\nend 8 0 5\n",
             Status::Done,
         ),
@@ -146,8 +152,12 @@ fn scenes_give_their_reports(rt: HostRuntime) -> Result<(), Fail> {
             refused(5, Cause::Inverted),
         ),
         (
-            b"scene 1\n# floor, two crates, a player\nadd -100 -1 -100 100 0 100 1 6\nadd 2 0 2 3 1 3 2 7\nadd 2.5 1 2.5 3.5 2 3.5 2 7\nadd 10 0.5 10 10.8 2.3 10.8 4 3\nframe\nmove 3:0 3 0.5 3 3.8 2.3 3.8\nray 0 1.5 3 1 0 0 4\nframe\nremove 2:0\nframe\n",
-            b"add 0:0\nadd 1:0\nadd 2:0\nadd 3:0\nframe 1 2\nbegin 0:0 1:0\nbegin 1:0 2:0\nray 1 3:0\nframe 2 4\nstay 0:0 1:0\nstay 1:0 2:0\nbegin 1:0 3:0\nbegin 2:0 3:0\nframe 3 2\nstay 0:0 1:0\nstay 1:0 3:0\nover 1:0 2:0\nover 2:0 3:0\nend 12 3 3\n",
+            b"scene 1\n# floor, two crates, a player\nadd -100 -1 -100 100 0 100 1 6\nadd 2 0 2 3 1 3 2 7\n\
+                add 2.5 1 2.5 3.5 2 3.5 2 7\nadd 10 0.5 10 10.8 2.3 10.8 4 3\nframe\nmove 3:0 3 0.5 3 3.8 2.3 3.8\n\
+                ray 0 1.5 3 1 0 0 4\nframe\nremove 2:0\nframe\n",
+            b"add 0:0\nadd 1:0\nadd 2:0\nadd 3:0\nframe 1 2\nbegin 0:0 1:0\nbegin 1:0 2:0\nray 1 3:0\nframe 2 4\n\
+                stay 0:0 1:0\nstay 1:0 2:0\nbegin 1:0 3:0\nbegin 2:0 3:0\nframe 3 2\nstay 0:0 1:0\nstay 1:0 3:0\n\
+                over 1:0 2:0\nover 2:0 3:0\nend 12 3 3\n",
             Status::Done,
         ),
         (
@@ -396,7 +406,7 @@ fn boxes_alike_pass_one_another(rt: HostRuntime) -> Result<(), Fail> {
 
 #[test]
 fn other_command_lines_touch_nothing(rt: HostRuntime) -> Result<(), Fail> {
-    let rows: [&[&str]; 21] = [
+    let rows: [&[&str]; 36] = [
         &[],
         &["--help"],
         &["play", "play"],
@@ -417,7 +427,22 @@ fn other_command_lines_touch_nothing(rt: HostRuntime) -> Result<(), Fail> {
         &["play", "--exchanges", "4"],
         &["play", "--workers", "--exchanges"],
         &["play", "--with=tree"],
+        &["drill"],
+        &["drill", "1", "1"],
         &["drill", "1", "0", "1"],
+        &["drill", "1", "8193", "1"],
+        &["drill", "1", "00001", "1"],
+        &["drill", "1", "1", "0"],
+        &["drill", "1", "1", "101"],
+        &["drill", "1", "1", "0001"],
+        &["drill", "", "1", "1"],
+        &["drill", "+1", "1", "1"],
+        &["drill", "1x", "1", "1"],
+        &["drill", "18446744073709551616", "1", "1"],
+        &["drill", "000000000000000000001", "1", "1"],
+        &["drill", "1", "1", "1", "1"],
+        &["drill", "--with", "tree", "1", "1", "1"],
+        &["drill", "1", "1", "1", "--with", "grid", "--exchanges"],
     ];
     for words in rows {
         written(
@@ -533,16 +558,27 @@ fn a_slot_that_is_free_again_takes_the_next_box(rt: HostRuntime) -> Result<(), F
 
 // A level with a floor, two crates and a player, and what is reported of it.
 const LEVEL: &[u8] =
-    b"scene 1\n# floor, two crates, a player\nadd -100 -1 -100 100 0 100 1 6\nadd 2 0 2 3 1 3 2 7\nadd 2.5 1 2.5 3.5 2 3.5 2 7\nadd 10 0.5 10 10.8 2.3 10.8 4 3\nframe\nmove 3:0 3 0.5 3 3.8 2.3 3.8\nray 0 1.5 3 1 0 0 4\nframe\nremove 2:0\nframe\n";
+    b"scene 1\n# floor, two crates, a player\nadd -100 -1 -100 100 0 100 1 6\nadd 2 0 2 3 1 3 2 7\n\
+    add 2.5 1 2.5 3.5 2 3.5 2 7\nadd 10 0.5 10 10.8 2.3 10.8 4 3\nframe\nmove 3:0 3 0.5 3 3.8 2.3 3.8\n\
+    ray 0 1.5 3 1 0 0 4\nframe\nremove 2:0\nframe\n";
+
+// The command line of a play over a structure.
+fn play_with(alloc: Global, structure: &str) -> Result<Vec<String>, AllocError> {
+    let mut list = Vec::new(alloc);
+    for word in ["play", "--with", structure] {
+        list.push(String::from_str(alloc, word)?)?;
+    }
+    Ok(list)
+}
 
 // What is written of a scene that is read to its end.
 fn report_of<R: Threads + Sync + Abort>(
     rt: &R,
     alloc: Global,
+    structure: &str,
     scene: &[u8],
 ) -> Result<Vec<u8>, Fail> {
-    let mut list = Vec::new(alloc);
-    list.push(String::from_str(alloc, "play")?)?;
+    let list = play_with(alloc, structure)?;
     let mut source = HonestSource::new(alloc, scene, 1024)?;
     let mut sink = HonestSink::new(alloc, 1024);
     let answer = broadplay(rt, alloc, &list, &mut source, &mut sink);
@@ -566,55 +602,104 @@ fn lines_before(bytes: &[u8], but: usize) -> &[u8] {
     rest
 }
 
-#[test]
-fn each_read_that_fails_ends_a_play(rt: HostRuntime) -> Result<(), Fail> {
-    let alloc = rt.alloc();
-    let mut list = Vec::new(alloc);
-    list.push(String::from_str(alloc, "play")?)?;
-    for k in 0..LEVEL.len() + 1 {
-        let mut source = MemSource::new(alloc, LEVEL, 1, &[k as u32])?;
-        let mut sink = MemSink::new(alloc, 1024, &[])?;
-        let answer = broadplay(&rt, alloc, &list, &mut source, &mut sink);
-        let report = report_of(&rt, alloc, lines_before(LEVEL.split_at(k).0, 0))?;
-        assert_eq!(rt; answer, Status::ReadFault);
-        assert_eq!(rt; sink.bytes(), lines_before(&report, 1));
-        assert_eq!(rt; source.calls(), k as u64 + 1);
-    }
+// The level over a structure, where the read of such a number fails.
+fn read_fails<R: Threads + Sync + Abort>(
+    rt: &R,
+    alloc: Global,
+    structure: &str,
+    k: u32,
+) -> Result<(), Fail> {
+    let list = play_with(alloc, structure)?;
+    let mut source = MemSource::new(alloc, LEVEL, 1, &[k])?;
+    let mut sink = MemSink::new(alloc, 1024, &[])?;
+    let answer = broadplay(rt, alloc, &list, &mut source, &mut sink);
+    let taken = LEVEL.split_at((k as usize).min(LEVEL.len())).0;
+    let report = report_of(rt, alloc, structure, lines_before(taken, 0))?;
+    assert_eq!(rt; answer, Status::ReadFault);
+    assert_eq!(rt; sink.bytes(), lines_before(&report, 1));
+    assert_eq!(rt; source.calls(), u64::from(k) + 1);
     Ok(())
 }
 
 #[test]
-fn each_write_that_fails_ends_a_play(rt: HostRuntime) -> Result<(), Fail> {
-    let alloc = rt.alloc();
-    let mut list = Vec::new(alloc);
-    list.push(String::from_str(alloc, "play")?)?;
-    let report = report_of(&rt, alloc, LEVEL)?;
-    // The report is shorter than so many bytes, each of which is a write of its own before the flush.
-    for k in 0..1_000u32 {
-        let mut source = HonestSource::new(alloc, LEVEL, 1024)?;
-        let mut sink = MemSink::new(alloc, 1, &[k])?;
-        let answer = broadplay(&rt, alloc, &list, &mut source, &mut sink);
-        let written = (k as usize).min(report.len());
-        assert_eq!(rt; sink.bytes(), report.split_at(written).0);
-        if answer == Status::Done {
-            assert_eq!(rt; k as usize, report.len() + 1);
-            return Ok(());
+fn each_read_that_fails_ends_a_play(rt: HostRuntime) -> Result<(), Fail> {
+    for structure in ["plain", "sap", "tree", "grid"] {
+        for k in 0..LEVEL.len() + 1 {
+            read_fails(&rt, rt.alloc(), structure, k as u32)?;
         }
-        assert_eq!(rt; answer, Status::WriteFault);
-        assert_eq!(rt; sink.calls(), u64::from(k) + 1);
+    }
+    Ok(())
+}
+
+// The level over a structure, where the call of the sink of such a number fails, and whether the play came to its end.
+fn write_fails<R: Threads + Sync + Abort>(
+    rt: &R,
+    alloc: Global,
+    structure: &str,
+    report: &[u8],
+    k: u32,
+) -> Result<bool, Fail> {
+    let list = play_with(alloc, structure)?;
+    let mut source = HonestSource::new(alloc, LEVEL, 1024)?;
+    let mut sink = MemSink::new(alloc, 1, &[k])?;
+    let answer = broadplay(rt, alloc, &list, &mut source, &mut sink);
+    let written = (k as usize).min(report.len());
+    assert_eq!(rt; sink.bytes(), report.split_at(written).0);
+    if answer == Status::Done {
+        return Ok(true);
+    }
+    assert_eq!(rt; answer, Status::WriteFault);
+    assert_eq!(rt; sink.calls(), u64::from(k) + 1);
+    Ok(false)
+}
+
+// The number of calls of the sink in a play without a fault.
+fn each_write_fails<R: Threads + Sync + Abort>(
+    rt: &R,
+    alloc: Global,
+    structure: &str,
+    report: &[u8],
+) -> Result<usize, Fail> {
+    // The report is shorter than so many bytes, each of which is a write of its own before the flush.
+    for k in 0..1_000 {
+        if write_fails(rt, alloc, structure, report, k)? {
+            return Ok(k as usize);
+        }
     }
     Err("a play without a fault".into())
 }
 
 #[test]
-fn a_part_of_a_scene_has_a_part_of_its_report(rt: HostRuntime) -> Result<(), Fail> {
+fn each_write_that_fails_ends_a_play(rt: HostRuntime) -> Result<(), Fail> {
     let alloc = rt.alloc();
-    for k in 0..LEVEL.len() + 1 {
-        let part = LEVEL.split_at(k).0;
-        let whole_lines = report_of(&rt, alloc, lines_before(part, 0))?;
-        let replies = lines_before(&whole_lines, 1);
-        let report = report_of(&rt, alloc, part)?;
-        assert!(rt; report.starts_with(replies));
+    for structure in ["plain", "sap", "tree", "grid"] {
+        let report = report_of(&rt, alloc, structure, LEVEL)?;
+        let calls = each_write_fails(&rt, alloc, structure, &report)?;
+        assert_eq!(rt; calls, report.len() + 1);
+    }
+    Ok(())
+}
+
+// The first bytes of the level, so many, over a structure.
+fn part_begins<R: Threads + Sync + Abort>(
+    rt: &R,
+    alloc: Global,
+    structure: &str,
+    k: usize,
+) -> Result<(), Fail> {
+    let part = LEVEL.split_at(k.min(LEVEL.len())).0;
+    let whole_lines = report_of(rt, alloc, structure, lines_before(part, 0))?;
+    let report = report_of(rt, alloc, structure, part)?;
+    assert!(rt; report.starts_with(lines_before(&whole_lines, 1)));
+    Ok(())
+}
+
+#[test]
+fn a_part_of_a_scene_has_a_part_of_its_report(rt: HostRuntime) -> Result<(), Fail> {
+    for structure in ["plain", "sap", "tree", "grid"] {
+        for k in 0..LEVEL.len() + 1 {
+            part_begins(&rt, rt.alloc(), structure, k)?;
+        }
     }
     Ok(())
 }

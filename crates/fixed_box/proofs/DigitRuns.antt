@@ -32,7 +32,7 @@ decimal_after n count (ds ∷ []) = number_if (is_run 10 count ds) (digits_value
 decimal_after n count (ds ∷ fs ∷ []) = if is_run 10 count ds then with_fraction (digits_value_after 10 n ds) fs else None
 decimal_after n count (ds ∷ fs ∷ _ ∷ _) = None
 
-digit_value_is : (b : ℕ) → is_ascii_digit b ≡ true → digit_value b ≡ b - 48
+pub digit_value_is : (b : ℕ) → is_ascii_digit b ≡ true → digit_value b ≡ b - 48
 digit_value_is b h = grind (arith, nat_tests)
 
 value_step : (n b : ℕ) (ds : List ℕ) → is_ascii_digit b ≡ true → digits_value_after 10 n (b ∷ ds) ≡ digits_value_after 10 (10 * n + (b - 48)) ds

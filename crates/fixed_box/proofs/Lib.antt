@@ -1,6 +1,7 @@
 mod BoxLaws
 mod Corners
 mod DigitRuns
+mod FrontNumbers
 mod Levels
 mod Magnitude
 mod PutsThen

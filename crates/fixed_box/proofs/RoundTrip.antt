@@ -23,7 +23,7 @@ use Rattle.fixed_box.proofs.Magnitude.{number_of-digits}
 use Rattle.fixed_box.proofs.Rounding.{nearest_negative}
 use Rattle.fixed_box.proofs.Shown.{length-last_digits, length_units}
 
-digits_push : (ds : List ℕ) (d : ℕ) → all_ascii_digits ds ≡ true → is_ascii_digit d ≡ true → all_ascii_digits (ds ++ d ∷ []) ≡ true
+pub digits_push : (ds : List ℕ) (d : ℕ) → all_ascii_digits ds ≡ true → is_ascii_digit d ≡ true → all_ascii_digits (ds ++ d ∷ []) ≡ true
 digits_push [] d h last = ap (λ t. t && true) last
 digits_push (c ∷ ds) d h last = let parts = and_parts (is_ascii_digit c) (all_ascii_digits ds) h in ap (λ t. t && all_ascii_digits (ds ++ d ∷ [])) parts.0
     ∙ digits_push ds d parts.1 last
@@ -47,7 +47,7 @@ last_digits_value (suc count) n small =
 own : IsNumeralModel (λ ds. all_ascii_digits ds ≡ true) (digits_value 10)
 own = numerals_by_value (λ ds. all_ascii_digits ds ≡ true) tells_all_ascii_digits
 
-is_numeral_from : (most : ℕ) (ds : List ℕ) → 0 < length ds → length ds ≤ most → all_ascii_digits ds ≡ true → is_numeral most ds ≡ true
+pub is_numeral_from : (most : ℕ) (ds : List ℕ) → 0 < length ds → length ds ≤ most → all_ascii_digits ds ≡ true → is_numeral most ds ≡ true
 is_numeral_from most ds low high h =
     let some : nat_le 1 (length ds) ≡ true = grind (arith, nat_tests) in
     let few : nat_le (length ds) most ≡ true = grind (arith, nat_tests) in
@@ -81,7 +81,7 @@ number_shown q small =
 rounds_back : (a : ℕ) → (131072 * hundred_thousandths a + 100000) / 200000 ≡ a
 rounds_back a = omega arith
 
-within : (r : ℤ) → negsuc 2147483647 ≤ℤ r → r ≤ℤ pos 2147483647 → within_range r ≡ Ok r
+pub within : (r : ℤ) → negsuc 2147483647 ≤ℤ r → r ≤ℤ pos 2147483647 → within_range r ≡ Ok r
 within r low high =
     ap (λ t. cond (t && int_le r (pos 2147483647)) (Ok r) (Err Range)) (true_from _ low.le)
     ∙ ap (λ t. cond {A = Result ℤ FixFault} t (Ok r) (Err Range)) (true_from _ high.le)

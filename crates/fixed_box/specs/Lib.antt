@@ -1,6 +1,7 @@
 pub mod Bounds
 pub mod Decimal
 pub mod Fix
+pub mod Fronts
 pub mod LinkLaws
 pub mod Links
 pub mod Point

@@ -31,6 +31,48 @@ fn numbers_read_to_the_nearest_raw_number(rt: HostRuntime) {
 }
 
 #[test]
+fn numbers_are_taken_off_the_front_of_a_text(rt: HostRuntime) {
+    let cases: [(&[u8], Option<(Fix, usize)>); 20] = [
+        (b"0.00002 1", Some((1, 7))),
+        (b"-0.00001", Some((-1, 8))),
+        (b"123.45678\t", Some((8090864, 9))),
+        (b"1.5", Some((98304, 3))),
+        (b"12.25,", Some((802816, 5))),
+        (b"-9 8", Some((-589824, 2))),
+        (b"7", Some((458752, 1))),
+        (b"00042#", Some((2752512, 5))),
+        (b"1.000007", Some((65536, 8))),
+        (b"32766.99999", Some((2147418111, 11))),
+        (b"1.000000001", Some((65536, 11))),
+        (b"1.0000000001", None),
+        (b"0000000001", None),
+        (b"32767", None),
+        (b"-32768", None),
+        (b"1. 5", None),
+        (b".5", None),
+        (b"--1", None),
+        (b"+1", None),
+        (b"", None),
+    ];
+    for (text, want) in cases {
+        assert_eq!(rt; fix_ahead(text), want);
+    }
+}
+
+#[test]
+fn digits_are_taken_off_the_front_of_a_text(rt: HostRuntime) {
+    let cases: [(&[u8], (u64, usize)); 4] = [
+        (b"007:1", (7, 3)),
+        (b"12345678901", (1234567890, 10)),
+        (b"5", (5, 1)),
+        (b"x5", (0, 0)),
+    ];
+    for (text, want) in cases {
+        assert_eq!(rt; digits_ahead(text), want);
+    }
+}
+
+#[test]
 fn numbers_print_with_five_digits_behind_the_point(rt: HostRuntime) {
     let cases: [(Fix, &[u8]); 6] = [
         (0, b"0.00000"),

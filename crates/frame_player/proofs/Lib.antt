@@ -10,6 +10,7 @@ pub mod LinePlayed
 pub mod LineRefused
 pub mod Outcomes
 pub mod OwedAnswers
+pub mod PrintedPlay
 pub mod ReplyPrefix
 pub mod Sending
 pub mod Touches

@@ -1,3 +1,4 @@
+pub mod AllowedScene
 pub mod Ending
 pub mod FrameText
 pub mod InHandles

@@ -1,4 +1,4 @@
--- Serves proofs: how a text goes on to a sink, a part at a time.
+-- How a text goes on to a sink, a part at a time.
 use Rattle.std.specs.Prelude.{◌≡◌, ℕ, List, ◌++◌, Option, Result, Ok, Err}
 use Rattle.std.specs.Io.KnownBytes.{append_known}
 use Rattle.play_io.specs.declared.sink.SinkFault.{SinkFault}

@@ -7,6 +7,7 @@ mod handle_lists;
 mod last;
 mod obeying;
 mod player;
+mod printed_scene;
 mod query_run;
 mod report_prefix;
 mod scene_play;
@@ -14,7 +15,12 @@ mod status;
 mod worked;
 mod writing;
 
+pub use printed_scene::printed_scene_ends;
 pub use report_prefix::replies_begin_report;
 pub use scene_play::play;
 pub use status::{Limits, Options, Status};
 pub use worked::worked_scenes;
+pub use writing::write_all;
+
+#[cfg(test)]
+mod tests;

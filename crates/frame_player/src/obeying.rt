@@ -1,6 +1,6 @@
 ghost use Rattle.std.specs.Prelude.{◌≡◌, ◌++◌, ◌≤◌, true, Ok, OnOk};
 ghost use Rattle.frame_player.specs.Outlet.{outlet, IsSent};
-ghost use Rattle.frame_player.specs.Owed.{owed, IsRun};
+ghost use Rattle.frame_player.specs.Owed.{owed, query_of, IsRun};
 ghost use Rattle.frame_player.specs.Player.{world_in, IsPlaying, HasRoom, IsObeyed, IsChange};
 ghost use Rattle.frame_player.specs.World.{reply, allowed};
 
@@ -38,60 +38,11 @@ pub(crate) fn obey<R: Threads + Sync, B: BroadPhase + Sync + Drop, G: Gate + Syn
     ensures run { OnOk result (IsRun run.new) }
 {
     let workers = options.workers;
+    if let Some((query, mask)) = query_of(command) {
+        return gather(rt, workers, gate, player, run, query, mask, sink, text);
+    }
     match command {
         Command::Blank => Ok(()),
-        Command::BoxQ { body, mask } => {
-            gather(
-                rt,
-                workers,
-                gate,
-                player,
-                run,
-                Query::Region(*body),
-                *mask,
-                sink,
-                text,
-            )
-        }
-        Command::PointQ { at, mask } => {
-            gather(
-                rt,
-                workers,
-                gate,
-                player,
-                run,
-                Query::Spot(*at),
-                *mask,
-                sink,
-                text,
-            )
-        }
-        Command::RayQ { ray, mask } => {
-            gather(
-                rt,
-                workers,
-                gate,
-                player,
-                run,
-                Query::Along(*ray),
-                *mask,
-                sink,
-                text,
-            )
-        }
-        Command::SegQ { seg, mask } => {
-            gather(
-                rt,
-                workers,
-                gate,
-                player,
-                run,
-                Query::Between(*seg),
-                *mask,
-                sink,
-                text,
-            )
-        }
         Command::Frame => {
             settle(rt, workers, gate, player, run, sink, text)?;
             player.end_frame(rt, options, gate, sink, text)
@@ -100,6 +51,19 @@ pub(crate) fn obey<R: Threads + Sync, B: BroadPhase + Sync + Drop, G: Gate + Syn
             settle(rt, workers, gate, player, run, sink, text)?;
             change(options.exchanges, player, command, sink, text)
         }
+    }
+}
+
+// What a query asks, with the mask of the groups that it lists.
+fn query_of(command: &Command) -> Option<(Query, u32)>
+    ensures { result ≡ query_of command.now }
+{
+    match command {
+        Command::BoxQ { body, mask } => Some((Query::Region(*body), *mask)),
+        Command::PointQ { at, mask } => Some((Query::Spot(*at), *mask)),
+        Command::RayQ { ray, mask } => Some((Query::Along(*ray), *mask)),
+        Command::SegQ { seg, mask } => Some((Query::Between(*seg), *mask)),
+        _ => None,
     }
 }
 

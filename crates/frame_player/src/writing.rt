@@ -6,8 +6,10 @@ use play_io::{Sink, SinkFault};
 // From this many bytes on a text is written.
 const FULL: usize = 65_536;
 
-// Writes a whole text, and settles it. After a fault the sink isn't called again.
-pub(crate) fn write_all<K: Sink>(sink: &mut K, text: &[u8]) -> Result<(), SinkFault>
+/// Writes a whole text to a sink, in as many writes as it takes, and settles it with one flush.
+///
+/// After an `Err` a part of the text is written, and the sink isn't called again.
+pub fn write_all<K: Sink>(sink: &mut K, text: &[u8]) -> Result<(), SinkFault>
     ensures sent { IsSent (outlet (K.written sink.old) (K.faults sink.old) (K.since sink.old))
         (outlet (K.written sink.new) (K.faults sink.new) (K.since sink.new))
         text.now [] result }

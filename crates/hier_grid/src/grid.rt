@@ -1,5 +1,6 @@
-ghost use Rattle.std.specs.Prelude.{◌≡◌, ◌<◌, true, false, refl, Ok, None, IfOk};
+ghost use Rattle.std.specs.Prelude.{◌≡◌, ◌<◌, ◌^◌, true, false, length, refl, Ok, None, is_some, IfOk, IfSome};
 ghost use Rattle.std.specs.FinMap as map;
+ghost use Rattle.std.specs.List.{All};
 ghost use Rattle.broad_index.specs.Fresh.{IsFresh};
 ghost use Rattle.hier_grid.specs.Grid.{AreKeyed};
 ghost use Rattle.hier_grid.specs.Search.{present};
@@ -153,7 +154,14 @@ impl BroadPhase for HierGrid {
 
     fn clear_exchanges(&mut self) {}
 
-    fn share(&self, alloc: Global) -> Result<Option<(&HierGrid, Vec<u32>)>, NoMemory> {
+    // Several threads search wherever they may.
+    fn share(&self, alloc: Global) -> Result<Option<(&HierGrid, Vec<u32>)>, NoMemory>
+        ensures shares { IfOk result (λ shared. is_some shared ≡ true) }
+        ensures index { IfOk result (λ shared. IfSome shared (λ s. s.0.now ≡ self.now)) }
+        ensures slots { IfOk result (λ shared. IfSome shared (λ s. s.1.items ≡ present self.now)) }
+        ensures present { IfOk result (λ shared. IfSome shared (λ s. All (λ slot. map.contains_key self.now slot ≡ true) s.1.items)) }
+        ensures few { IfOk result (λ shared. IfSome shared (λ s. length s.1.items < 2 ^ 32)) }
+    {
         let slots = self.kept.boxes().present(alloc)?;
         Ok(Some((self, slots)))
     }

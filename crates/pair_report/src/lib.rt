@@ -3,7 +3,6 @@
 
 mod cause;
 mod lines;
-mod report_line;
 
 pub use cause::Cause;
 pub use lines::{

@@ -1,21 +1,21 @@
 ghost use Rattle.std.specs.Prelude.{◌≡◌, ◌+◌, ◌≤◌, ◌++◌, length, take, vec_len, codes, decimal, OnOk, OnErr};
-ghost use Rattle.pair_report.specs.declared.report_line.TheConstants.{ROOM};
 ghost use Rattle.pair_report.specs.PairReport.{handle_text, add_line, stale_line, frame_line, event_text, told_line, exchanges_line, kind_text};
 ghost use Rattle.pair_report.specs.PairReport.{handles_text, hits_line, end_line, cause_text, refused_line};
+ghost use Rattle.text_line.specs.declared.TheConstants.{ROOM};
 
 use crate::Cause;
-use crate::report_line::ReportLine;
 use broad_index::QKind;
 use fixed_box::NoMemory;
 use live_table::Handle;
 use pair_events::{Event, Told};
+use text_line::TextLine;
 
 /// A box was added: `add S:G`.
 pub fn put_add(handle: Handle, out: &mut Vec<u8>) -> Result<(), NoMemory>
     ensures ok { OnOk result (out.new.items ≡ out.old.items ++ add_line handle) }
     ensures err { OnErr result (out.new.items ≡ out.old.items) }
 {
-    let mut line = ReportLine::new();
+    let mut line = TextLine::new();
     line.text(b"add ");
     put_handle(handle, &mut line);
     line.text(b"\n");
@@ -27,7 +27,7 @@ pub fn put_stale(handle: Handle, out: &mut Vec<u8>) -> Result<(), NoMemory>
     ensures ok { OnOk result (out.new.items ≡ out.old.items ++ stale_line handle) }
     ensures err { OnErr result (out.new.items ≡ out.old.items) }
 {
-    let mut line = ReportLine::new();
+    let mut line = TextLine::new();
     line.text(b"stale ");
     put_handle(handle, &mut line);
     line.text(b"\n");
@@ -39,11 +39,11 @@ pub fn put_frame(number: u32, pairs: u32, out: &mut Vec<u8>) -> Result<(), NoMem
     ensures ok { OnOk result (out.new.items ≡ out.old.items ++ frame_line number pairs) }
     ensures err { OnErr result (out.new.items ≡ out.old.items) }
 {
-    let mut line = ReportLine::new();
+    let mut line = TextLine::new();
     line.text(b"frame ");
-    line.number(u64::from(number));
+    line.number(number);
     line.text(b" ");
-    line.number(u64::from(pairs));
+    line.number(pairs);
     line.text(b"\n");
     Ok(out.extend_from_slice(line.bytes())?)
 }
@@ -53,8 +53,8 @@ pub fn put_told(told: &Told, out: &mut Vec<u8>) -> Result<(), NoMemory>
     ensures ok { OnOk result (out.new.items ≡ out.old.items ++ told_line told.now) }
     ensures err { OnErr result (out.new.items ≡ out.old.items) }
 {
-    let mut line = ReportLine::new();
-    line.text(event_text(told.event));
+    let mut line = TextLine::new();
+    put_event(told.event, &mut line);
     put_handle(told.pair.a, &mut line);
     line.text(b" ");
     put_handle(told.pair.b, &mut line);
@@ -67,9 +67,9 @@ pub fn put_exchanges(number: u64, out: &mut Vec<u8>) -> Result<(), NoMemory>
     ensures ok { OnOk result (out.new.items ≡ out.old.items ++ exchanges_line number) }
     ensures err { OnErr result (out.new.items ≡ out.old.items) }
 {
-    let mut line = ReportLine::new();
+    let mut line = TextLine::new();
     line.text(b"exchanges ");
-    line.number(number);
+    line.wide_number(number);
     line.text(b"\n");
     Ok(out.extend_from_slice(line.bytes())?)
 }
@@ -102,9 +102,9 @@ fn push_count(kind: QKind, count: usize, out: &mut Vec<u8>) -> Result<(), NoMemo
     ensures ok { OnOk result (out.new.items ≡ out.old.items ++ (kind_text kind ++ decimal count)) }
     ensures err { OnErr result (out.new.items ≡ out.old.items) }
 {
-    let mut line = ReportLine::new();
+    let mut line = TextLine::new();
     line.text(kind_text(kind));
-    line.number(count as u64);
+    line.wide_number(count as u64);
     Ok(out.extend_from_slice(line.bytes())?)
 }
 
@@ -126,7 +126,7 @@ fn push_handle(handle: Handle, out: &mut Vec<u8>) -> Result<(), NoMemory>
     ensures ok { OnOk result (out.new.items ≡ out.old.items ++ (codes " " ++ handle_text handle)) }
     ensures err { OnErr result (out.new.items ≡ out.old.items) }
 {
-    let mut line = ReportLine::new();
+    let mut line = TextLine::new();
     line.text(b" ");
     put_handle(handle, &mut line);
     Ok(out.extend_from_slice(line.bytes())?)
@@ -137,13 +137,13 @@ pub fn put_end(lines: u32, frames: u32, live: u32, out: &mut Vec<u8>) -> Result<
     ensures ok { OnOk result (out.new.items ≡ out.old.items ++ end_line lines frames live) }
     ensures err { OnErr result (out.new.items ≡ out.old.items) }
 {
-    let mut line = ReportLine::new();
+    let mut line = TextLine::new();
     line.text(b"end ");
-    line.number(u64::from(lines));
+    line.number(lines);
     line.text(b" ");
-    line.number(u64::from(frames));
+    line.number(frames);
     line.text(b" ");
-    line.number(u64::from(live));
+    line.number(live);
     line.text(b"\n");
     Ok(out.extend_from_slice(line.bytes())?)
 }
@@ -153,33 +153,38 @@ pub fn put_refused(line: u32, cause: Cause, out: &mut Vec<u8>) -> Result<(), NoM
     ensures ok { OnOk result (out.new.items ≡ out.old.items ++ refused_line line cause) }
     ensures err { OnErr result (out.new.items ≡ out.old.items) }
 {
-    let mut text = ReportLine::new();
+    let mut text = TextLine::new();
     text.text(b"refused ");
-    text.number(u64::from(line));
+    text.number(line);
     text.text(b" ");
     text.text(cause_text(cause));
     text.text(b"\n");
     Ok(out.extend_from_slice(text.bytes())?)
 }
 
-fn put_handle(handle: Handle, line: &mut ReportLine)
-    requires { length line.old + 41 ≤ ROOM }
+#[inline(always)]
+fn put_handle(handle: Handle, line: &mut TextLine)
+    requires { length line.old + 21 ≤ ROOM }
     ensures text { line.new ≡ line.old ++ handle_text handle }
-    ensures length { length line.new ≤ length line.old + 41 }
+    ensures length { length line.new ≤ length line.old + 21 }
 {
-    line.number(u64::from(handle.slot));
+    line.number(handle.slot);
     line.text(b":");
-    line.number(u64::from(handle.generation));
+    line.number(handle.generation);
 }
 
-fn event_text(event: Event) -> &'static [u8]
-    ensures text { result.now ≡ event_text event }
-    ensures length { length result.now ≤ 6 }
+// The word of an event. Each arm puts a literal, which becomes stores. A word that is chosen as a slice would have a
+// length that is known only when it runs, and be copied by a call.
+#[inline(always)]
+fn put_event(event: Event, line: &mut TextLine)
+    requires { length line.old + 6 ≤ ROOM }
+    ensures text { line.new ≡ line.old ++ event_text event }
+    ensures length { length line.new ≤ length line.old + 6 }
 {
     match event {
-        Event::Begin => b"begin ",
-        Event::Stay => b"stay ",
-        Event::Over => b"over ",
+        Event::Begin => line.text(b"begin "),
+        Event::Stay => line.text(b"stay "),
+        Event::Over => line.text(b"over "),
     }
 }
 

@@ -5,4 +5,5 @@ pub mod Numerals
 pub mod PointsPut
 pub mod PrintedCommands
 pub mod PrintedValues
+pub mod WordFronts
 pub mod WordSplits

@@ -2,12 +2,9 @@
 use Rattle.std.proofs.Common.{◌≡◌, ℕ, ◌+◌, ◌<◌, Bool, true, false, cond, not, ◌||◌, List, [], ◌∷◌, length, take, drop, refl, sym, ap, ◌∙◌, arith, filter}
 use Rattle.std.specs.List.{slice_split, prefix_len, position_or_len, before_first, onto_first}
 use Rattle.std.proofs.lemmas.List.Folds.{length-prefix_len}
+use Rattle.scene_words.specs.Fronts.{in_word}
 use Rattle.scene_words.specs.SceneWords.{is_blank, is_hash, is_word, words}
 use Rattle.scene_words.proofs.FirstPlaces.{one_plus}
-
--- a byte of a word
-abbrev pub in_word : ℕ → Bool
-in_word b = not (is_blank b || is_hash b)
 
 -- what is cut at blanks, before a comment
 abbrev cut : List ℕ → List (List ℕ)

@@ -1,4 +1,5 @@
 pub mod Examples
+pub mod Fronts
 pub mod Printed
 pub mod PrintedParts
 pub mod Ranges

@@ -1,5 +1,5 @@
 -- What is printed of a command.
-use Rattle.std.specs.Prelude.{◌≡◌, ℕ, true, false, ◌||◌, not, ◌<◌, List, [], ◌∷◌, ◌++◌, length, codes, decimal}
+use Rattle.std.specs.Prelude.{◌≡◌, ℕ, true, false, ◌||◌, not, ◌<◌, List, [], ◌∷◌, ◌++◌, length, flat_map, codes, decimal}
 use Rattle.std.specs.Fmt.{digits}
 use Rattle.std.specs.List.{All, join_with_byte}
 use Rattle.fixed_box.specs.Bounds.{Bounds}
@@ -49,3 +49,11 @@ command_words (SegQ seg mask) = codes "seg" ∷ point_words seg.a (point_words s
 -- Its words, with a space between each two.
 abbrev pub printed : Command → List ℕ
 printed command = join_with_byte 32 (command_words command)
+
+-- the line that says a command
+unfoldable pub line_of : Command → List ℕ
+line_of command = printed command ++ 10 ∷ []
+
+-- The scene that commands make: a line for each.
+abbrev pub scene_text : List Command → List ℕ
+scene_text commands = flat_map line_of commands

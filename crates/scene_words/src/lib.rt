@@ -3,10 +3,11 @@
 
 mod command;
 mod examples;
+mod front_commands;
+mod front_fields;
 mod line_commands;
 mod line_fault;
 mod line_words;
-mod printed_line;
 mod printing;
 mod values;
 mod verb;
@@ -16,6 +17,7 @@ pub use command::Command;
 pub use line_commands::read_command;
 pub use line_fault::LineFault;
 pub use printing::{print_command, printed_reads_back};
+pub use values::numeral;
 pub use version::Version;
 
 #[cfg(test)]

@@ -5,6 +5,7 @@ ghost use Rattle.scene_words.specs.SceneWords.{add_of, move_of, mask_of, remove_
 ghost use Rattle.scene_words.specs.Ranges.{IsPrintable};
 ghost use Rattle.scene_words.specs.Reads.{Reads};
 
+use crate::front_commands::command_ahead;
 use crate::line_words::{count_words, next_word};
 use crate::values::{handle_of_word, mask_of_word, number_of_word};
 use crate::verb::Verb;
@@ -14,18 +15,29 @@ use live_table::{Handle, Masks};
 use ray_slabs::{Ray, Seg, WPoint};
 
 // The mask of every group, where a line names none.
-const EVERY_GROUP: u32 = u32::MAX;
+pub(crate) const EVERY_GROUP: u32 = u32::MAX;
 
 // The group of a new box, where a line names none.
-const FIRST_GROUP: u32 = 1;
+pub(crate) const FIRST_GROUP: u32 = 1;
 
 /// Reads one line of a scene, without its end. Words are parted by spaces and tabs, and `#` begins a comment.
 ///
 /// The fault is the first one: `Header` of a line that begins with `scene`, then `Word`, then `Count`, then that of
 /// the first bad word from left to right, then `Inverted`. Masks that are left out name every group, but a new box
 /// is in the first group alone.
-#[tactic(auto, unfolding(crate::specs::SceneWords::command_of))]
 pub fn read_command(version: Version, line: &[u8]) -> Result<Command, LineFault>
+    ensures command { result ≡ command version line.now }
+    ensures printable { IfOk result IsPrintable }
+{
+    match command_ahead(line) {
+        Some(command) => Ok(command),
+        None => read_words(version, line),
+    }
+}
+
+// Reads one line of a scene word by word. It alone tells the faults apart.
+#[tactic(auto, unfolding(crate::specs::SceneWords::command_of))]
+fn read_words(version: Version, line: &[u8]) -> Result<Command, LineFault>
     ensures command { result ≡ command version line.now }
     ensures printable { IfOk result IsPrintable }
 {

@@ -29,7 +29,7 @@ pub(crate) fn next_word(line: &[u8]) -> Option<(&[u8], &[u8])>
 }
 
 // What follows the blanks at the front.
-fn after_blanks(line: &[u8]) -> &[u8]
+pub(crate) fn after_blanks(line: &[u8]) -> &[u8]
     ensures words { words result.now ≡ words line.now }
     ensures no_blank { prefix_len is_blank result.now ≡ 0 }
     ensures shorter { length result.now ≤ length line.now }

@@ -3,19 +3,19 @@ ghost use Rattle.std.specs.List.{All, join_with_byte};
 ghost use Rattle.fixed_box.specs.Fix.{show};
 ghost use Rattle.ray_slabs.specs.Vector.{widened};
 ghost use Rattle.scene_words.specs.declared.command.Command.{Command};
-ghost use Rattle.scene_words.specs.declared.printed_line.TheConstants.{ROOM};
 ghost use Rattle.scene_words.specs.declared.version.Version.TheVariants.{One};
 ghost use Rattle.scene_words.specs.SceneWords as scene;
 ghost use Rattle.scene_words.specs.Printed.{IsWord, printed, handle_text, mask_text};
 ghost use Rattle.scene_words.specs.PrintedParts.{point_text, box_text, masks_text};
 ghost use Rattle.scene_words.specs.Ranges.{IsRaw, IsRawVector, IsRawBox, IsHandle, IsMasks, IsInRange, IsPrintable};
+ghost use Rattle.text_line.specs.declared.TheConstants.{ROOM};
 
 use crate::Command;
 use crate::line_commands::version_word;
-use crate::printed_line::PrintedLine;
 use fixed_box::{FBox, Fix, NoMemory, Point, print_fix};
 use live_table::{Handle, Masks};
 use ray_slabs::WPoint;
+use text_line::TextLine;
 
 /// Appends the line that says a command: its words with a space between each two, and LF. No word is left out that may
 /// be, so that masks always stand there. It is for programs that make scenes, of which the drill is one.
@@ -32,7 +32,7 @@ pub fn print_command(command: &Command, out: &mut Vec<u8>) -> Result<(), NoMemor
     ensures short { length (printed command.now) ≤ 104 }
 {
     printed_reads_back();
-    let mut line = PrintedLine::new();
+    let mut line = TextLine::new();
     put_words(command, &mut line);
     line.text(b"\n");
     Ok(out.extend_from_slice(line.bytes())?)
@@ -52,7 +52,7 @@ pub fn printed_reads_back()
 }
 
 // Puts the words of a command.
-fn put_words(command: &Command, line: &mut PrintedLine)
+fn put_words(command: &Command, line: &mut TextLine)
     requires start { line.old ≡ [] }
     requires printable { IsPrintable command.now }
     ensures text { line.new ≡ printed command.now }
@@ -111,7 +111,7 @@ fn put_words(command: &Command, line: &mut PrintedLine)
 }
 
 // Puts the corners of a box, the lower one first.
-fn put_box(body: &FBox, line: &mut PrintedLine)
+fn put_box(body: &FBox, line: &mut TextLine)
     requires { length line.old + 78 ≤ ROOM }
     ensures text { line.new ≡ line.old ++ box_text body.now }
     ensures length { length line.new ≤ length line.old + 78 }
@@ -122,7 +122,7 @@ fn put_box(body: &FBox, line: &mut PrintedLine)
 }
 
 // Puts the numbers of a point, each after a space.
-fn put_point(at: Point, line: &mut PrintedLine)
+fn put_point(at: Point, line: &mut TextLine)
     requires { length line.old + 39 ≤ ROOM }
     ensures text { line.new ≡ line.old ++ point_text (widened at) }
     ensures length { length line.new ≤ length line.old + 39 }
@@ -134,7 +134,7 @@ fn put_point(at: Point, line: &mut PrintedLine)
 }
 
 // Puts the parts of a point or a direction of a ray or a segment, which fit 32 bits.
-fn put_vector(at: &WPoint, line: &mut PrintedLine)
+fn put_vector(at: &WPoint, line: &mut TextLine)
     requires room { length line.old + 39 ≤ ROOM }
     requires raw { IsRawVector at.now }
     ensures text { line.new ≡ line.old ++ point_text at.now }
@@ -157,7 +157,7 @@ fn narrowed(part: i64) -> Fix
 }
 
 // Puts a number after a space.
-fn put_number(value: Fix, line: &mut PrintedLine)
+fn put_number(value: Fix, line: &mut TextLine)
     requires { length line.old + 13 ≤ ROOM }
     ensures text { line.new ≡ line.old ++ 32 ∷ show value }
     ensures length { length line.new ≤ length line.old + 13 }
@@ -169,7 +169,7 @@ fn put_number(value: Fix, line: &mut PrintedLine)
 }
 
 // Puts a handle after a space.
-fn put_handle(handle: Handle, line: &mut PrintedLine)
+fn put_handle(handle: Handle, line: &mut TextLine)
     requires { length line.old + 22 ≤ ROOM }
     ensures text { line.new ≡ line.old ++ 32 ∷ handle_text handle }
     ensures length { length line.new ≤ length line.old + 22 }
@@ -182,7 +182,7 @@ fn put_handle(handle: Handle, line: &mut PrintedLine)
 }
 
 // Puts what a box is, then what it sees, each after a space.
-fn put_masks(masks: Masks, line: &mut PrintedLine)
+fn put_masks(masks: Masks, line: &mut TextLine)
     requires { length line.old + 18 ≤ ROOM }
     ensures text { line.new ≡ line.old ++ masks_text masks }
     ensures length { length line.new ≤ length line.old + 18 }
@@ -194,7 +194,7 @@ fn put_masks(masks: Masks, line: &mut PrintedLine)
 
 // Puts a mask after a space.
 #[tactic(auto, using(crate::proofs::Hexadecimal::hex_length))]
-fn put_mask(mask: u32, line: &mut PrintedLine)
+fn put_mask(mask: u32, line: &mut TextLine)
     requires { length line.old + 9 ≤ ROOM }
     ensures text { line.new ≡ line.old ++ 32 ∷ mask_text mask }
     ensures length { length line.new ≤ length line.old + 9 }

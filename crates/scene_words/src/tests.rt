@@ -45,7 +45,7 @@ fn lines_read_as_commands(rt: HostRuntime) -> Result<(), Fail> {
         generation: 4294967295,
     };
     let version = Version::One;
-    let cases: [(&[u8], Result<Command, LineFault>); 24] = [
+    let cases: [(&[u8], Result<Command, LineFault>); 30] = [
         (b"", Ok(Command::Blank)),
         (b" \t # scene 1", Ok(Command::Blank)),
         (b"scene 1", Ok(Command::Header { version })),
@@ -78,6 +78,38 @@ fn lines_read_as_commands(rt: HostRuntime) -> Result<(), Fail> {
                 body,
             }),
         ),
+        (
+            b"move 7:0 0.00000 -0.00000 0.00000 1.00000 2.00000 3.00000",
+            Ok(Command::Move {
+                handle: first,
+                body,
+            }),
+        ),
+        (
+            b"move  7:0\t0 0.0  0.000000000 1.000000 \t2.00001 3.000000001# 4",
+            Ok(Command::Move {
+                handle: first,
+                body: FBox::new(origin, at(ONE, 2 * ONE + 1, 3 * ONE)).ok_or(
+                    "the corners are inverted",
+                )?,
+            }),
+        ),
+        (
+            b"add 0.00000 0.00000 0.00000 1.00000 2.00000 3.00000 aB 000000Ab",
+            Ok(Command::Add {
+                body,
+                masks: masks(171, 171),
+            }),
+        ),
+        (
+            b"add -32768.00000 0.00000 0.00000 0000000001 2.00000 3.00000 2 \t",
+            Ok(Command::Add {
+                body: FBox::new(at(-32768 * ONE, 0, 0), corner).ok_or("the corners are inverted")?,
+                masks: masks(2, EVERY_GROUP),
+            }),
+        ),
+        (b"remove  7:0 #1", Ok(Command::Remove { handle: first })),
+        (b"frame ", Ok(Command::Frame)),
         (
             b"move 4294967295:4294967295 0 0 0 1 2 3",
             Ok(Command::Move { handle: last, body }),
@@ -169,8 +201,18 @@ fn lines_read_as_commands(rt: HostRuntime) -> Result<(), Fail> {
 
 #[test]
 fn the_first_fault_is_answered(rt: HostRuntime) {
-    let cases: [(&[u8], LineFault); 49] = [
+    let cases: [(&[u8], LineFault); 53] = [
         (b"scene", LineFault::Header),
+        (b"move 7:0 0.0 0.0 0.0 1.0 2.0 32768.0", LineFault::Range),
+        (b"move 7:0 0.0 0.0 0.0 1.0 2.0 3.0.0", LineFault::Number),
+        (
+            b"move 7:0 1.00000 0.00000 0.00000 0.99999 1.00000 1.00000",
+            LineFault::Inverted,
+        ),
+        (
+            b"add 0.0 0.0 0.0 1.0 1.0 1.0 1 123456789 #1",
+            LineFault::Mask,
+        ),
         (b"scene 2", LineFault::Header),
         (b"scene 01", LineFault::Header),
         (b"scene 1 x", LineFault::Header),

@@ -44,16 +44,17 @@ fn index_of_digits(text: &[u8]) -> Option<u32>
     ensures { result ≡ index_of_digits text.now }
 {
     match numeral(10, 10, text) {
-        Some(index) if index <= u64::from(u32::MAX) => Some(index as u32),
+        Some(index) if index <= u128::from(u32::MAX) => Some(index as u32),
         _ => None,
     }
 }
 
-// The value of one to `most` digits in a radix, and nothing else.
-fn numeral(radix: u32, most: usize, text: &[u8]) -> Option<u64>
+/// The value of one to `most` digits in a radix, leading zeros among them, and `None` for any other text. The radix is 2 to
+/// 16, with digits above 9 in either case, and `most` is at most 20, which is enough for 64 bits in decimal.
+pub fn numeral(radix: u32, most: usize, text: &[u8]) -> Option<u128>
     requires some_digits { 2 ≤ radix }
     requires few_digits { radix ≤ 16 }
-    requires short { most ≤ 10 }
+    requires short { most ≤ 20 }
     ensures value { result ≡ (if is_numeral radix most text.now then Some (digits_value radix text.now) else None) }
     ensures small { IfSome result (λ value. value < 16 ^ most) }
 {
@@ -65,7 +66,7 @@ fn numeral(radix: u32, most: usize, text: &[u8]) -> Option<u64>
         let Some(digit) = char::from(*byte).to_digit(radix) else {
             return None;
         };
-        value = value * u64::from(radix) + u64::from(digit);
+        value = value * u128::from(radix) + u128::from(digit);
     }
     Some(value)
 }

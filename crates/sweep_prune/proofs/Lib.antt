@@ -17,4 +17,3 @@ pub mod LeaveLemmas
 pub mod SweepLemmas
 pub mod KeyedLemmas
 pub mod FullLemmas
-pub mod TwinLemmas

@@ -1,18 +1,11 @@
 -- The play so far goes on with each line, and each way out of the loop has the text of its ending.
-use Rattle.std.proofs.Common.{◌≡◌, ℕ, ◌+◌, ◌≤◌, ◌++◌, ◌∙◌, List, [], IfSome, sym, ap, refl, arith, true, false, subst, ⊎_elim}
+use Rattle.std.proofs.Common.{◌≡◌, ℕ, ◌+◌, ◌≤◌, ◌++◌, ◌∙◌, List, [], IfSome, sym, ap, refl, arith, true, false, ⊎_elim}
 use Rattle.std.proofs.lemmas.Bool.{cases_Bool}
 use Rattle.std.specs.List.{sum}
-use Rattle.pair_report.specs.declared.cause.Cause.TheVariants as cause
-use Rattle.pair_report.specs.PairReport.{refused_line, end_line}
-use Rattle.scene_lines.specs.declared.next.Next.TheVariants.{End, Long, TooMany}
-use Rattle.scene_lines.specs.Next.{answer_at}
-use Rattle.scene_lines.specs.Reading.{coming}
 use Rattle.scene_lines.specs.SceneLines.{lines}
 use Rattle.scene_words.specs.declared.version.Version.TheVariants.{One}
 use Rattle.scene_words.specs.SceneWords.{command}
 use Rattle.play_io.specs.declared.sink.SinkFault.TheVariants as why
-use Rattle.frame_player.specs.declared.status.Status.TheVariants.{Refused, Done, ReadFault}
-use Rattle.frame_player.specs.Ending.{IsTextOf}
 use Rattle.frame_player.specs.Outcome.{IsBegun}
 use Rattle.frame_player.specs.Outlet.{outlet, IsCutShort}
 use Rattle.frame_player.specs.OutcomeLaws.{append_known-nil, nothing_begun}

@@ -1,0 +1,19 @@
+-- How a task ends that touched neither end.
+use Rattle.std.proofs.Common.{◌≡◌, Bool, List, [], Option, refl}
+use Rattle.std.specs.Io.KnownBytes.{append_known}
+use Rattle.frame_player.specs.declared.status.Status.TheVariants.{NoMemory}
+use Rattle.frame_player.specs.Outcome.{Ends, IsBegun}
+use Rattle.frame_player.specs.OutcomeLaws.{append_known-nil, uncalled_ends}
+use Rattle.frame_player.specs.Play.{played}
+use Rattle.scene_lines.specs.declared.TheConstants.{MOST_LINES}
+use Rattle.broadplay.specs.declared.job.Task.{Task}
+use Rattle.broadplay.specs.declared.job.Task.TheVariants.{Play, Drill}
+use Rattle.broadplay.specs.JobOutcome.{IsTaskDone}
+
+pub uncalled_task : (task : Task) (shows : Bool) (here : Ends) → IsTaskDone task shows here here NoMemory
+uncalled_task Play shows here = uncalled_ends (played shows MOST_LINES) here
+uncalled_task (Drill seed boxes frames) shows here = record {
+  drilled = record { unfailed = refl; begun = record { part = []; prefix = (_, refl); written = append_known-nil here.written } };
+  left = refl;
+  unread = refl;
+}

@@ -1,0 +1,278 @@
+ghost use Rattle.std.specs.Prelude.{◌<◌, ◌≤◌};
+
+use super::*;
+use fixed_box::{FBox, NoMemory, SLOTS};
+use scene_words::{Command, Version, read_command};
+
+// What a command line writes that reads nothing, with the status.
+fn drilled<R: Threads + Sync + Abort>(
+    rt: &R,
+    alloc: Global,
+    words: &[&str],
+) -> Result<(Vec<u8>, Status), Fail> {
+    let mut list = Vec::new(alloc);
+    for word in words {
+        list.push(String::from_str(alloc, word)?)?;
+    }
+    let mut source = MemSource::new(alloc, b"scene 1\nframe\n", 7, &[])?;
+    let mut sink = HonestSink::new(alloc, 7);
+    let answer = broadplay(rt, alloc, &list, &mut source, &mut sink);
+    assert_eq!(rt; source.calls(), 0);
+    Ok((Vec::from_slice(alloc, sink.bytes())?, answer))
+}
+
+#[test]
+fn one_box_meets_each_query_at_it(rt: HostRuntime) -> Result<(), Fail> {
+    let counts = b"boxes 1\nframes 1\nadds 2\npairs 0\nbegin 0\nstay 0\nover 0\nhits 4\n";
+    let with_exchanges =
+        b"boxes 1\nframes 1\nadds 2\npairs 0\nbegin 0\nstay 0\nover 0\nhits 4\nexchanges 0\n";
+    let rows: [(&[&str], &[u8]); 8] = [
+        (&["drill", "42", "1", "1"], counts),
+        (
+            &[
+                "drill",
+                "42",
+                "1",
+                "1",
+                "--with",
+                "plain",
+                "--workers",
+                "16",
+            ],
+            counts,
+        ),
+        (&["drill", "42", "1", "1", "--with", "tree"], counts),
+        (&["drill", "42", "1", "1", "--with", "grid"], counts),
+        (&["drill", "42", "1", "1", "--exchanges"], with_exchanges),
+        (
+            &[
+                "drill",
+                "00042",
+                "0001",
+                "001",
+                "--exchanges",
+                "--with",
+                "sap",
+            ],
+            with_exchanges,
+        ),
+        (&["drill", "0", "1", "1"], counts),
+        (&["drill", "18446744073709551615", "1", "1"], counts),
+    ];
+    for (words, text) in rows {
+        let (summary, status) = drilled(&rt, rt.alloc(), words)?;
+        assert_eq!(rt; status, Status::Done);
+        assert_eq!(rt; summary.as_slice(), text);
+    }
+    Ok(())
+}
+
+#[test]
+fn each_structure_has_the_same_summary(rt: HostRuntime) -> Result<(), Fail> {
+    let alloc = rt.alloc();
+    let (plain, _) = drilled(&rt, alloc, &["drill", "7", "2000", "50", "--with", "plain"])?;
+    assert!(rt; plain.starts_with(b"boxes 2000\nframes 50\nadds 2050\npairs "));
+    for structure in ["plain", "sap", "tree", "grid"] {
+        for workers in ["1", "4"] {
+            let (summary, status) = drilled(
+                &rt,
+                alloc,
+                &[
+                    "drill",
+                    "7",
+                    "2000",
+                    "50",
+                    "--with",
+                    structure,
+                    "--workers",
+                    workers,
+                ],
+            )?;
+            assert_eq!(rt; status, Status::Done);
+            assert_eq!(rt; summary.as_slice(), plain.as_slice());
+        }
+    }
+    Ok(())
+}
+
+#[test]
+fn a_drill_is_the_play_of_its_scene(rt: HostRuntime) -> Result<(), Fail> {
+    let alloc = rt.alloc();
+    let mut scene = Vec::new(alloc);
+    drill_scene(alloc, 42, 1, 1, &mut scene)?;
+    assert!(rt;
+        scene.starts_with(
+            b"scene 1\nadd 161.35941 123.28107 186.11406 169.25003 135.62482 196.95781 8 f\n\
+            move 0:0 161.15433 123.25177 186.25664 169.04495 135.59552 197.10039\nremove 0:0\n"
+        )
+    );
+    let report = report_of(&rt, alloc, "sap", &scene)?;
+    assert_eq!(rt;
+        report.as_slice(),
+        b"add 0:0\nadd 0:1\nbox 1 0:1\npoint 1 0:1\nray 1 0:1\nseg 1 0:1\nframe 1 0\nend 10 1 1\n".as_slice()
+    );
+    Ok(())
+}
+
+// Faults and short writes of the sink, with what is written of a summary.
+#[test]
+fn a_sink_that_fails_has_a_part_of_the_summary(rt: HostRuntime) -> Result<(), Fail> {
+    let alloc = rt.alloc();
+    let mut list = Vec::new(alloc);
+    for word in ["drill", "42", "1", "1"] {
+        list.push(String::from_str(alloc, word)?)?;
+    }
+    let whole = b"boxes 1\nframes 1\nadds 2\npairs 0\nbegin 0\nstay 0\nover 0\nhits 4\n";
+    // Eight bytes a write, and a flush.
+    for call in 0..9 {
+        let mut source = MemSource::new(alloc, b"", 7, &[])?;
+        let mut sink = MemSink::new(alloc, 8, &[call])?;
+        let answer = broadplay(&rt, alloc, &list, &mut source, &mut sink);
+        assert_eq!(rt; answer, Status::WriteFault);
+        assert_eq!(rt;
+            sink.bytes(),
+            whole.split_at((8 * call as usize).min(whole.len())).0
+        );
+        assert_eq!(rt; sink.calls(), u64::from(call) + 1);
+        assert_eq!(rt; source.calls(), 0);
+    }
+    Ok(())
+}
+
+// Puts a box under a slot of a grid, in place of the one that it has.
+fn put(grid: &mut HierGrid, slot: u32, body: FBox) -> Result<(), NoMemory>
+    requires { slot < SLOTS }
+{
+    if grid.cells().key_of(slot).is_some() {
+        grid.shift(slot, body)
+    } else {
+        grid.add(slot, body)
+    }
+}
+
+// Takes a slot out of a grid, if it is present.
+fn remove(grid: &mut HierGrid, slot: u32)
+    requires { slot < SLOTS }
+{
+    if grid.cells().key_of(slot).is_some() {
+        grid.leave(slot);
+    }
+}
+
+// A grid that a made scene's lines are applied to, with the slot that its next added box takes.
+#[derive(Drop)]
+struct Applied {
+    grid: HierGrid,
+    next: u32,
+    fresh: u32,
+}
+
+impl Applied {
+    // A box comes under the next slot.
+    fn add(&mut self, body: &FBox) -> Result<(), NoMemory> {
+        if self.next < SLOTS {
+            put(&mut self.grid, self.next, *body)?;
+            self.fresh = self.fresh.max(self.next.saturating_add(1));
+            self.next = self.fresh;
+        }
+        Ok(())
+    }
+
+    // A slot has another box.
+    fn shift(&mut self, slot: u32, body: &FBox) -> Result<(), NoMemory> {
+        if slot < SLOTS {
+            put(&mut self.grid, slot, *body)?;
+        }
+        Ok(())
+    }
+
+    // A slot has no box any more, and takes the next one.
+    fn leave(&mut self, slot: u32) {
+        if slot < SLOTS {
+            remove(&mut self.grid, slot);
+            self.next = slot;
+        }
+    }
+
+    // Does what a command says.
+    fn apply(&mut self, command: &Command) -> Result<(), NoMemory> {
+        match command {
+            Command::Add { body, masks: _ } => self.add(body),
+            Command::Move { handle, body } => self.shift(handle.slot, body),
+            Command::Remove { handle } => {
+                self.leave(handle.slot);
+                Ok(())
+            }
+            _ => Ok(()),
+        }
+    }
+
+    // The pairs at the end of a frame, and none at another command.
+    fn pairs_at<R: Threads + Sync>(
+        &mut self,
+        rt: &R,
+        alloc: Global,
+        workers: u32,
+        command: &Command,
+    ) -> Result<u64, NoMemory>
+        requires { (1 ≤ workers) × (workers ≤ 16) }
+    {
+        if *command != Command::Frame {
+            return Ok(0);
+        }
+        let mut found = Vec::new(alloc);
+        self.grid.pairs_with(rt, workers, &NoGate, &mut found)?;
+        Ok(found.len() as u64)
+    }
+}
+
+// The pairs of all frames of a scene.
+fn pairs_of<R: Threads + Sync>(
+    rt: &R,
+    alloc: Global,
+    workers: u32,
+    scene: &[u8],
+    applied: &mut Applied,
+) -> Result<u64, NoMemory>
+    requires { (1 ≤ workers) × (workers ≤ 16) }
+{
+    let mut pairs = 0u64;
+    for line in scene.split(|byte| *byte == b'\n') {
+        if let Ok(command) = read_command(Version::One, line) {
+            applied.apply(&command)?;
+            let found = applied.pairs_at(rt, alloc, workers, &command)?;
+            pairs = pairs.wrapping_add(found);
+        }
+    }
+    Ok(pairs)
+}
+
+// The comparisons of a grid over a made scene of 2,000 boxes are fewer than a tenth of those of all pairs, and no fewer
+// than the pairs found.
+fn compares_few<R: Threads + Sync + Abort>(
+    rt: &R,
+    alloc: Global,
+    workers: u32,
+    scene: &[u8],
+) -> Result<(), Fail>
+    requires { (1 ≤ workers) × (workers ≤ 16) }
+{
+    let mut applied = Applied {
+        grid: HierGrid::new(alloc)?,
+        next: 0,
+        fresh: 0,
+    };
+    let pairs = pairs_of(rt, alloc, workers, scene, &mut applied)?;
+    let looked = applied.grid.looked();
+    assert!(rt; 0 < pairs && pairs <= looked && looked < 9_995_000);
+    Ok(())
+}
+
+#[test]
+fn the_grid_compares_few_boxes_of_a_drill(rt: HostRuntime) -> Result<(), Fail> {
+    let alloc = rt.alloc();
+    let mut scene = Vec::new(alloc);
+    drill_scene(alloc, 7, 2_000, 50, &mut scene)?;
+    compares_few(&rt, alloc, 1, &scene)?;
+    compares_few(&rt, alloc, 2, &scene)
+}

@@ -1,0 +1,5 @@
+pub mod Corners
+pub mod InRange
+pub mod PartsPut
+pub mod Stages
+pub mod Words

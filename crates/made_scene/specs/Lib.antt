@@ -1,0 +1,2 @@
+pub mod MadeScene
+pub mod Ranges

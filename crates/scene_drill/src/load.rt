@@ -1,0 +1,10 @@
+/// The load of a drill: a made scene of so many boxes and frames.
+#[derive(Clone, Copy, Debug, PartialEq, Eq)]
+pub struct Load {
+    /// Where the generator of the scene's numbers begins.
+    pub seed: u64,
+    /// How many boxes there are, from 1 to 8,192.
+    pub boxes: u32,
+    /// How many frames are played, from 1 to 100.
+    pub frames: u32,
+}

@@ -1,0 +1,160 @@
+ghost use Rattle.std.specs.Prelude.{◌≡◌, ◌+◌, ◌≤◌, ◌<◌, ◌^◌, [], true, length, take, Ok, IfSome};
+ghost use Rattle.std.specs.Char.{is_digit};
+ghost use Rattle.std.specs.List.{prefix_len, list_all};
+ghost use Rattle.std.specs.Str.Parse.{digits_value};
+ghost use Rattle.scene_words.specs.Fronts.{Leads, in_word};
+ghost use Rattle.scene_words.specs.SceneWords.{words, number_at, point_at, handle_at, mask_at, mask_or};
+
+use crate::line_words::{after_blanks, next_word};
+use crate::values::number_of_word;
+use fixed_box::{Fix, Point, digits_ahead, fix_ahead};
+use live_table::Handle;
+
+// The most digits of a mask.
+const MASK_DIGITS: usize = 8;
+
+// The largest slot and generation.
+const LARGEST: u64 = 4_294_967_295;
+
+// Three numbers, and the line from the next word on.
+#[inline(always)]
+#[tactic(auto, unfolding(crate::specs::SceneWords::point_at))]
+pub(crate) fn point_ahead(line: &[u8]) -> Option<(Point, &[u8])>
+    ensures { IfSome result (λ found. Leads point_at 3 line.now found.0 found.1.now) }
+{
+    let (x, line) = number_ahead(line)?;
+    let (y, line) = number_ahead(line)?;
+    let (z, line) = number_ahead(line)?;
+    Some((Point { x, y, z }, line))
+}
+
+// A number, and the line from the next word on.
+#[inline(always)]
+fn number_ahead(line: &[u8]) -> Option<(Fix, &[u8])>
+    ensures { IfSome result (λ found. Leads number_at 1 line.now found.0 found.1.now) }
+{
+    if let Some((number, rest)) = short_number(line) {
+        return Some((number, rest));
+    }
+    any_number(line)
+}
+
+// A number of at most nine digits on either side of its point.
+#[inline(always)]
+fn short_number(line: &[u8]) -> Option<(Fix, &[u8])>
+    ensures { IfSome result (λ found. Leads number_at 1 line.now found.0 found.1.now) }
+{
+    let (number, len) = fix_ahead(line)?;
+    let rest = past_word(line.split_at(len).1)?;
+    Some((number, rest))
+}
+
+// A number of any form. It is rare, so that its code stays out of the way.
+#[inline(never)]
+fn any_number(line: &[u8]) -> Option<(Fix, &[u8])>
+    ensures { IfSome result (λ found. Leads number_at 1 line.now found.0 found.1.now) }
+{
+    let (word, rest) = next_word(line)?;
+    match number_of_word(word) {
+        Ok(number) => Some((number, after_blanks(rest))),
+        Err(_) => None,
+    }
+}
+
+// A handle, and the line from the next word on.
+#[inline(always)]
+pub(crate) fn handle_ahead(line: &[u8]) -> Option<(Handle, &[u8])>
+    ensures { IfSome result (λ found. Leads handle_at 1 line.now found.0 found.1.now) }
+{
+    let (slot, slot_len) = digits_ahead(line);
+    let [b':', digits @ ..] = line.split_at(slot_len).1 else {
+        return None;
+    };
+    let (generation, len) = digits_ahead(digits);
+    if slot_len == 0 || len == 0 || slot > LARGEST || generation > LARGEST {
+        return None;
+    }
+    let rest = past_word(digits.split_at(len).1)?;
+    let handle = Handle {
+        slot: slot as u32,
+        generation: generation as u32,
+    };
+    Some((handle, rest))
+}
+
+// A mask, and the line from the next word on.
+pub(crate) fn mask_ahead(line: &[u8]) -> Option<(u32, &[u8])>
+    ensures { IfSome result (λ found. Leads mask_at 1 line.now found.0 found.1.now) }
+{
+    let (mask, len) = hexadecimal_ahead(line);
+    if len == 0 {
+        return None;
+    }
+    let rest = past_word(line.split_at(len).1)?;
+    Some((mask, rest))
+}
+
+// A mask that may be left out.
+#[inline(always)]
+pub(crate) fn mask_or_ahead(default: u32, line: &[u8]) -> Option<(u32, &[u8])>
+    ensures value { IfSome result (λ found. mask_or default (words line.now) ≡ Ok (found.0, words found.1.now)) }
+    ensures count { IfSome result (λ found. length (words line.now) ≤ 1 + length (words found.1.now)) }
+{
+    if is_done(line) {
+        return Some((default, line));
+    }
+    mask_ahead(line)
+}
+
+// The hexadecimal digits at the front, at most eight: the number that they form, and how many they are.
+#[inline(always)]
+fn hexadecimal_ahead(line: &[u8]) -> (u32, usize)
+    ensures value { result.0 ≡ digits_value 16 (take result.1 line.now) }
+    ensures digits { list_all (λ b. is_digit b 16) (take result.1 line.now) ≡ true }
+    ensures within { result.1 ≤ length line.now }
+    ensures few { result.1 ≤ 8 }
+{
+    let most = line.len().min(MASK_DIGITS);
+    let mut value = 0;
+    let mut len = 0;
+    'digits: while len < most
+        && let Some(digit) = char::from(line[len]).to_digit(16)
+    {
+        value = value * 16 + digit;
+        len += 1;
+    }
+    (value, len)
+}
+
+// Whether no word is left on a line that doesn't begin with a blank.
+#[inline(always)]
+pub(crate) fn is_done(line: &[u8]) -> bool
+    ensures { result ≡ true → words line.now ≡ [] }
+{
+    matches!(line, [] | [b'#', ..])
+}
+
+// The line from the next word on, where a word ends at its front. Mostly one space is passed.
+#[inline(always)]
+pub(crate) fn past_word(line: &[u8]) -> Option<&[u8]>
+    ensures words { IfSome result (λ rest. words rest.now ≡ words line.now) }
+    ensures end { IfSome result (λ _. prefix_len in_word line.now ≡ 0) }
+{
+    match line {
+        [] | [b'#', ..] => Some(line),
+        [b' ', rest @ ..] => Some(past_blanks(rest)),
+        [b'\t', rest @ ..] => Some(past_blanks(rest)),
+        _ => None,
+    }
+}
+
+// The line behind the blanks at its front, of which there are mostly none.
+#[inline(always)]
+fn past_blanks(line: &[u8]) -> &[u8]
+    ensures { words result.now ≡ words line.now }
+{
+    match line {
+        [b' ' | b'\t', ..] => after_blanks(line),
+        _ => line,
+    }
+}
