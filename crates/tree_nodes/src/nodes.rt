@@ -187,6 +187,16 @@ impl Nodes {
         ensures children { ChildrenShown self.now result }
         ensures tree { IsTreeIn self.now }
     {
-        self.slab[node]
+        *self.node(node)
+    }
+
+    /// The same in its place, for a search that looks at many nodes: it reads of each no more than it needs.
+    pub fn node(&self, node: usize) -> &NodeView
+        requires { IsSome (view_in self.now node) }
+        ensures value { view_in self.now node ≡ Some result.now }
+        ensures children { ChildrenShown self.now result.now }
+        ensures tree { IsTreeIn self.now }
+    {
+        &self.slab[node]
     }
 }
