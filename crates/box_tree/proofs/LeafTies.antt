@@ -285,6 +285,21 @@ module _ (o : Option Tree) (fats : List (Option Bounds)) (numbers : List ℕ) (t
                 (cases_eq k slot);
           }
 
+-- the same leaves in a tree of another form
+pub tied_rebuilt : (o : Option Tree) (fats : List (Option Bounds)) (numbers : List ℕ) → Ties o fats numbers → (p : Option Tree) → IsTreeIn p
+    → IsPermutation (leaves_in o) (leaves_in p) → Ties p fats numbers
+tied_rebuilt o fats numbers ties p tree perm =
+    let before : (x : Leaf) → Contains (leaves_in p) x → Contains (leaves_in o) x =
+    λ x c. Contains-permutation (leaves_in p) (leaves_in o) x (IsPermutation-sym (leaves_in o) (leaves_in p) perm) c
+    in
+    record {
+      is_tree = tree;
+      counted = let a = length_permutation (leaves_in o) (leaves_in p) perm in let c = ties.counted in omega (arith, a, c);
+      fat_is = λ x c. ties.fat_is x (before x c);
+      number_is = λ x c. ties.number_is x (before x c);
+      whole = λ k f e. Contains-permutation (leaves_in o) (leaves_in p) (record { node = get_or numbers k 0; slot = k; fat = f }) perm (ties.whole k f e);
+    }
+
 -- a slot that has a value
 pub some_there : (o : Option Bounds) → is_some o ≡ true → (f : Bounds) × (o ≡ Some f)
 some_there None e = cc

@@ -52,7 +52,7 @@ fn walk(
     let mut count = 0u32;
     'walk: while let Some(at) = stack.pop() {
         count += 1;
-        look(&nodes.view(at), bodies, query, &mut stack, out)?;
+        look(nodes.node(at), bodies, query, &mut stack, out)?;
     }
     Ok(count)
 }

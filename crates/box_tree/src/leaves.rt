@@ -1,12 +1,72 @@
-ghost use Rattle.std.specs.Prelude.{◌≡◌, ◌<◌, ◌≤◌, true, None, Some, length, is_some, slice_index_or, slice_set};
+ghost use Rattle.std.specs.Prelude.{◌≡◌, ℕ, ◌<◌, ◌≤◌, true, Option, None, Some, List, length, is_some, slice_index_or, slice_set};
+ghost use Rattle.fixed_box.specs.Bounds.{Bounds};
 ghost use Rattle.fixed_box.specs.declared.TheConstants.{SLOTS};
 ghost use Rattle.box_tree.specs.Ties.{Ties};
 
 use fixed_box::{FBox, SLOTS};
 use tree_nodes::{Nodes, tree_laws};
 
+// The fewest changes of a tree between two rebuilds.
+const FEWEST_CHANGES: usize = 16;
+
 // Gives a slot that has none a leaf.
 pub(crate) fn add_leaf(
+    nodes: &mut Nodes,
+    fats: &mut Vec<Option<FBox>>,
+    numbers: &mut Vec<usize>,
+    until_rebuild: &mut usize,
+    slot: u32,
+    fat: FBox,
+)
+    requires fats_len { length fats.old.items ≡ SLOTS }
+    requires numbers_len { length numbers.old.items ≡ SLOTS }
+    requires ties { Ties nodes.old fats.old.items numbers.old.items }
+    requires small { slot < SLOTS }
+    requires absent { slice_index_or fats.old.items slot None ≡ None }
+    ensures ties { Ties nodes.new fats.new.items numbers.new.items }
+    ensures fats { fats.new.items ≡ slice_set fats.old.items slot (Some fat) }
+    ensures numbers_len { length numbers.new.items ≡ length numbers.old.items }
+{
+    put_leaf(nodes, fats, numbers, slot, fat);
+    count_change(nodes, until_rebuild);
+}
+
+// Gives the leaf of a slot another box.
+pub(crate) fn relink(
+    nodes: &mut Nodes,
+    fats: &mut Vec<Option<FBox>>,
+    numbers: &mut Vec<usize>,
+    until_rebuild: &mut usize,
+    slot: u32,
+    fat: FBox,
+)
+    requires fats_len { length fats.old.items ≡ SLOTS }
+    requires numbers_len { length numbers.old.items ≡ SLOTS }
+    requires ties { Ties nodes.old fats.old.items numbers.old.items }
+    requires small { slot < SLOTS }
+    requires present { is_some (slice_index_or fats.old.items slot None) ≡ true }
+    ensures ties { Ties nodes.new fats.new.items numbers.new.items }
+    ensures fats { fats.new.items ≡ slice_set fats.old.items slot (Some fat) }
+    ensures numbers_len { length numbers.new.items ≡ length numbers.old.items }
+{
+    renew_leaf(nodes, fats, numbers, slot, fat);
+    count_change(nodes, until_rebuild);
+}
+
+// Counts a change of the tree, and rebuilds it after as many as it has leaves: the more it is changed, the more nodes a
+// search looks at.
+fn count_change(nodes: &mut Nodes, until_rebuild: &mut usize)
+    ensures { (fats : List (Option Bounds)) (numbers : List ℕ) → Ties nodes.old fats numbers → Ties nodes.new fats numbers }
+{
+    if 0 < *until_rebuild {
+        *until_rebuild -= 1;
+    } else {
+        *until_rebuild = nodes.rebuild().max(FEWEST_CHANGES);
+    }
+}
+
+// Puts a leaf where it fits best.
+fn put_leaf(
     nodes: &mut Nodes,
     fats: &mut Vec<Option<FBox>>,
     numbers: &mut Vec<usize>,
@@ -67,8 +127,8 @@ fn move_leaf(
     fats[slot as usize] = Some(fat);
 }
 
-// Gives the leaf of a slot another box: in its place where the box stays near, and else where it fits best.
-pub(crate) fn relink(
+// Moves a leaf in its place where its box stays near, and else puts it where it fits best.
+fn renew_leaf(
     nodes: &mut Nodes,
     fats: &mut Vec<Option<FBox>>,
     numbers: &mut Vec<usize>,
@@ -88,7 +148,7 @@ pub(crate) fn relink(
         move_leaf(nodes, fats, numbers, slot, fat);
     } else {
         drop_leaf(nodes, fats, numbers, slot);
-        add_leaf(nodes, fats, numbers, slot, fat);
+        put_leaf(nodes, fats, numbers, slot, fat);
     }
 }
 

@@ -29,6 +29,9 @@ use tree_nodes::{MOST_HEIGHT, Nodes};
 /// tree. Each slot that comes, moves or goes is touched, and `pairs` seeks for touched slots alone, by one descent each:
 /// the pairs of the others are kept from the last call. So a frame costs the moved boxes and the pairs.
 ///
+/// A leaf whose fat box changes moves in its place, or is put where it fits best. After as many such changes as there are
+/// leaves the tree is rebuilt, so that a search looks at few nodes however long the boxes move.
+///
 /// Only `new`, `pairs`, `pairs_with` and `hits` take memory. The structure is never spent.
 #[derive(Drop)]
 pub struct BoxTree {
@@ -42,6 +45,8 @@ pub struct BoxTree {
     // The pairs that were found last. Those with a touched slot may be wrong by now.
     kept: Vec<Pair>,
     looked: u64,
+    // How many more changes of the tree there are before it is rebuilt.
+    until_rebuild: usize,
     room: Room,
 }
 
@@ -79,6 +84,7 @@ impl BoxTree {
             marks: vec![in alloc; false; SLOTS as usize]?,
             kept: Vec::new(alloc),
             looked: 0,
+            until_rebuild: 0,
             room: Room::new(alloc),
         })
     }
@@ -104,6 +110,7 @@ impl BoxTree {
             &mut self.nodes,
             &mut self.fats,
             &mut self.numbers,
+            &mut self.until_rebuild,
             slot,
             body.fatten(MARGIN),
         );
@@ -191,6 +198,7 @@ impl BroadPhase for BoxTree {
             &mut self.nodes,
             &mut self.fats,
             &mut self.numbers,
+            &mut self.until_rebuild,
             slot,
             body.fatten(MARGIN),
         );

@@ -1,9 +1,12 @@
 mod Adjusted
 mod Balance
 mod BoxEquality
+mod BuiltTrees
 mod Detaching
 mod Exchanges
 mod Frames
+mod Gathering
+mod Halving
 mod Heights
 mod Inserting
 mod InsertingBelow

@@ -52,6 +52,13 @@ still_there o p x k s b tree e h =
     let y : LeafOf = record { node = k; slot = s; fat = b } in
     viewed_in p y tree (Contains-permutation (x ∷ leaves_in o) (leaves_in p) y e (Contains-append_right (x ∷ []) (leaves_in o) y (listed_in o k s b h)))
 
+-- the leaves where none came or went
+pub all_there : (o p : Option Tree) (k s : ℕ) (b : Bounds) → IsTreeIn p → IsPermutation (leaves_in o) (leaves_in p) → view_in o k ≡ Some (Leaf s b)
+    → view_in p k ≡ Some (Leaf s b)
+all_there o p k s b tree e h =
+    let y : LeafOf = record { node = k; slot = s; fat = b } in
+    viewed_in p y tree (Contains-permutation (leaves_in o) (leaves_in p) y e (listed_in o k s b h))
+
 -- the leaves besides one that went
 pub left_there : (o p : Option Tree) (x : LeafOf) (k s : ℕ) (b : Bounds) → IsTreeIn p → IsPermutation (x ∷ leaves_in p) (leaves_in o)
     → view_in o k ≡ Some (Leaf s b) → k ≢ x.node → view_in p k ≡ Some (Leaf s b)

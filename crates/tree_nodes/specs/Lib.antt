@@ -3,6 +3,7 @@ pub mod Filled
 pub mod Insertion
 pub mod Moved
 pub mod Path
+pub mod Rebuilt
 pub mod Rotation
 pub mod Stored
 pub mod Tree

@@ -1,16 +1,20 @@
 //! A balanced binary tree of boxes whose nodes have numbers that stay: a bounding volume hierarchy (Ericson, Real-Time
-//! Collision Detection, 2005, chapter 6) that is built by insertion and kept balanced by rotations.
+//! Collision Detection, 2005, chapter 6) that is built by insertion, kept balanced by rotations, and rebuilt from the top
+//! down where asked.
 #![tactic(auto)]
 
 mod adjusting;
 mod growth;
 mod insertion;
 mod laws;
+mod leaf_key;
+mod median;
 mod moving;
 mod node_slab;
 mod node_view;
 mod nodes;
 mod path;
+mod rebuilding;
 mod refitting;
 mod removal;
 mod rotation;

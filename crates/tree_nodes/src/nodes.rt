@@ -1,4 +1,4 @@
-ghost use Rattle.std.specs.Prelude.{◌≡◌, ◌≢◌, ◌↔◌, ℕ, ◌<◌, ◌≤◌, IfOk, IfSome, IsSome, option_map, map, length, [], ◌∷◌};
+ghost use Rattle.std.specs.Prelude.{◌≡◌, ◌≢◌, ◌↔◌, ℕ, ◌<◌, ◌≤◌, ◌^◌, IfOk, IfSome, IsSome, option_map, map, length, [], ◌∷◌};
 ghost use Rattle.std.specs.List.{All};
 ghost use Rattle.std.specs.List.Sorted.{IsPermutation};
 ghost use Rattle.fixed_box.specs.Bounds.{Bounds};
@@ -7,8 +7,10 @@ ghost use Rattle.tree_nodes.specs.Moved.{moved, leaf_moved};
 ghost use Rattle.tree_nodes.specs.declared.node_view.NodeView.TheVariants.{Leaf as LeafNode};
 
 use crate::insertion::insert_leaf;
+use crate::leaf_key::LeafKey;
 use crate::moving::move_in_place;
 use crate::node_slab::height_at;
+use crate::rebuilding::rebuild_tree;
 use crate::removal::remove_leaf;
 use crate::{MOST_HEIGHT, MOST_NODES, NodeView};
 use fixed_box::{FBox, NoMemory, SLOTS};
@@ -19,13 +21,14 @@ use std::marker::Model;
 /// A balanced binary tree of boxes, each under a slot, at most 8,192.
 ///
 /// Clauses see the tree itself, or `None` where there is no leaf. Each node has a number. A leaf keeps its number until
-/// it goes, while an inner node may come and go, and stand elsewhere, with each call that adds or drops a leaf. Only
-/// `new` takes memory.
+/// it goes, while an inner node may come and go, and stand elsewhere, with each call that adds or drops a leaf, and with
+/// a rebuild. Only `new` takes memory.
 ///
 /// Insertion goes down to the child whose hull grows least by the sum of its sides. On the way up each node is
 /// rebalanced by a rotation where the heights of its children differ by two, and a child changes places with a
 /// grandchild where that shrinks a hull and keeps the height. Removal goes up in the same way. So a call that adds,
-/// drops or moves a leaf writes to a few nodes per level.
+/// drops or moves a leaf writes to a few nodes per level. The more such calls, the more hulls overlap: a rebuild now and
+/// then, from the top down, keeps searches short.
 #[derive(Drop)]
 pub struct Nodes {
     // Each node is a key of the slab.
@@ -35,10 +38,14 @@ pub struct Nodes {
     // Where the parent of each node stands. A path that follows these is checked as it is walked down, and searched
     // afresh where they don't lead to the leaf, so no promise rests on them.
     parents: Vec<usize>,
+    // Room for a rebuild: the leaves, and the numbers of the inner nodes.
+    keys: Vec<LeafKey>,
+    inner: Vec<usize>,
 }
 
 impl Model for Nodes {
-    ghost use Rattle.std.specs.Prelude.{Option, ◌≤◌};
+    ghost use Rattle.std.specs.Prelude.{Option, ◌≤◌, vec_capacity};
+    ghost use Rattle.fixed_box.specs.declared.TheConstants.{SLOTS};
     ghost use Rattle.tree_nodes.specs.Tree.{Tree};
     ghost use Rattle.tree_nodes.specs.TreeCode.{coded_tree};
     ghost use Rattle.tree_nodes.specs.Stored.{tree_of, SoundIn};
@@ -50,7 +57,8 @@ impl Model for Nodes {
 
     ghost view = { λ s. tree_of s.slab s.root };
 
-    ghost invariant = { λ s. (MOST_NODES ≤ s.slab.capacity) × SoundIn s.slab s.root (tree_of s.slab s.root) };
+    ghost invariant = { λ s. ((MOST_NODES ≤ s.slab.capacity) × (SLOTS ≤ vec_capacity s.keys) × (SLOTS ≤ vec_capacity s.inner)) ×
+        SoundIn s.slab s.root (tree_of s.slab s.root) };
 }
 
 impl Nodes {
@@ -63,6 +71,8 @@ impl Nodes {
             root: None,
             alloc,
             parents: vec![in alloc; 0usize; MOST_NODES]?,
+            keys: Vec::with_capacity(alloc, SLOTS as usize)?,
+            inner: Vec::with_capacity(alloc, SLOTS as usize)?,
         })
     }
 
@@ -124,6 +134,30 @@ impl Nodes {
         );
     }
 
+    /// Links all inner nodes anew, so that a search looks at few nodes after many changes, and answers how many leaves
+    /// there are. Leaves keep their numbers, slots and boxes, and no tree of so many leaves is lower.
+    ///
+    /// From the top down the leaves are divided at their median, on the axis on which the centres of their boxes spread
+    /// most, and each half stands below a child (Ericson, 2005, 6.2.1). For n leaves that takes about n times the height.
+    pub fn rebuild(&mut self) -> usize
+        ensures leaves { IsPermutation (leaves_in self.old) (leaves_in self.new) }
+        ensures others { (other s : ℕ) (b : Bounds) → view_in self.old other ≡ Some (LeafNode s b) →
+            view_in self.new other ≡ Some (LeafNode s b) }
+        ensures least { (h : ℕ) → length (leaves_in self.new) ≤ 2 ^ h → height_in self.new ≤ h }
+        ensures count { result ≡ length (leaves_in self.new) }
+        ensures tree { IsTreeIn self.new }
+    {
+        let (root, count) = rebuild_tree(
+            &mut self.slab,
+            &mut self.parents,
+            self.root,
+            &mut self.keys,
+            &mut self.inner,
+        );
+        self.root = root;
+        count
+    }
+
     /// The number of the top node, and `None` where there is no leaf.
     pub fn root(&self) -> Option<usize>
         ensures value { result ≡ option_map top self.now }
@@ -153,6 +187,16 @@ impl Nodes {
         ensures children { ChildrenShown self.now result }
         ensures tree { IsTreeIn self.now }
     {
-        self.slab[node]
+        *self.node(node)
+    }
+
+    /// The same in its place, for a search that looks at many nodes: it reads of each no more than it needs.
+    pub fn node(&self, node: usize) -> &NodeView
+        requires { IsSome (view_in self.now node) }
+        ensures value { view_in self.now node ≡ Some result.now }
+        ensures children { ChildrenShown self.now result.now }
+        ensures tree { IsTreeIn self.now }
+    {
+        &self.slab[node]
     }
 }

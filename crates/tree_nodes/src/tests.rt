@@ -99,6 +99,17 @@ fn looked(nodes: &Nodes, node: usize, region: &FBox, levels: u8) -> u64
     }
 }
 
+// How many nodes 256 searches look at.
+fn looked_by_searches(nodes: &Nodes, state: &mut u32) -> Option<u64> {
+    let root = nodes.root()?;
+    let mut total = 0u64;
+    'search: for _ in 0..256 {
+        let region = scattered(state)?;
+        total = total.saturating_add(looked(nodes, root, &region, MOST_HEIGHT + 1));
+    }
+    Some(total)
+}
+
 // What several workers may read at once.
 fn is_shared<T: Send + Sync>(_: &T) {}
 
@@ -124,6 +135,7 @@ fn the_last_leaf_leaves_no_root(rt: HostRuntime) -> Result<(), Fail> {
     let only = add_next(&mut nodes, 0, here);
     nodes.drop_leaf(only);
     assert_eq!(rt; (nodes.root(), nodes.height()), (None, 0));
+    assert_eq!(rt; (nodes.rebuild(), nodes.root()), (0, None));
     Ok(())
 }
 
@@ -165,12 +177,37 @@ fn a_search_of_8192_boxes_looks_at_few_nodes(rt: HostRuntime) -> Result<(), Fail
     }
     assert!(rt; nodes.height() <= MOST_HEIGHT);
     assert_eq!(rt; root_bounds(&nodes), all);
-    let mut total = 0u64;
-    'search: for _ in 0..256 {
-        let region = scattered(&mut state).ok_or("a box")?;
-        let root = nodes.root().ok_or("a root")?;
-        total = total.saturating_add(looked(&nodes, root, &region, MOST_HEIGHT + 1));
-    }
+    let total = looked_by_searches(&nodes, &mut state).ok_or("a tree")?;
     assert!(rt; total < 256 * 160, "{total} nodes for 256 searches");
+    Ok(())
+}
+
+#[test]
+fn a_search_of_a_rebuilt_tree_looks_at_fewer_nodes(rt: HostRuntime) -> Result<(), Fail> {
+    let mut nodes = Nodes::new(rt.alloc())?;
+    let mut state = 42;
+    'fill: for slot in 0..SLOTS {
+        let fat = scattered(&mut state).ok_or("a box")?;
+        add_next(&mut nodes, slot, fat);
+    }
+    let before = root_bounds(&nodes);
+    assert_eq!(rt; nodes.rebuild(), SLOTS as usize);
+    assert_eq!(rt; (nodes.height(), root_bounds(&nodes)), (13, before));
+    let total = looked_by_searches(&nodes, &mut state).ok_or("a tree")?;
+    assert!(rt; total < 256 * 60, "{total} nodes for 256 searches");
+    Ok(())
+}
+
+#[test]
+fn a_rebuild_keeps_the_leaves(rt: HostRuntime) -> Result<(), Fail> {
+    let near = flat(0).ok_or("a flat box")?;
+    let far = flat(65_536).ok_or("a flat box")?;
+    let mut nodes = Nodes::new(rt.alloc())?;
+    let first = add_next(&mut nodes, 0, far);
+    let second = add_next(&mut nodes, 1, near);
+    assert_eq!(rt; (nodes.rebuild(), nodes.height()), (2, 1));
+    assert_eq!(rt; leaf_at(&nodes, first), Some((0, far)));
+    assert_eq!(rt; leaf_at(&nodes, second), Some((1, near)));
+    assert_eq!(rt; root_bounds(&nodes), Some(near.union(&far)));
     Ok(())
 }

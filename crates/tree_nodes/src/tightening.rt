@@ -24,7 +24,10 @@ pub(crate) fn tighten(slab: &mut Slab<NodeView>, parents: &mut [usize], at: usiz
     } = slab[at]
     {
         let (child, sibling) = ordered(left, right, reversed);
-        exchange(slab, parents, at, child, sibling);
+        // elsewhere no exchange would keep the height
+        if height_at(slab, child) < height_at(slab, sibling) {
+            exchange(slab, parents, at, child, sibling);
+        }
     }
 }
 

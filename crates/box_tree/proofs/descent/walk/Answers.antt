@@ -27,8 +27,8 @@ overflow_add-count c =
     c.args.out.now.items c.walk.out.items c.in-Some.at c.walk.count (off c) in
     omega arith
 
-pub view-requires : goal.view-requires
-view-requires c =
+pub node-requires : goal.node-requires
+node-requires c =
     subst IsSome
     (sym (popped_shown c.args.bodies.now c.args.query.now (c.descent_law.ensures c.args.query.now) c.args.nodes.now c.pop.new.self.items
     c.args.out.now.items c.walk.out.items c.in-Some.at c.walk.count (off c))) refl
@@ -49,7 +49,7 @@ look-requires-clause-inside c =
     let p = popped c.args.bodies.now c.args.query.now w c.args.nodes.now c.walk.stack.items c.pop.new.self.items
     c.args.out.now.items c.walk.out.items c.in-Some.at c.walk.count c.walk.invariant.stands c.in-Some.ensures.items in
     popped_inside c.args.bodies.now c.args.query.now w c.args.nodes.now c.pop.new.self.items
-    c.args.out.now.items c.walk.out.items c.in-Some.at c.walk.count c.view.result p c.view.ensures.value
+    c.args.out.now.items c.walk.out.items c.in-Some.at c.walk.count c.node.result.now p c.node.ensures.value
 
 pub walk-smaller : goal.walk-smaller
 walk-smaller c =
@@ -68,10 +68,10 @@ walk-preserved c =
     let w = c.descent_law.ensures q in
     let p = popped bs q w o c.walk.stack.items c.pop.new.self.items
     c.args.out.now.items c.walk.out.items c.in-Some.at c.walk.count c.walk.invariant.stands c.in-Some.ensures.items in
-    let s = looked_on bs q w o c.pop.new.self.items c.args.out.now.items c.walk.out.items c.in-Some.at c.walk.count c.view.result p c.view.ensures.value in
+    let s = looked_on bs q w o c.pop.new.self.items c.args.out.now.items c.walk.out.items c.in-Some.at c.walk.count c.node.result.now p c.node.ensures.value in
     record {
       stands = subst (λ xs. Stands o bs q xs c.args.out.now.items c.look.new.out.items (c.walk.count + 1)) (sym c.in_ok-look.ensures.next)
-          (subst (λ ys. Stands o bs q (c.pop.new.self.items ++ next_at q c.view.result) c.args.out.now.items ys (c.walk.count + 1))
+          (subst (λ ys. Stands o bs q (c.pop.new.self.items ++ next_at q c.node.result.now) c.args.out.now.items ys (c.walk.count + 1))
           (sym c.in_ok-look.ensures.ok) s);
       room = c.look.ensures.capacity ∙ (c.pop.ensures.capacity ∙ c.walk.invariant.room);
     }

@@ -1,18 +1,5 @@
--- The leaf that came is the slot's.
-use Rattle.box_tree.proofs.LeafTies.{few, none_has, tied_added}
+-- A rebuild after the leaf came keeps all leaves.
 use Rattle.box_tree.proofs.leaves.add_leaf.Goals as goal
 
-pub add_leaf-requires-clause-few : goal.add_leaf-requires-clause-few
-add_leaf-requires-clause-few c =
-    few c.args.nodes.now c.args.fats.now.items c.args.numbers.now.items c.requires.ties c.requires.fats_len c.requires.numbers_len c.args.slot
-    c.requires.small c.requires.absent c.args.fat
-
-pub add_leaf-requires-clause-absent : goal.add_leaf-requires-clause-absent
-add_leaf-requires-clause-absent c =
-    none_has c.args.nodes.now c.args.fats.now.items c.args.numbers.now.items c.requires.ties c.requires.fats_len c.requires.numbers_len c.args.slot
-    c.requires.small c.requires.absent
-
 pub returns-clause-ties : goal.returns-clause-ties
-returns-clause-ties c =
-    tied_added c.args.nodes.now c.args.fats.now.items c.args.numbers.now.items c.requires.ties c.requires.fats_len c.requires.numbers_len c.args.slot
-    c.requires.small c.requires.absent c.add_leaf.new.self c.add_leaf.result c.args.fat c.add_leaf.ensures.tree c.add_leaf.ensures.leaves
+returns-clause-ties c = c.count_change.ensures c.put_leaf.new.fats.items c.put_leaf.new.numbers.items c.put_leaf.ensures.ties

@@ -1,9 +1,5 @@
--- A leaf that goes and comes again has the box that it comes with.
-use Rattle.std.proofs.Common.{◌∙◌, ap, set, None, Some}
-use Rattle.std.proofs.lemmas.List.{set-set}
+-- A rebuild after the leaf changed keeps all leaves.
 use Rattle.box_tree.proofs.leaves.relink.Goals as goal
 
-pub returns-else-is_near-clause-fats : goal.returns-else-is_near-clause-fats
-returns-else-is_near-clause-fats c =
-    c.add_leaf.ensures.fats
-    ∙ (ap (λ xs. set xs c.args.slot (Some c.args.fat)) c.drop_leaf.ensures.fats ∙ set-set c.args.fats.now.items c.args.slot None (Some c.args.fat))
+pub returns-clause-ties : goal.returns-clause-ties
+returns-clause-ties c = c.count_change.ensures c.renew_leaf.new.fats.items c.renew_leaf.new.numbers.items c.renew_leaf.ensures.ties

@@ -7,7 +7,7 @@ use Rattle.tree_nodes.specs.Tree.{Tree, view_in}
 use Rattle.tree_nodes.proofs.Heights.{seen_tree}
 use Rattle.tree_nodes.proofs.NodesViews.{children_shown}
 use Rattle.tree_nodes.proofs.Views.{some_is, sound_viewed}
-use Rattle.tree_nodes.proofs.nodes.Nodes.view.Goals as goal
+use Rattle.tree_nodes.proofs.nodes.Nodes.node.Goals as goal
 
 found : (slab : Slab NodeView) (root : Option ℕ) (t u : Option Tree) (k : ℕ) → SoundIn slab root t → t ≡ u → IsSome (view_in u k)
     → (v : NodeView) × (get slab k ≡ Some v) × (view_in u k ≡ Some v)
