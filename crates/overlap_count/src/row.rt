@@ -107,8 +107,21 @@ impl Row {
         ensures err { OnErr result (self.new ≡ self.old) }
     {
         if self.tallies.len() < tallies {
-            self.tallies.resize(tallies, Tally::blank())?;
+            self.lengthen(tallies)?;
         }
+        Ok(())
+    }
+
+    // The row gets so many tallies. This stands apart, so that a count that has its place rises in few steps.
+    #[cold]
+    #[inline(never)]
+    fn lengthen(&mut self, tallies: usize) -> Result<(), NoMemory>
+        requires { length self.old ≤ 64 * tallies }
+        ensures ok { OnOk result ((k : ℕ) → slice_index self.new k ≡ slice_index self.old k) }
+        ensures len { OnOk result (64 * tallies ≤ length self.new) }
+        ensures err { OnErr result (self.new ≡ self.old) }
+    {
+        self.tallies.resize(tallies, Tally::blank())?;
         Ok(())
     }
 }

@@ -43,6 +43,7 @@ impl SlotSet {
     }
 
     // A slot that isn't in the set comes into it. Memory is taken at the first.
+    #[inline(never)]
     pub(crate) fn insert(&mut self, slot: u32) -> Result<(), NoMemory>
         requires small { slot < SLOTS }
         requires absent { slice_index self.old slot ≡ 0 }
@@ -57,6 +58,7 @@ impl SlotSet {
     }
 
     // A slot of the set goes out of it.
+    #[inline(never)]
     pub(crate) fn remove(&mut self, slot: u32)
         requires { slice_index self.old slot ≡ 1 }
         ensures { self.new ≡ slice_set self.old slot 0 }

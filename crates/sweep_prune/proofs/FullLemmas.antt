@@ -1,6 +1,6 @@
 -- The places of two slots are the axes on which their boxes overlap, and the pairs with three are those that meet.
 use Rattle.std.proofs.Common.{ℕ, Bool, true, false, List, refl, sym, ap, inl, inr, nat_lt, get_or, Option, Some, None, ℤ, int_le, slice_index}
-use Rattle.std.proofs.Common.{slice_index_or, is_some, ◌≡◌, ◌+◌, ◌-◌, ◌*◌, ◌&&◌, ◌==◌, ◌∙◌, if◌then◌else◌, []}
+use Rattle.std.proofs.Common.{slice_index_or, is_some, ◌≡◌, ◌+◌, ◌*◌, ◌&&◌, ◌==◌, ◌∙◌, if◌then◌else◌, []}
 use Rattle.std.proofs.lemmas.Bool.{cases_Bool, ltb-true}
 use Rattle.std.specs.FinMap.{FinMap, get}
 use Rattle.std.specs.Ordering.{nat_cmp}
