@@ -1,3 +1,5 @@
-mod CountLemmas
-mod FullLemmas
+mod DigitLemmas
+mod PairLemmas
+mod SetLemmas
+mod SpreadLemmas
 mod TableLemmas

@@ -1,49 +1,47 @@
--- The rows of a table when one of them changes, and when a slot is forgotten.
-use Rattle.std.proofs.Common.{◌≡◌, ◌≢◌, ℕ, ◌+◌, ◌-◌, ◌*◌, ◌<◌, ◌≤◌, Bool, true, false, cond, ◌&&◌, ◌||◌, List, [], length, get_or}
+-- The rows and sets of a table when a count changes, and when a slot is forgotten.
+use Rattle.std.proofs.Common.{◌≡◌, ◌≢◌, ℕ, ◌+◌, ◌-◌, ◌<◌, ◌≤◌, Bool, true, false, cond, ◌&&◌, ◌||◌, List, [], length, get_or}
 use Rattle.std.proofs.Common.{set, eqb, ltb, refl, sym, ap, ◌∙◌, subst, arith}
-use Rattle.std.proofs.Common.{length-set, get_or-set_same, get_or-set_other, inl, inr, eq-eqb, ne_eqb, lt-ltb, le-ltb}
+use Rattle.std.proofs.Common.{length-set, get_or-set_same, get_or-set_other, inl, inr, eq-eqb, ne_eqb, lt-ltb, le-ltb, eqb-true, ltb-true}
 use Rattle.std.specs.Prelude.{Result, Ok, Err, OnOk, OnErr}
-use Rattle.std.proofs.lemmas.Bool.{cases_eq, cases_lt, cases_order, or_left, or_right}
+use Rattle.std.proofs.lemmas.Bool.{cases_eq, cases_lt, cases_order, cases_Bool, or_left, or_right, and_left, and_right, and_parts}
 use Rattle.std.proofs.lemmas.List.{get_or_past, get_or_read, set-get_or}
 use Rattle.fixed_box.specs.declared.TheConstants.{SLOTS}
-use Rattle.overlap_count.specs.Counts.{first_slot, count_of, IsCounts}
-use Rattle.overlap_count.specs.Rows.{IsTable}
+use Rattle.overlap_count.specs.Counts.{count_of, IsCounts}
+use Rattle.overlap_count.specs.Rows.{IsTable, mark_of}
 
 -- ---- one count
 
-pub count_is : (rows : List (List ℕ)) (a b : ℕ) → a < b → count_of rows a b ≡ get_or (get_or rows a []) (b - first_slot a) 0
+pub count_is : (rows : List (List ℕ)) (a b : ℕ) → a < b → count_of rows a b ≡ get_or (get_or rows b []) a 0
 count_is rows a b lt = rw (lt-ltb a b lt) refl
 
 pub count_not : (rows : List (List ℕ)) (a b : ℕ) → b ≤ a → count_of rows a b ≡ 0
 count_not rows a b le = rw (le-ltb a b le) refl
 
-pub counts : (rows : List (List ℕ)) → IsTable rows → IsCounts rows
-counts rows t = record {
-  small = λ a b. elim (cases_lt a b) [
-    | inl lt ↦ rw (count_is rows a b lt) (t.small a (b - first_slot a))
-    | inr past ↦ rw (count_not rows a b past) (omega arith)
-  ];
+-- past the last row
+pub count_past : (rows : List (List ℕ)) (a b : ℕ) → length rows ≤ b → count_of rows a b ≡ 0
+count_past rows a b past = elim (cases_lt a b) [
+  | inl lt ↦ count_is rows a b lt ∙ ap (λ row. get_or row a 0) (get_or_past rows b [] past)
+  | inr le ↦ count_not rows a b le
+]
+
+pub counts : (rows sets : List (List ℕ)) → IsTable rows sets → IsCounts rows
+counts rows sets t = record {
+  small = t.small;
   known = λ a b some. elim (cases_lt a b) [
     | inl lt ↦ (
       lt,
       elim (cases_lt b SLOTS) [
         | inl small ↦ small
-        | inr large ↦ absurd (some (count_is rows a b lt ∙ none a b lt large))
+        | inr large ↦ absurd (some (count_past rows a b (omega (arith, t.all, large))))
       ],
     )
     | inr past ↦ absurd (some (count_not rows a b past))
   ];
 }
-  where
-    none : (a b : ℕ) → a < b → SLOTS ≤ b → get_or (get_or rows a []) (b - first_slot a) 0 ≡ 0
-    none a b lt large = elim (cases_lt a SLOTS) [
-      | inl small ↦ get_or_past (get_or rows a []) (b - first_slot a) 0 (omega (arith, t.short a small))
-      | inr past ↦ ap (λ row. get_or row (b - first_slot a) 0) (get_or_past rows a [] (omega (arith, t.all)))
-    ]
 
--- ---- one count of a row changes
+-- ---- one count of a row, or one bit of a set, changes
 
--- the row has another count at a pair's place
+-- the list has another number at a place
 abbrev pub Changed : List ℕ → List ℕ → ℕ → ℕ → Type 0
 Changed old new place v = (k : ℕ) → get_or new k 0 ≡ cond (eqb k place) v (get_or old k 0)
 
@@ -66,135 +64,211 @@ unset_changes row place = elim (cases_lt place (length row)) [
       ]
 ]
 
-within : (row : List ℕ) (place : ℕ) → get_or row place 0 ≢ 0 → place < length row
+pub within : (row : List ℕ) (place : ℕ) → get_or row place 0 ≢ 0 → place < length row
 within row place some = elim (cases_lt place (length row)) [ inl lt ↦ lt | inr past ↦ absurd (some (get_or_past row place 0 past)) ]
 
-pub lower_changes : (row : List ℕ) (place : ℕ) → get_or row place 0 ≢ 0 → Changed row (set row place (get_or row place 0 - 1)) place (get_or row place 0 - 1)
-lower_changes row place some = set_changes row place (get_or row place 0 - 1) (within row place some)
+and_true : (t : Bool) → (t && true) ≡ t
+and_true true = refl
+and_true false = refl
 
-pub counts_changed : (rows : List (List ℕ)) (a b v : ℕ) (row : List ℕ) → a < b → a < length rows → Changed (get_or rows a []) row (b - first_slot a) v
-    → (x y : ℕ) → count_of (set rows a row) x y ≡ cond (eqb x a && eqb y b) v (count_of rows x y)
-counts_changed rows a b v row lt in_rows h x y = elim (cases_eq x a) [
-  | inl same ↦ rw (same, eq-eqb a a refl) (here y)
-  | inr other ↦ rw (ne_eqb x a other) (ap (λ r. cond (ltb x y) (get_or r (y - first_slot x) 0) 0) (get_or-set_other rows a x row [] other))
+and_turn : (t u : Bool) → (t && u) ≡ (u && t)
+and_turn true true = refl
+and_turn true false = refl
+and_turn false true = refl
+and_turn false false = refl
+
+pub counts_changed : (rows : List (List ℕ)) (a b v : ℕ) (row : List ℕ) → a < b → b < length rows → Changed (get_or rows b []) row a v
+    → (x y : ℕ) → count_of (set rows b row) x y ≡ cond (eqb x a && eqb y b) v (count_of rows x y)
+counts_changed rows a b v row lt in_rows h x y = elim (cases_eq y b) [
+  | inl same ↦ rw same (here x)
+  | inr other ↦ ap (λ r. cond (ltb x y) (get_or r x 0) 0) (get_or-set_other rows b y row [] other)
+      ∙ sym (ap (λ t. cond t v (count_of rows x y)) (and_right (eqb x a) (eqb y b) (ne_eqb y b other)))
 ]
   where
-    here : (y : ℕ) → count_of (set rows a row) a y ≡ cond (eqb y b) v (count_of rows a y)
-    here y = elim (cases_lt a y) [
-      | inl later ↦
-          count_is (set rows a row) a y later ∙ ap (λ r. get_or r (y - first_slot a) 0) (get_or-set_same rows a row [] in_rows) ∙ h (y - first_slot a)
-          ∙ ap (λ n. cond (eqb (y - first_slot a) (b - first_slot a)) v n) (sym (count_is rows a y later))
-          ∙ ap (λ t. cond t v (count_of rows a y)) (place_is y later)
-      | inr earlier ↦ count_not (set rows a row) a y earlier
-          ∙ sym (ap (λ t. cond t v (count_of rows a y)) (ne_eqb y b (λ e. absurd (omega arith))) ∙ count_not rows a y earlier)
+    here : (x : ℕ) → count_of (set rows b row) x b ≡ cond (eqb x a && eqb b b) v (count_of rows x b)
+    here x = elim (cases_lt x b) [
+      | inl lower ↦
+          count_is (set rows b row) x b lower ∙ ap (λ r. get_or r x 0) (get_or-set_same rows b row [] in_rows) ∙ h x
+          ∙ ap (λ n. cond (eqb x a) v n) (sym (count_is rows x b lower))
+          ∙ ap (λ t. cond t v (count_of rows x b)) (sym (ap (λ t. eqb x a && t) (eq-eqb b b refl) ∙ and_true (eqb x a)))
+      | inr higher ↦ count_not (set rows b row) x b higher
+          ∙ sym (ap (λ t. cond t v (count_of rows x b)) (and_left (eqb x a) (eqb b b) (ne_eqb x a (λ e. absurd (omega arith)))) ∙ count_not rows x b higher)
     ]
-      where
-        place_is : (y : ℕ) → a < y → eqb (y - first_slot a) (b - first_slot a) ≡ eqb y b
-        place_is y later = elim (cases_eq y b) [
-          | inl e ↦ rw e (eq-eqb (b - first_slot a) (b - first_slot a) refl ∙ sym (eq-eqb b b refl))
-          | inr n ↦ ne_eqb (y - first_slot a) (b - first_slot a) (λ e. n (omega (arith, e))) ∙ sym (ne_eqb y b n)
-        ]
 
-pub table_changed : (rows : List (List ℕ)) (a b v : ℕ) (row : List ℕ) → IsTable rows → a < b → a < SLOTS → v ≤ 3 → first_slot a + length row ≤ SLOTS
-    → Changed (get_or rows a []) row (b - first_slot a) v → IsTable (set rows a row)
-table_changed rows a b v row t lt small few long h = record {
-  all = length-set rows a row ∙ t.all;
-  short = λ x slot. elim (cases_eq x a) [
-    | inl same ↦ rw (same, here) long
-    | inr other ↦ rw (get_or-set_other rows a x row [] other) (t.short x slot)
-  ];
-  later = λ x k le. elim (cases_eq x a) [
-    | inl same ↦
-        let early : first_slot a + k ≤ a = subst (λ n. first_slot n + k ≤ n) same le in
-        rw (same, here) (h k ∙ ap (λ t. cond t v (get_or (get_or rows a []) k 0)) (ne_eqb k (b - first_slot a) (λ e. absurd (omega arith))) ∙ t.later a k early)
-    | inr other ↦ rw (get_or-set_other rows a x row [] other) (t.later x k le)
-  ];
-  small = λ x k. elim (cases_eq x a) [
-    | inl same ↦ rw (same, here, h k) (either (eqb k (b - first_slot a)) (get_or (get_or rows a []) k 0) (t.small a k))
-    | inr other ↦ rw (get_or-set_other rows a x row [] other) (t.small x k)
-  ];
+pub marks_changed : (sets : List (List ℕ)) (a b m : ℕ) (bits : List ℕ) → a < length sets → Changed (get_or sets a []) bits b m
+    → (x y : ℕ) → mark_of (set sets a bits) x y ≡ cond (eqb x a && eqb y b) m (mark_of sets x y)
+marks_changed sets a b m bits in_sets h x y = elim (cases_eq x a) [
+  | inl same ↦ rw (same, eq-eqb a a refl) (ap (λ l. get_or l y 0) (get_or-set_same sets a bits [] in_sets) ∙ h y)
+  | inr other ↦ rw (ne_eqb x a other) (ap (λ l. get_or l y 0) (get_or-set_other sets a x bits [] other))
+]
+
+-- a bit that is as it should be stays
+marks_kept : (sets : List (List ℕ)) (a b m : ℕ) → mark_of sets a b ≡ m → (x y : ℕ) → mark_of sets x y ≡ cond (eqb x a && eqb y b) m (mark_of sets x y)
+marks_kept sets a b m is x y = elim (cases_Bool (eqb x a && eqb y b)) [
+  | inl t ↦
+      let parts = and_parts (eqb x a) (eqb y b) t in
+      ap (λ i. mark_of sets i y) (eqb-true x a parts.0) ∙ ap (mark_of sets a) (eqb-true y b parts.1) ∙ is
+      ∙ sym (ap (λ u. cond u m (mark_of sets x y)) t)
+  | inr f ↦ sym (ap (λ u. cond u m (mark_of sets x y)) f)
+]
+
+-- the bit of a pair with such a count
+abbrev pub mark : ℕ → ℕ
+mark n = cond (eqb n 3) 1 0
+
+pub no_mark : (n : ℕ) → n ≢ 3 → mark n ≡ 0
+no_mark n other = ap (λ t. cond {A = ℕ} t 1 0) (ne_eqb n 3 other)
+
+-- what holds of a table that counts as `now` does, but at one pair
+pub record IsChanged (rows sets now : List (List ℕ)) (a b v : ℕ) : Type 0 where
+  pub table : IsTable rows sets
+  pub counts : (x y : ℕ) → count_of rows x y ≡ cond (eqb x a && eqb y b) v (count_of now x y)
+
+chosen : (t : Bool) (v n m : ℕ) → m ≡ mark n → cond t (mark v) m ≡ mark (cond t v n)
+chosen true v n m e = refl
+chosen false v n m e = e
+
+small_either : (t : Bool) (v n : ℕ) → v ≤ 3 → n ≤ 3 → cond t v n ≤ 3
+small_either true v n few le = few
+small_either false v n few le = le
+
+changed : (rows sets now rows' sets' : List (List ℕ)) (a b v : ℕ) → IsTable rows sets → rows ≡ now → v ≤ 3 → length rows' ≡ length rows
+    → length sets' ≡ length sets → ((x y : ℕ) → count_of rows' x y ≡ cond (eqb x a && eqb y b) v (count_of rows x y))
+    → ((x y : ℕ) → mark_of sets' x y ≡ cond (eqb x a && eqb y b) (mark v) (mark_of sets x y)) → IsChanged rows' sets' now a b v
+changed rows sets now rows' sets' a b v t same few long wide h m = record {
+  table = record {
+    all = long ∙ t.all;
+    all_sets = wide ∙ t.all_sets;
+    small = λ x y. subst (λ n. n ≤ 3) (sym (h x y)) (small_either (eqb x a && eqb y b) v (count_of rows x y) few (t.small x y));
+    marked = λ x y. m x y ∙ chosen (eqb x a && eqb y b) v (count_of rows x y) (mark_of sets x y) (t.marked x y) ∙ ap mark (sym (h x y));
+  };
+  counts = λ x y. h x y ∙ ap (λ l. cond (eqb x a && eqb y b) v (count_of l x y)) same;
 }
-  where
-    here : get_or (set rows a row) a [] ≡ row
-    here = get_or-set_same rows a row [] (omega (arith, t.all))
 
-    either : (t : Bool) (n : ℕ) → n ≤ 3 → cond t v n ≤ 3
-    either true n le = few
-    either false n le = le
+-- the row and the set change
+both_change : (rows sets now : List (List ℕ)) (a b v : ℕ) (row bits : List ℕ) → IsTable rows sets → rows ≡ now → a < b → b < SLOTS → v ≤ 3
+    → Changed (get_or rows b []) row a v → Changed (get_or sets a []) bits b (mark v) → IsChanged (set rows b row) (set sets a bits) now a b v
+both_change rows sets now a b v row bits t same lt small few h m =
+    changed rows sets now (set rows b row) (set sets a bits) a b v t same few (length-set rows b row) (length-set sets a bits)
+    (counts_changed rows a b v row lt (omega (arith, t.all)) h) (marks_changed sets a b (mark v) bits (omega (arith, t.all_sets)) m)
 
--- what holds of a table whose row of slot a is another, if it counted as `now` does
-pub record IsChanged (rows now : List (List ℕ)) (a b v : ℕ) (row : List ℕ) : Type 0 where
-  pub table : IsTable (set rows a row)
-  pub counts : (x y : ℕ) → count_of (set rows a row) x y ≡ cond (eqb x a && eqb y b) v (count_of now x y)
+-- the row changes, and the set has the bit that it should
+row_changes : (rows sets now : List (List ℕ)) (a b v : ℕ) (row : List ℕ) → IsTable rows sets → rows ≡ now → a < b → b < SLOTS → v ≤ 3
+    → Changed (get_or rows b []) row a v → mark_of sets a b ≡ mark v → IsChanged (set rows b row) sets now a b v
+row_changes rows sets now a b v row t same lt small few h m =
+    changed rows sets now (set rows b row) sets a b v t same few (length-set rows b row) refl
+    (counts_changed rows a b v row lt (omega (arith, t.all)) h) (marks_kept sets a b (mark v) m)
 
-changed : (rows now : List (List ℕ)) (a b v : ℕ) (row : List ℕ) → IsTable rows → rows ≡ now → a < b → b < SLOTS → v ≤ 3 → first_slot a + length row ≤ SLOTS
-    → Changed (get_or rows a []) row (b - first_slot a) v → IsChanged rows now a b v row
-changed rows now a b v row t same lt small few long h =
-    let slot : a < SLOTS = omega arith in
-    record {
-      table = table_changed rows a b v row t lt slot few long h;
-      counts = λ x y. counts_changed rows a b v row lt (omega (arith, t.all)) h x y ∙ ap (λ l. cond (eqb x a && eqb y b) v (count_of l x y)) same;
-    }
+-- ---- a row and a set that are read
 
-pub lowered : (rows now : List (List ℕ)) (a b place : ℕ) (was row : List ℕ) → IsTable rows → rows ≡ now → a < b → b < SLOTS → count_of now a b ≢ 0
-    → was ≡ get_or rows a was → place ≡ b - first_slot a → row ≡ set was place (get_or was place 0 - 1) → IsChanged rows now a b (count_of now a b - 1) row
-lowered rows now a b place was row t same lt small some read at is =
-    let slot : a < SLOTS = omega arith in
-    let old : was ≡ get_or rows a [] = get_or_read rows a was (omega (arith, t.all)) read [] in
-    let count : count_of now a b ≡ get_or was place 0 =
-    ap (λ l. count_of l a b) (sym same) ∙ count_is rows a b lt ∙ ap (λ l. get_or l (b - first_slot a) 0) (sym old) ∙ ap (λ k. get_or was k 0) (sym at) in
-    let h : Changed was (set was place (get_or was place 0 - 1)) place (get_or was place 0 - 1) = lower_changes was place (λ zero. some (count ∙ zero)) in
-    let h' : Changed (get_or rows a []) row (b - first_slot a) (count_of now a b - 1) = rw (is, count, ← at, ← old) h in
-    let few : get_or was place 0 ≤ 3 = subst (λ l. get_or l place 0 ≤ 3) (sym old) (t.small a place) in
-    changed rows now a b (count_of now a b - 1) row t same lt small (omega (arith, count, few))
-    (omega (arith, t.short a slot, ap length is, ap length old, length-set was place (get_or was place 0 - 1))) h'
+pub row_read : (rows sets : List (List ℕ)) (b : ℕ) (was : List ℕ) → IsTable rows sets → b < SLOTS → was ≡ get_or rows b was → was ≡ get_or rows b []
+row_read rows sets b was t small read = get_or_read rows b was (omega (arith, t.all)) read []
 
-pub raised : (rows now : List (List ℕ)) (a b place tallies : ℕ) (was row : List ℕ) → IsTable rows → rows ≡ now → a < b → b < SLOTS → count_of now a b < 3
-    → was ≡ get_or rows a was → place ≡ b - first_slot a → first_slot a + 64 * tallies ≡ SLOTS → (length was ≤ 64 * tallies → length row ≤ 64 * tallies)
-    → Changed was row place (get_or was place 0 + 1) → IsChanged rows now a b (count_of now a b + 1) row
-raised rows now a b place tallies was row t same lt small room read at whole short h =
-    let slot : a < SLOTS = omega arith in
-    let old : was ≡ get_or rows a [] = get_or_read rows a was (omega (arith, t.all)) read [] in
-    let count : count_of now a b ≡ get_or was place 0 =
-    ap (λ l. count_of l a b) (sym same) ∙ count_is rows a b lt ∙ ap (λ l. get_or l (b - first_slot a) 0) (sym old) ∙ ap (λ k. get_or was k 0) (sym at) in
-    let h' : Changed (get_or rows a []) row (b - first_slot a) (count_of now a b + 1) = rw (count, ← at, ← old) h in
-    let long : length row ≤ 64 * tallies = short (omega (arith, t.short a slot, ap length old, whole)) in
-    changed rows now a b (count_of now a b + 1) row t same lt small (omega (arith, room)) (omega (arith, long, whole)) h'
+pub set_read : (rows sets : List (List ℕ)) (a : ℕ) (was : List ℕ) → IsTable rows sets → a < SLOTS → was ≡ get_or sets a was → was ≡ get_or sets a []
+set_read rows sets a was t small read = get_or_read sets a was (omega (arith, t.all_sets)) read []
+
+pub read_count : (rows sets now : List (List ℕ)) (a b : ℕ) (was : List ℕ) → IsTable rows sets → rows ≡ now → a < b → b < SLOTS → was ≡ get_or rows b was
+    → count_of now a b ≡ get_or was a 0
+read_count rows sets now a b was t same lt small read =
+    ap (λ l. count_of l a b) (sym same) ∙ count_is rows a b lt ∙ ap (λ l. get_or l a 0) (sym (row_read rows sets b was t small read))
+
+pub read_mark : (rows sets now : List (List ℕ)) (a b n : ℕ) (was : List ℕ) → IsTable rows sets → rows ≡ now → a < SLOTS → was ≡ get_or sets a was
+    → count_of now a b ≡ n → get_or was b 0 ≡ mark n
+read_mark rows sets now a b n was t same small read count =
+    ap (λ l. get_or l b 0) (set_read rows sets a was t small read) ∙ t.marked a b ∙ ap mark (ap (λ l. count_of l a b) same ∙ count)
+
+-- ---- a count rises
+
+-- it comes to 3
+pub raised_full : (rows sets now : List (List ℕ)) (a b : ℕ) (first was row has bits : List ℕ) → IsTable rows sets → rows ≡ now → a < b → b < SLOTS
+    → first ≡ get_or rows b first → get_or first a 0 ≡ 2 → was ≡ get_or rows b was → row ≡ set was a (get_or was a 0 + 1) → has ≡ get_or sets a has
+    → Changed has bits b 1 → IsChanged (set rows b row) (set sets a bits) now a b (count_of now a b + 1)
+raised_full rows sets now a b first was row has bits t same lt small read_first first_is read is reads m =
+    let slot : a < SLOTS = omega (arith, lt, small) in
+    let two : count_of now a b ≡ 2 = read_count rows sets now a b first t same lt small read_first ∙ first_is in
+    let was_two : get_or was a 0 ≡ 2 = sym (read_count rows sets now a b was t same lt small read) ∙ two in
+    let inside : a < length was = within was a (λ none. absurd (omega (arith, none, was_two))) in
+    let h : Changed (get_or rows b []) row a 3 =
+    subst (λ l. Changed l row a 3) (row_read rows sets b was t small read)
+    (subst (λ l. Changed was l a 3) (sym (is ∙ ap (λ n. set was a (n + 1)) was_two)) (set_changes was a 3 inside)) in
+    let m' : Changed (get_or sets a []) bits b (mark 3) = subst (λ l. Changed l bits b 1) (set_read rows sets a has t slot reads) m in
+    subst (IsChanged (set rows b row) (set sets a bits) now a b) (sym (ap (λ n. n + 1) two))
+    (both_change rows sets now a b 3 row bits t same lt small (omega arith) h m')
+
+-- it doesn't
+pub raised : (rows sets now : List (List ℕ)) (a b n : ℕ) (first was row : List ℕ) → IsTable rows sets → rows ≡ now → a < b → b < SLOTS
+    → count_of now a b < 3 → first ≡ get_or rows b first → n ≡ get_or first a 0 → n ≢ 2 → was ≡ get_or rows b was → Changed was row a (get_or was a 0 + 1)
+    → IsChanged (set rows b row) sets now a b (count_of now a b + 1)
+raised rows sets now a b n first was row t same lt small room read_first first_is other read h =
+    let slot : a < SLOTS = omega (arith, lt, small) in
+    let count : count_of now a b ≡ get_or was a 0 = read_count rows sets now a b was t same lt small read in
+    let not_two : count_of now a b ≢ 2 = λ two. other (first_is ∙ sym (read_count rows sets now a b first t same lt small read_first) ∙ two) in
+    let h' : Changed (get_or rows b []) row a (count_of now a b + 1) =
+    subst (λ l. Changed l row a (count_of now a b + 1)) (row_read rows sets b was t small read)
+    (subst (λ n. Changed was row a (n + 1)) (sym count) h) in
+    let m : mark_of sets a b ≡ mark (count_of now a b + 1) =
+    t.marked a b ∙ ap (λ l. mark (count_of l a b)) same ∙ no_mark (count_of now a b) (λ e. absurd (omega (arith, e, room)))
+    ∙ sym (no_mark (count_of now a b + 1) (λ e. not_two (omega (arith, e)))) in
+    row_changes rows sets now a b (count_of now a b + 1) row t same lt small (omega (arith, room)) h' m
 
 -- after either answer it is a table
-pub raised_table : {T E : Type 0} (r : Result T E) (rows now : List (List ℕ)) (a b place tallies : ℕ) (was row : List ℕ) → IsTable rows → rows ≡ now → a < b
-    → b < SLOTS → count_of now a b < 3
-    → was ≡ get_or rows a was → place ≡ b - first_slot a → first_slot a + 64 * tallies ≡ SLOTS → (length was ≤ 64 * tallies → length row ≤ 64 * tallies)
-    → OnOk r (Changed was row place (get_or was place 0 + 1)) → OnErr r (row ≡ was) → IsTable (set rows a row)
-raised_table (Ok x) rows now a b place tallies was row t same lt small room read at whole short h e =
-    (raised rows now a b place tallies was row t same lt small room read at whole short h).table
-raised_table (Err x) rows now a b place tallies was row t same lt small room read at whole short h e =
-    let old : was ≡ get_or rows a [] = get_or_read rows a was (omega (arith, t.all)) read [] in
-    subst IsTable (sym (ap (set rows a) (e ∙ old) ∙ set-get_or rows a [])) t
+pub raised_table : {T E : Type 0} (r : Result T E) (rows sets now : List (List ℕ)) (a b n : ℕ) (first was row : List ℕ) → IsTable rows sets → rows ≡ now
+    → a < b → b < SLOTS → count_of now a b < 3 → first ≡ get_or rows b first → n ≡ get_or first a 0 → n ≢ 2 → was ≡ get_or rows b was
+    → OnOk r (Changed was row a (get_or was a 0 + 1)) → OnErr r (row ≡ was) → IsTable (set rows b row) sets
+raised_table (Ok x) rows sets now a b n first was row t same lt small room read_first first_is other read h e =
+    (raised rows sets now a b n first was row t same lt small room read_first first_is other read h).table
+raised_table (Err x) rows sets now a b n first was row t same lt small room read_first first_is other read h e =
+    subst (λ l. IsTable l sets) (sym (ap (set rows b) (e ∙ row_read rows sets b was t small read) ∙ set-get_or rows b [])) t
+
+-- a set that stays is no change
+pub same_sets : (rows sets : List (List ℕ)) (a : ℕ) (was bits : List ℕ) → IsTable rows sets → a < SLOTS → was ≡ get_or sets a was → bits ≡ was
+    → IsTable rows (set sets a bits)
+same_sets rows sets a was bits t small read is =
+    subst (IsTable rows) (sym (ap (set sets a) (is ∙ set_read rows sets a was t small read) ∙ set-get_or sets a [])) t
+
+-- ---- a count falls
+
+-- the row after it
+lower_changes : (row : List ℕ) (place n : ℕ) → get_or row place 0 ≡ n → n ≢ 0 → Changed row (set row place (get_or row place 0 - 1)) place (n - 1)
+lower_changes row place n is some =
+    subst (λ m. Changed row (set row place (m - 1)) place (n - 1)) (sym is) (set_changes row place (n - 1) (within row place (λ none. some (sym is ∙ none))))
+
+row_lowered : (rows sets now : List (List ℕ)) (a b : ℕ) (was row : List ℕ) → IsTable rows sets → rows ≡ now → a < b → b < SLOTS → count_of now a b ≢ 0
+    → was ≡ get_or rows b was → row ≡ set was a (get_or was a 0 - 1) → Changed (get_or rows b []) row a (count_of now a b - 1)
+row_lowered rows sets now a b was row t same lt small some read is =
+    subst (λ l. Changed l row a (count_of now a b - 1)) (row_read rows sets b was t small read)
+    (subst (λ l. Changed was l a (count_of now a b - 1)) (sym is)
+    (lower_changes was a (count_of now a b) (sym (read_count rows sets now a b was t same lt small read)) some))
+
+-- it was 3
+pub lowered_full : (rows sets now : List (List ℕ)) (a b : ℕ) (first was row has bits : List ℕ) → IsTable rows sets → rows ≡ now → a < b → b < SLOTS
+    → count_of now a b ≢ 0 → first ≡ get_or rows b first → get_or first a 0 ≡ 3 → was ≡ get_or rows b was → row ≡ set was a (get_or was a 0 - 1)
+    → has ≡ get_or sets a has → bits ≡ set has b 0 → IsChanged (set rows b row) (set sets a bits) now a b (count_of now a b - 1)
+lowered_full rows sets now a b first was row has bits t same lt small some read_first three read is reads off =
+    let slot : a < SLOTS = omega (arith, lt, small) in
+    let count : count_of now a b ≡ 3 = read_count rows sets now a b first t same lt small read_first ∙ three in
+    let less : count_of now a b - 1 ≢ 3 = λ e. absurd (omega (arith, e, count)) in
+    let m : Changed (get_or sets a []) bits b (mark (count_of now a b - 1)) =
+    subst (λ l. Changed l bits b (mark (count_of now a b - 1))) (set_read rows sets a has t slot reads)
+    (subst (λ l. Changed has l b (mark (count_of now a b - 1))) (sym off)
+    (subst (λ v. Changed has (set has b 0) b v) (sym (no_mark (count_of now a b - 1) less)) (unset_changes has b))) in
+    both_change rows sets now a b (count_of now a b - 1) row bits t same lt small (omega (arith, count))
+    (row_lowered rows sets now a b was row t same lt small some read is) m
+
+-- it wasn't
+pub lowered : (rows sets now : List (List ℕ)) (a b n : ℕ) (first was row : List ℕ) → IsTable rows sets → rows ≡ now → a < b → b < SLOTS
+    → count_of now a b ≢ 0 → first ≡ get_or rows b first → n ≡ get_or first a 0 → n ≢ 3 → was ≡ get_or rows b was → row ≡ set was a (get_or was a 0 - 1)
+    → IsChanged (set rows b row) sets now a b (count_of now a b - 1)
+lowered rows sets now a b n first was row t same lt small some read_first first_is other read is =
+    let not_three : count_of now a b ≢ 3 = λ three. other (first_is ∙ sym (read_count rows sets now a b first t same lt small read_first) ∙ three) in
+    let few : count_of now a b ≤ 3 = subst (λ l. count_of l a b ≤ 3) same (t.small a b) in
+    let m : mark_of sets a b ≡ mark (count_of now a b - 1) =
+    t.marked a b ∙ ap (λ l. mark (count_of l a b)) same ∙ no_mark (count_of now a b) not_three
+    ∙ sym (no_mark (count_of now a b - 1) (λ e. absurd (omega (arith, e, few)))) in
+    row_changes rows sets now a b (count_of now a b - 1) row t same lt small (omega (arith, few))
+    (row_lowered rows sets now a b was row t same lt small some read is) m
 
 -- ---- a slot is forgotten
-
--- the pairs that are forgotten once so many rows are done
-abbrev pub forgotten : ℕ → ℕ → ℕ → ℕ → Bool
-forgotten slot a x y = eqb x slot || (eqb y slot && ltb x a)
-
-forget_law : (xa ys xs lt : Bool) (n : ℕ) → cond (xa && ys) 0 (cond (xs || (ys && lt)) 0 n) ≡ cond (xs || (ys && (xa || lt))) 0 n
-forget_law true true true true n = refl
-forget_law true true true false n = refl
-forget_law true true false true n = refl
-forget_law true true false false n = refl
-forget_law true false true true n = refl
-forget_law true false true false n = refl
-forget_law true false false true n = refl
-forget_law true false false false n = refl
-forget_law false true true true n = refl
-forget_law false true true false n = refl
-forget_law false true false true n = refl
-forget_law false true false false n = refl
-forget_law false false true true n = refl
-forget_law false false true false n = refl
-forget_law false false false true n = refl
-forget_law false false false false n = refl
 
 lt_more : (x a : ℕ) → (eqb x a || ltb x a) ≡ ltb x (a + 1)
 lt_more x a = elim (cases_order x a) [
@@ -205,9 +279,140 @@ lt_more x a = elim (cases_order x a) [
   ]
 ]
 
--- one row more
-pub forgets_more : (slot a x y n m k : ℕ) → k ≡ cond (eqb x a && eqb y slot) 0 m → m ≡ cond (forgotten slot a x y) 0 n
-    → k ≡ cond (forgotten slot (a + 1) x y) 0 n
-forgets_more slot a x y n m k e f =
-    e ∙ ap (cond (eqb x a && eqb y slot) 0) f ∙ forget_law (eqb x a) (eqb y slot) (eqb x slot) (ltb x a) n
-    ∙ ap (λ b. cond (eqb x slot || (eqb y slot && b)) 0 n) (lt_more x a)
+more_law : (here fixed before : Bool) (n : ℕ) → cond (here && fixed) 0 (cond (fixed && before) 0 n) ≡ cond (fixed && (here || before)) 0 n
+more_law true true before n = refl
+more_law true false before n = refl
+more_law false true before n = refl
+more_law false false before n = refl
+
+-- one slot more of those with which a slot's pairs are forgotten
+pub forgets_more : (here fixed : Bool) (x a n m k : ℕ) → here ≡ eqb x a → k ≡ cond (here && fixed) 0 m → m ≡ cond (fixed && ltb x a) 0 n
+    → k ≡ cond (fixed && ltb x (a + 1)) 0 n
+forgets_more here fixed x a n m k is e f =
+    e ∙ ap (cond (here && fixed) 0) f ∙ more_law here fixed (ltb x a) n
+    ∙ ap (λ b. cond (fixed && b) 0 n) (ap (λ h. h || ltb x a) is ∙ lt_more x a)
+
+-- ---- the pairs with lower slots are forgotten
+
+-- of the slots so far, one more: its set loses the slot
+pub marks_lost : (rows sets : List (List ℕ)) (a slot : ℕ) (has bits : List ℕ) → a < length sets → has ≡ get_or sets a has → bits ≡ set has slot 0
+    → ((x y : ℕ) → mark_of sets x y ≡ cond (eqb y slot && ltb x a) 0 (mark (count_of rows x y)))
+    → (x y : ℕ) → mark_of (set sets a bits) x y ≡ cond (eqb y slot && ltb x (a + 1)) 0 (mark (count_of rows x y))
+marks_lost rows sets a slot has bits within read is m x y =
+    let h : Changed (get_or sets a []) bits slot 0 =
+    subst (λ l. Changed l bits slot 0) (get_or_read sets a has within read [])
+    (subst (λ l. Changed has l slot 0) (sym is) (unset_changes has slot)) in
+    forgets_more (eqb x a) (eqb y slot) x a (mark (count_of rows x y)) (mark_of sets x y) (mark_of (set sets a bits) x y) refl
+    (marks_changed sets a slot 0 bits within h x y) (m x y)
+
+-- or never had it
+pub marks_stay : (rows sets : List (List ℕ)) (a slot : ℕ) → count_of rows a slot ≢ 3
+    → ((x y : ℕ) → mark_of sets x y ≡ cond (eqb y slot && ltb x a) 0 (mark (count_of rows x y)))
+    → (x y : ℕ) → mark_of sets x y ≡ cond (eqb y slot && ltb x (a + 1)) 0 (mark (count_of rows x y))
+marks_stay rows sets a slot other m x y =
+    let none : mark_of sets a slot ≡ 0 =
+    m a slot ∙ ap (λ t. cond t 0 (mark (count_of rows a slot))) (and_right (eqb slot slot) (ltb a a) (le-ltb a a (omega arith)))
+    ∙ no_mark (count_of rows a slot) other in
+    forgets_more (eqb x a) (eqb y slot) x a (mark (count_of rows x y)) (mark_of sets x y) (mark_of sets x y) refl
+    (marks_kept sets a slot 0 none x y) (m x y)
+
+-- the slot is in the set of a lower one where their count is 3
+pub still_marked : (rows sets : List (List ℕ)) (a slot : ℕ) (has : List ℕ) → a < length sets → has ≡ get_or sets a has → count_of rows a slot ≡ 3
+    → ((x y : ℕ) → mark_of sets x y ≡ cond (eqb y slot && ltb x a) 0 (mark (count_of rows x y))) → get_or has slot 0 ≡ 1
+still_marked rows sets a slot has within read three m =
+    ap (λ l. get_or l slot 0) (get_or_read sets a has within read []) ∙ m a slot
+    ∙ ap (λ t. cond t 0 (mark (count_of rows a slot))) (and_right (eqb slot slot) (ltb a a) (le-ltb a a (omega arith))) ∙ ap mark three
+
+-- the slot's own row is empty
+pub row_cleared : (rows : List (List ℕ)) (slot : ℕ) (row : List ℕ) → slot < length rows → row ≡ []
+    → (x y : ℕ) → count_of (set rows slot row) x y ≡ cond (eqb y slot) 0 (count_of rows x y)
+row_cleared rows slot row within none x y = elim (cases_eq y slot) [
+  | inl same ↦ rw (same, eq-eqb slot slot refl) (here x)
+  | inr other ↦ rw (ne_eqb y slot other) (ap (λ r. cond (ltb x y) (get_or r x 0) 0) (get_or-set_other rows slot y row [] other))
+]
+  where
+    here : (x : ℕ) → count_of (set rows slot row) x slot ≡ 0
+    here x = elim (cases_lt x slot) [
+      | inl lt ↦ count_is (set rows slot row) x slot lt ∙ ap (λ r. get_or r x 0) (get_or-set_same rows slot row [] within ∙ none)
+      | inr past ↦ count_not (set rows slot row) x slot past
+    ]
+
+lower_law : (fixed before : Bool) (n : ℕ) → (fixed ≡ true → before ≡ false → n ≡ 0) → cond (fixed && before) 0 (mark n) ≡ mark (cond fixed 0 n)
+lower_law true true n h = refl
+lower_law true false n h = ap mark (h refl refl)
+lower_law false before n h = refl
+
+pub lower_table : (rows sets rows' : List (List ℕ)) (slot a : ℕ) → length rows' ≡ SLOTS → length sets ≡ SLOTS → slot ≤ a
+    → ((x y : ℕ) → count_of rows x y ≤ 3) → ((x y : ℕ) → count_of rows' x y ≡ cond (eqb y slot) 0 (count_of rows x y))
+    → ((x y : ℕ) → mark_of sets x y ≡ cond (eqb y slot && ltb x a) 0 (mark (count_of rows x y))) → IsTable rows' sets
+lower_table rows sets rows' slot a all all_sets le small h m = record {
+  all = all;
+  all_sets = all_sets;
+  small = λ x y. subst (λ n. n ≤ 3) (sym (h x y)) (small_either (eqb y slot) 0 (count_of rows x y) (omega arith) (small x y));
+  marked = λ x y.
+      m x y
+      ∙ lower_law (eqb y slot) (ltb x a) (count_of rows x y)
+      (λ here past. count_not rows x y (elim (cases_lt x y) [
+        | inl lt ↦ absurd (let e : ltb x a ≡ true = lt-ltb x a (omega (arith, lt, le, eqb-true y slot here)) in cc)
+        | inr ge ↦ ge
+      ]))
+      ∙ ap mark (sym (h x y));
+}
+
+-- ---- the pairs with higher slots are forgotten
+
+-- the slot's own set is empty
+pub set_cleared : (rows sets : List (List ℕ)) (slot : ℕ) (bits : List ℕ) → IsTable rows sets → slot < SLOTS → bits ≡ []
+    → (x y : ℕ) → mark_of (set sets slot bits) x y ≡ cond (eqb x slot) 0 (mark (count_of rows x y))
+set_cleared rows sets slot bits t small none x y = elim (cases_eq x slot) [
+  | inl same ↦ rw (same, eq-eqb slot slot refl) (ap (λ l. get_or l y 0) (get_or-set_same sets slot bits [] (omega (arith, t.all_sets)) ∙ none))
+  | inr other ↦ rw (ne_eqb x slot other) (ap (λ l. get_or l y 0) (get_or-set_other sets slot x bits [] other) ∙ t.marked x y)
+]
+
+-- no slot counts anything up to its own place
+pub none_yet : (rows : List (List ℕ)) (slot x y : ℕ) → count_of rows x y ≡ cond (eqb x slot && ltb y (slot + 1)) 0 (count_of rows x y)
+none_yet rows slot x y = elim (cases_Bool (eqb x slot && ltb y (slot + 1))) [
+  | inl t ↦
+      let parts = and_parts (eqb x slot) (ltb y (slot + 1)) t in
+      let same = eqb-true x slot parts.0 in
+      let low = ltb-true y (slot + 1) parts.1 in
+      count_not rows x y (omega (arith, same, low)) ∙ sym (ap (λ u. cond u 0 (count_of rows x y)) t)
+  | inr f ↦ sym (ap (λ u. cond u 0 (count_of rows x y)) f)
+]
+
+-- one row more has nothing at the slot's place
+pub counts_lost : (rows now : List (List ℕ)) (slot b : ℕ) (was row : List ℕ) → slot < b → b < length rows → was ≡ get_or rows b was → row ≡ set was slot 0
+    → ((x y : ℕ) → count_of rows x y ≡ cond (eqb x slot && ltb y b) 0 (count_of now x y))
+    → (x y : ℕ) → count_of (set rows b row) x y ≡ cond (eqb x slot && ltb y (b + 1)) 0 (count_of now x y)
+counts_lost rows now slot b was row lt within read is h x y =
+    let changes : Changed (get_or rows b []) row slot 0 =
+    subst (λ l. Changed l row slot 0) (get_or_read rows b was within read [])
+    (subst (λ l. Changed was l slot 0) (sym is) (unset_changes was slot)) in
+    forgets_more (eqb y b) (eqb x slot) y b (count_of now x y) (count_of rows x y) (count_of (set rows b row) x y) refl
+    (counts_changed rows slot b 0 row lt within changes x y ∙ ap (λ t. cond t 0 (count_of rows x y)) (and_turn (eqb x slot) (eqb y b)))
+    (h x y)
+
+-- and so all have
+pub all_lost : (rows now : List (List ℕ)) (slot b : ℕ) → length now ≡ SLOTS → SLOTS ≤ b
+    → ((x y : ℕ) → count_of rows x y ≡ cond (eqb x slot && ltb y b) 0 (count_of now x y))
+    → (x y : ℕ) → count_of rows x y ≡ cond (eqb x slot) 0 (count_of now x y)
+all_lost rows now slot b all le h x y = h x y ∙ elim (cases_lt y b) [
+  | inl lt ↦ ap (λ t. cond t 0 (count_of now x y)) (ap (λ t. eqb x slot && t) (lt-ltb y b lt) ∙ and_true (eqb x slot))
+  | inr past ↦ rw (count_past now x y (omega (arith, all, le, past))) (both_zero (eqb x slot && ltb y b) (eqb x slot))
+]
+  where
+    both_zero : (t u : Bool) → cond {A = ℕ} t 0 0 ≡ cond u 0 0
+    both_zero true true = refl
+    both_zero true false = refl
+    both_zero false true = refl
+    both_zero false false = refl
+
+pub higher_table : (rows sets now : List (List ℕ)) (slot : ℕ) → length rows ≡ SLOTS → length sets ≡ SLOTS → ((x y : ℕ) → count_of now x y ≤ 3)
+    → ((x y : ℕ) → count_of rows x y ≡ cond (eqb x slot) 0 (count_of now x y))
+    → ((x y : ℕ) → mark_of sets x y ≡ cond (eqb x slot) 0 (mark (count_of now x y))) → IsTable rows sets
+higher_table rows sets now slot all all_sets small h m = record {
+  all = all;
+  all_sets = all_sets;
+  small = λ x y. subst (λ n. n ≤ 3) (sym (h x y)) (small_either (eqb x slot) 0 (count_of now x y) (omega arith) (small x y));
+  marked = λ x y. m x y ∙ chosen (eqb x slot) 0 (count_of now x y) (mark (count_of now x y)) refl ∙ ap mark (sym (h x y));
+}

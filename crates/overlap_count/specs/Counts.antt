@@ -1,14 +1,10 @@
--- What a table of counts means: a row for each slot, with its counts with later slots.
-use Rattle.std.specs.Prelude.{◌≢◌, ℕ, ◌-◌, ◌*◌, ◌/◌, ◌<◌, ◌≤◌, nat_lt, if◌then◌else◌, List, [], slice_index, slice_index_or}
+-- What a table of counts means: a row for each slot, with its counts with lower slots.
+use Rattle.std.specs.Prelude.{◌≢◌, ℕ, ◌<◌, ◌≤◌, nat_lt, if◌then◌else◌, List, [], slice_index, slice_index_or}
 use Rattle.fixed_box.specs.declared.TheConstants.{SLOTS}
-
--- A row begins at the slot of its own that 64 divides, so that whole words are counted.
-abbrev pub first_slot : ℕ → ℕ
-first_slot a = a / 64 * 64
 
 -- the count of a pair of slots, and 0 where a isn't below b
 abbrev pub count_of : List (List ℕ) → ℕ → ℕ → ℕ
-count_of rows a b = if nat_lt a b then slice_index (slice_index_or rows a []) (b - first_slot a) else 0
+count_of rows a b = if nat_lt a b then slice_index (slice_index_or rows b []) a else 0
 
 -- what holds of every table
 pub record IsCounts (rows : List (List ℕ)) : Type 0 where

@@ -1,18 +1,19 @@
 -- The pairs that overlap on all three axes.
-use Rattle.std.specs.Prelude.{ℕ, zero, suc, ◌+◌, ◌==◌, if◌then◌else◌, List, [], ◌∷◌, ◌++◌, length, slice_index, slice_index_or}
+use Rattle.std.specs.Prelude.{ℕ, zero, suc, Bool, ◌==◌, if◌then◌else◌, List, [], ◌∷◌, ◌++◌}
+use Rattle.fixed_box.specs.declared.TheConstants.{SLOTS}
 use Rattle.broad_index.specs.declared.pair.Pair.{Pair}
-use Rattle.overlap_count.specs.Counts.{first_slot}
+use Rattle.overlap_count.specs.Counts.{count_of}
 
--- of slot a, with the slots of the first n counts of its row, which begins at slot b
-unfoldable pub full_in : ℕ → ℕ → List ℕ → ℕ → List Pair
-full_in a b row zero = []
-full_in a b row (suc n) = full_in a b row n ++ (if slice_index row n == 3 then record { a = a; b = b + n } ∷ [] else [])
+-- of slot a, with those of the first n slots that pass a test
+unfoldable pub pairs_with : ℕ → (ℕ → Bool) → ℕ → List Pair
+pairs_with a passes zero = []
+pairs_with a passes (suc n) = pairs_with a passes n ++ (if passes n then record { a = a; b = n } ∷ [] else [])
 
--- of the first n slots with all later ones
-unfoldable pub full_below : List (List ℕ) → ℕ → List Pair
-full_below rows zero = []
-full_below rows (suc n) = full_below rows n ++ full_in n (first_slot n) (slice_index_or rows n []) (length (slice_index_or rows n []))
+-- of the first n slots, with all slots that pass a test with them
+unfoldable pub pairs_below : (ℕ → ℕ → Bool) → ℕ → List Pair
+pairs_below passes zero = []
+pairs_below passes (suc n) = pairs_below passes n ++ pairs_with n (passes n) SLOTS
 
--- all pairs whose count is 3
+-- all pairs whose count is 3, by a and then by b
 abbrev pub full_pairs : List (List ℕ) → List Pair
-full_pairs rows = full_below rows (length rows)
+full_pairs rows = pairs_below (λ a b. count_of rows a b == 3) SLOTS

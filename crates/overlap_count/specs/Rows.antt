@@ -1,12 +1,16 @@
--- This file only serves proofs: how a row keeps its counts, and what the rows of a table keep.
+-- This file only serves proofs: how rows keep their counts and sets their slots, and what those of a table keep.
 use Rattle.std.specs.Prelude.{◌≡◌, ℕ, zero, suc, ◌+◌, ◌*◌, ◌/◌, ◌%◌, ◌<◌, ◌≤◌, Bool}
-use Rattle.std.specs.Prelude.{not, ◌==◌, if◌then◌else◌, List, [], ◌∷◌, ◌++◌, length, map, count_by, slice_index, slice_index_or}
+use Rattle.std.specs.Prelude.{◌==◌, if◌then◌else◌, List, [], ◌∷◌, ◌++◌, length, map, count_by, slice_index, slice_index_or}
 use Rattle.std.specs.List.{range_with_len}
 use Rattle.std.specs.Int.{bit_at}
 use Rattle.fixed_box.specs.declared.TheConstants.{SLOTS}
 use Rattle.broad_index.specs.declared.pair.Pair.{Pair}
 use Rattle.overlap_count.specs.declared.tally.Tally.{Tally}
-use Rattle.overlap_count.specs.Counts.{first_slot}
+use Rattle.overlap_count.specs.Counts.{count_of}
+
+-- the numbers that a list of blocks keeps, 64 a block, where `at` reads one of them
+unfoldable pub spread : {A : Type 0} → (A → ℕ → ℕ) → A → List A → List ℕ
+spread at blank blocks = map (λ k. at (slice_index_or blocks (k / 64) blank) (k % 64)) (range_with_len 0 (64 * length blocks))
 
 -- a tally's count at place k: its bits there are the count's two binary digits
 abbrev pub digit : Tally → ℕ → ℕ
@@ -16,29 +20,35 @@ digit t k = bit_at t.low k + 2 * bit_at t.high k
 abbrev pub blank : Tally
 blank = record { low = 0; high = 0 }
 
--- the counts of a row, 64 a tally
-unfoldable pub counts_of : List Tally → List ℕ
-counts_of tallies = map (λ k. digit (slice_index_or tallies (k / 64) blank) (k % 64)) (range_with_len 0 (64 * length tallies))
+-- the counts of a row
+abbrev pub counts_of : List Tally → List ℕ
+counts_of tallies = spread digit blank tallies
 
--- how many counts of a row aren't 0, and how many are 3
-abbrev pub is_held : ℕ → Bool
-is_held n = not (n == 0)
+-- the bits of a set
+abbrev pub bits_of : List ℕ → List ℕ
+bits_of words = spread bit_at 0 words
 
-abbrev pub is_full : ℕ → Bool
-is_full n = n == 3
+abbrev pub is_one : ℕ → Bool
+is_one n = n == 1
 
--- a row has few tallies, and its two numbers are those of its counts
-pub record IsRow (tallies : List Tally) (held full : ℕ) : Type 0 where
-  pub few : length tallies ≤ 128
-  pub held_is : held ≡ count_by is_held (counts_of tallies)
-  pub full_is : full ≡ count_by is_full (counts_of tallies)
+-- a set has few words, and its number is that of its slots
+pub record IsSet (words : List ℕ) (number : ℕ) : Type 0 where
+  pub few : length words ≤ 128
+  pub number_is : number ≡ count_by is_one (bits_of words)
 
--- each row ends with the last slot at the latest, and counts nothing up to its own slot
-pub record IsTable (rows : List (List ℕ)) : Type 0 where
+-- the bit of slot b in the set of slot a
+abbrev pub mark_of : List (List ℕ) → ℕ → ℕ → ℕ
+mark_of sets a b = slice_index (slice_index_or sets a []) b
+
+abbrev pub is_marked : List (List ℕ) → ℕ → ℕ → Bool
+is_marked sets a b = mark_of sets a b == 1
+
+-- there are rows and sets for all slots, and the sets have the pairs that count 3
+pub record IsTable (rows sets : List (List ℕ)) : Type 0 where
   pub all : length rows ≡ SLOTS
-  pub short : (a : ℕ) → a < SLOTS → first_slot a + length (slice_index_or rows a []) ≤ SLOTS
-  pub later : (a k : ℕ) → first_slot a + k ≤ a → slice_index (slice_index_or rows a []) k ≡ 0
-  pub small : (a k : ℕ) → slice_index (slice_index_or rows a []) k ≤ 3
+  pub all_sets : length sets ≡ SLOTS
+  pub small : (a b : ℕ) → count_of rows a b ≤ 3
+  pub marked : (a b : ℕ) → mark_of sets a b ≡ (if count_of rows a b == 3 then 1 else 0)
 
 -- the pairs of slot a with those places of a word, of the first n, whose bit is set
 unfoldable pub pairs_of_bits : ℕ → ℕ → ℕ → ℕ → List Pair

@@ -1,12 +1,14 @@
 ghost use Rattle.std.specs.Prelude.{◌≡◌, ◌≢◌, ◌+◌, ◌-◌, ◌*◌, ◌<◌, ◌≤◌, ◌==◌, ◌&&◌, ◌||◌};
 ghost use Rattle.std.specs.Prelude.{◌++◌, true, ℕ, if◌then◌else◌, IfOk, OnOk, OnErr, length, take, vec_len};
 ghost use Rattle.broad_index.specs.declared.pair.Pair.{Pair};
-ghost use Rattle.overlap_count.specs.Counts.{count_of, first_slot, IsCounts};
+ghost use Rattle.overlap_count.specs.Counts.{count_of, IsCounts};
 ghost use Rattle.broad_index.specs.Members.{has_pair};
 ghost use Rattle.broad_index.specs.Near.{rises};
-ghost use Rattle.overlap_count.specs.FullPairs.{full_pairs};
+ghost use Rattle.overlap_count.specs.FullPairs.{full_pairs, pairs_below};
+ghost use Rattle.overlap_count.specs.Rows.{is_marked};
 
 use crate::row::{PLACES, Row};
+use crate::slot_set::SlotSet;
 use broad_index::Pair;
 use fixed_box::{NoMemory, SLOTS};
 use std::alloc::Global;
@@ -15,11 +17,14 @@ use std::marker::Model;
 /// For each pair of slots the number of axes on which their boxes overlap, 0 to 3, as sweep and prune keeps it while
 /// endpoints change places (Cohen, Lin, Manocha, Ponamgi, *I-COLLIDE*, 1995).
 ///
-/// A pair takes two bits, in rows that are made as they are needed: 8.4 MB where all slots have pairs. A pair has its
-/// lower slot first.
+/// A pair has its lower slot first. Its count takes two bits in the row of its higher slot, so that a slot that passes
+/// lower ones stays within one row of 2 KB. The pairs that count 3 stand once more in sets by the lower slot, which
+/// change only where a count comes to 3 or leaves it. Rows and sets are made as they are needed: 8.5 MB of counts and
+/// 8.4 MB of sets where all slots have pairs.
 #[derive(Drop)]
 pub struct Counts {
     rows: Vec<Row>,
+    full: Vec<SlotSet>,
 }
 
 impl Model for Counts {
@@ -30,7 +35,7 @@ impl Model for Counts {
 
     ghost view = { λ c. c.rows.items };
 
-    ghost invariant = { λ c. IsTable c.rows.items };
+    ghost invariant = { λ c. IsTable c.rows.items c.full.items };
 }
 
 impl Counts {
@@ -39,10 +44,12 @@ impl Counts {
         ensures { IfOk result (λ counts. (a b : ℕ) → count_of counts a b ≡ 0) }
     {
         let mut rows = Vec::with_capacity(alloc, SLOTS as usize)?;
+        let mut full = Vec::with_capacity(alloc, SLOTS as usize)?;
         'rows: for _slot in 0..SLOTS {
             rows.push(Row::new(alloc))?;
+            full.push(SlotSet::new(alloc))?;
         }
-        Ok(Counts { rows })
+        Ok(Counts { rows, full })
     }
 
     /// The pair's count, in constant time.
@@ -52,10 +59,11 @@ impl Counts {
         ensures count { result ≡ count_of self.now pair.a pair.b }
         ensures counts { IsCounts self.now }
     {
-        self.rows[pair.a as usize].count(place_of(pair))
+        self.rows[pair.b as usize].count(pair.a)
     }
 
-    /// The pair's count rises by one, in constant time but where the row of its lower slot is made.
+    /// The pair's count rises by one, in constant time but where the row of its higher slot, or at 3 the set of its
+    /// lower slot, is made.
     pub fn raise(&mut self, pair: Pair) -> Result<(), NoMemory>
         requires order { pair.a < pair.b }
         requires small { pair.b < SLOTS }
@@ -65,7 +73,12 @@ impl Counts {
         ensures counts { IsCounts self.new }
         ensures err { OnErr result (self.new ≡ self.old) }
     {
-        self.rows[pair.a as usize].raise(place_of(pair), tallies_of(pair.a))
+        if self.rows[pair.b as usize].count(pair.a) == 2 {
+            self.full[pair.a as usize].insert(pair.b)?;
+            self.rows[pair.b as usize].raise_within(pair.a);
+            return Ok(());
+        }
+        self.rows[pair.b as usize].raise(pair.a, tallies_of(pair.b))
     }
 
     /// The pair's count falls by one, in constant time.
@@ -77,24 +90,26 @@ impl Counts {
             ≡ (if a == pair.a && b == pair.b then count_of self.old pair.a pair.b - 1 else count_of self.old a b) }
         ensures counts { IsCounts self.new }
     {
-        self.rows[pair.a as usize].lower(place_of(pair));
+        let count = self.rows[pair.b as usize].count(pair.a);
+        self.rows[pair.b as usize].lower(pair.a);
+        if count == 3 {
+            self.full[pair.a as usize].remove(pair.b);
+        }
     }
 
-    /// Each pair with a slot counts 0. The rows of lower slots are looked at, and those with no count passed over.
+    /// Each pair with a slot counts 0. The slot's own row and those of higher slots are looked at.
     pub fn forget(&mut self, slot: u32)
         requires { slot < SLOTS }
         ensures forgotten { (a b : ℕ) → count_of self.new a b ≡ (if a == slot || b == slot then 0 else count_of self.old a b) }
         ensures counts { IsCounts self.new }
     {
-        self.rows[slot as usize].clear();
-        'rows: for a in 0..slot {
-            self.rows[a as usize].unset(place_of(Pair { a, b: slot }));
-        }
+        self.forget_lower(slot);
+        self.forget_higher(slot);
     }
 
     /// Appends the pairs whose count is 3, by `a` and then by `b`. After `NoMemory` `out` is as before.
     ///
-    /// Rows without such a pair are passed over, and the others are read by words of 64 pairs.
+    /// Slots without such a pair are passed over, and the sets of the others are read by words of 64 slots.
     pub fn threes(&self, out: &mut Vec<Pair>) -> Result<(), NoMemory>
         ensures ok { OnOk result (out.new.items ≡ out.old.items ++ full_pairs self.now) }
         ensures members { (p : Pair) → has_pair (full_pairs self.now) p ≡ (count_of self.now p.a p.b == 3) }
@@ -103,39 +118,55 @@ impl Counts {
         ensures counts { IsCounts self.now }
     {
         let before = out.len();
-        let pushed = push_rows(&self.rows, out);
+        let pushed = push_sets(&self.full, out);
         if pushed.is_err() {
             out.truncate(before);
         }
         pushed
     }
+
+    // Each pair with a lower slot counts 0: those of the slot's own row.
+    fn forget_lower(&mut self, slot: u32)
+        requires { slot < SLOTS }
+        ensures { (a b : ℕ) → count_of self.new a b ≡ (if b == slot then 0 else count_of self.old a b) }
+    {
+        'sets: for a in 0..slot {
+            if self.rows[slot as usize].count(a) == 3 {
+                self.full[a as usize].remove(slot);
+            }
+        }
+        self.rows[slot as usize].clear();
+    }
+
+    // Each pair with a higher slot counts 0: those of the slot's place in later rows.
+    fn forget_higher(&mut self, slot: u32)
+        requires { slot < SLOTS }
+        ensures forgotten { (a b : ℕ) → count_of self.new a b ≡ (if a == slot then 0 else count_of self.old a b) }
+        ensures counts { IsCounts self.new }
+    {
+        self.full[slot as usize].clear();
+        'rows: for b in slot + 1..SLOTS {
+            self.rows[b as usize].unset(slot);
+        }
+    }
 }
 
 // Appends the pairs of each slot in turn. What was there stays, after an `Err` too.
-fn push_rows(rows: &[Row], out: &mut Vec<Pair>) -> Result<(), NoMemory>
-    requires { length rows.now ≡ SLOTS }
-    ensures ok { OnOk result (out.new.items ≡ out.old.items ++ full_pairs rows.now) }
+fn push_sets(sets: &[SlotSet], out: &mut Vec<Pair>) -> Result<(), NoMemory>
+    requires { length sets.now ≡ SLOTS }
+    ensures ok { OnOk result (out.new.items ≡ out.old.items ++ pairs_below (is_marked sets.now) SLOTS) }
     ensures kept { take (vec_len out.old) out.new.items ≡ out.old.items }
 {
-    'rows: for a in 0..SLOTS {
-        rows[a as usize].push_full(a, out)?;
+    'sets: for a in 0..SLOTS {
+        sets[a as usize].push_pairs(a, out)?;
     }
     Ok(())
 }
 
-// The place of a pair in the row of its lower slot.
-fn place_of(pair: Pair) -> u32
-    requires { pair.a < pair.b }
-    ensures { result ≡ pair.b - first_slot pair.a }
-{
-    pair.b - pair.a / PLACES * PLACES
-}
-
-// How many tallies a slot's row has: those from its own word on.
+// How many tallies have a place for each slot that is lower than this one.
 fn tallies_of(slot: u32) -> u32
     requires { slot < SLOTS }
-    ensures few { result ≤ 128 }
-    ensures reach { first_slot slot + 64 * result ≡ SLOTS }
+    ensures reach { slot < 64 * result }
 {
-    (SLOTS - slot / PLACES * PLACES) / PLACES
+    slot / PLACES + 1
 }

@@ -1,29 +1,22 @@
-ghost use Rattle.std.specs.Prelude.{◌≡◌, ◌≢◌, ◌+◌, ◌*◌, ◌<◌, ◌≤◌, ◌++◌, ◌^◌, ℕ, OnOk, length, take, vec_len};
+ghost use Rattle.std.specs.Prelude.{◌≡◌, ◌≢◌, ◌+◌, ◌*◌, ◌<◌, ◌≤◌, ◌++◌, ◌==◌, ◌^◌, ℕ, OnOk, length, slice_index, take, vec_len};
 ghost use Rattle.std.specs.Int.{bit_at};
-ghost use Rattle.overlap_count.specs.FullPairs.{full_in};
-ghost use Rattle.overlap_count.specs.Rows.{counts_of, pairs_of_bits};
+ghost use Rattle.overlap_count.specs.FullPairs.{pairs_with};
+ghost use Rattle.overlap_count.specs.Rows.{bits_of, pairs_of_bits};
 
-use crate::tally::Tally;
 use broad_index::Pair;
-use fixed_box::{NoMemory, SLOTS};
+use fixed_box::NoMemory;
 
-// Appends the pairs of slot `a` that count 3, of a row that begins at slot `first`. What was there stays, after an `Err`
-// too.
-pub(crate) fn push_tallies(
-    a: u32,
-    first: u32,
-    row: &[Tally],
-    out: &mut Vec<Pair>,
-) -> Result<(), NoMemory>
-    requires few { length row.now ≤ 128 }
-    requires small { first + SLOTS < 2 ^ 32 }
-    ensures ok { OnOk result (out.new.items ≡ out.old.items ++ full_in a first (counts_of row.now) (64 * length row.now)) }
+// Appends the pairs of slot `a` with those slots whose bit is set. What was there stays, after an `Err` too.
+pub(crate) fn push_words(a: u32, words: &[u64], out: &mut Vec<Pair>) -> Result<(), NoMemory>
+    requires { length words.now ≤ 128 }
+    ensures ok { OnOk result (out.new.items
+        ≡ out.old.items ++ pairs_with a (λ b. slice_index (bits_of words.now) b == 1) (64 * length words.now)) }
     ensures kept { take (vec_len out.old) out.new.items ≡ out.old.items }
 {
-    'tallies: for at in 0..row.len() {
-        let word = row[at].full();
+    'words: for at in 0..words.len() {
+        let word = words[at];
         if word != 0 {
-            push_bits(a, first + 64 * at as u32, word, out)?;
+            push_bits(a, 64 * at as u32, word, out)?;
         }
     }
     Ok(())

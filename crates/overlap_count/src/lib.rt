@@ -4,6 +4,7 @@
 mod counts;
 mod full_pairs;
 mod row;
+mod slot_set;
 mod tally;
 
 pub use counts::Counts;

@@ -1,5 +1,4 @@
-ghost use Rattle.std.specs.Prelude.{◌≡◌, ◌≢◌, ◌<◌, ◌≤◌, ◌↔◌, ℕ, if◌then◌else◌};
-ghost use Rattle.std.specs.Int.{bit_at};
+ghost use Rattle.std.specs.Prelude.{◌≡◌, ◌≢◌, ◌+◌, ◌-◌, ◌<◌, ◌≤◌, ℕ};
 ghost use Rattle.overlap_count.specs.Rows.{blank, digit};
 
 // Sixty-four counts from 0 to 3. Bit k of each word is one of the two binary digits of count k.
@@ -28,33 +27,47 @@ impl Tally {
         (low + 2 * high) as u8
     }
 
-    // The tally with another count at a place.
-    pub(crate) fn with(self, place: u32, count: u8) -> Tally
+    // The tally with one more at a place: a low digit of 1 carries.
+    pub(crate) fn raised(self, place: u32) -> Tally
         requires place { place < 64 }
-        requires small { count ≤ 3 }
-        ensures here { digit result place ≡ count }
+        requires room { digit self place < 3 }
+        ensures here { digit result place ≡ digit self place + 1 }
         ensures others { (k : ℕ) → k < 64 → k ≢ place → digit result k ≡ digit self k }
     {
+        let bit = 1u64 << place;
+        let carry = self.low & bit;
         Tally {
-            low: with_bit(self.low, place, count % 2 == 1),
-            high: with_bit(self.high, place, count >= 2),
+            low: self.low ^ bit,
+            high: self.high ^ carry,
         }
     }
 
-    // The places whose count is 3, as the bits of a word.
-    pub(crate) fn full(self) -> u64
-        ensures { (k : ℕ) → (bit_at result k ≡ 1) ↔ (digit self k ≡ 3) }
+    // The tally with one less at a place: a low digit that comes to 1 was borrowed.
+    pub(crate) fn lowered(self, place: u32) -> Tally
+        requires place { place < 64 }
+        requires above { digit self place ≢ 0 }
+        ensures here { digit result place ≡ digit self place - 1 }
+        ensures others { (k : ℕ) → k < 64 → k ≢ place → digit result k ≡ digit self k }
     {
-        self.low & self.high
+        let bit = 1u64 << place;
+        let low = self.low ^ bit;
+        let borrow = low & bit;
+        Tally {
+            low,
+            high: self.high ^ borrow,
+        }
     }
-}
 
-// The word with another bit at a place.
-fn with_bit(word: u64, place: u32, one: bool) -> u64
-    requires { place < 64 }
-    ensures here { bit_at result place ≡ (if one then 1 else 0) }
-    ensures others { (k : ℕ) → k < 64 → k ≢ place → bit_at result k ≡ bit_at word k }
-{
-    let bit = 1u64 << place;
-    if one { word | bit } else { word & !bit }
+    // The tally with 0 at a place.
+    pub(crate) fn without(self, place: u32) -> Tally
+        requires { place < 64 }
+        ensures here { digit result place ≡ 0 }
+        ensures others { (k : ℕ) → k < 64 → k ≢ place → digit result k ≡ digit self k }
+    {
+        let bit = 1u64 << place;
+        Tally {
+            low: self.low & !bit,
+            high: self.high & !bit,
+        }
+    }
 }

@@ -1,6 +1,6 @@
 -- The places of two slots are the axes on which their boxes overlap, and the pairs with three are those that meet.
 use Rattle.std.proofs.Common.{ℕ, Bool, true, false, List, refl, sym, ap, inl, inr, nat_lt, get_or, Option, Some, None, ℤ, int_le, slice_index}
-use Rattle.std.proofs.Common.{slice_index_or, is_some, ◌≡◌, ◌+◌, ◌-◌, ◌*◌, ◌&&◌, ◌==◌, ◌∙◌, if◌then◌else◌, []}
+use Rattle.std.proofs.Common.{slice_index_or, is_some, ◌≡◌, ◌+◌, ◌*◌, ◌&&◌, ◌==◌, ◌∙◌, if◌then◌else◌, []}
 use Rattle.std.proofs.lemmas.Bool.{cases_Bool, ltb-true}
 use Rattle.std.specs.FinMap.{FinMap, get}
 use Rattle.std.specs.Ordering.{nat_cmp}
@@ -11,7 +11,7 @@ use Rattle.broad_index.specs.Members.{has_pair, is_near, both_meet}
 use Rattle.broad_index.specs.Near.{rises, near}
 use Rattle.broad_index.specs.declared.pair.Pair.{Pair}
 use Rattle.endpoint_list.specs.NodeList.{has}
-use Rattle.overlap_count.specs.Counts.{count_of, first_slot}
+use Rattle.overlap_count.specs.Counts.{count_of}
 use Rattle.sweep_prune.specs.CoreKeeps.{IsCore}
 use Rattle.sweep_prune.specs.Endpoints.{HasKeys}
 use Rattle.sweep_prune.specs.KeyNumbers.{number}
@@ -69,7 +69,7 @@ is_three ls p = nat_lt p.a p.b && places ls p.a p.b == 3
 three_member : (ls : Lists) (counts : List (List ℕ)) (p : Pair) → IsCore ls counts → (count_of counts p.a p.b == 3) ≡ is_three ls p
 three_member ls counts p k = elim (cases_Bool (nat_lt p.a p.b)) as (λ _. (count_of counts p.a p.b == 3) ≡ is_three ls p) [
   | inl t ↦ ap (λ n. n == 3) (k.counted p.a p.b (ltb-true p.a p.b t)) ∙ sym (ap (λ b. b && places ls p.a p.b == 3) t)
-  | inr f ↦ ap (λ b. (if b then slice_index (slice_index_or counts p.a []) (p.b - first_slot p.a) else 0) == 3) f
+  | inr f ↦ ap (λ b. (if b then slice_index (slice_index_or counts p.b []) p.a else 0) == 3) f
       ∙ sym (ap (λ b. b && places ls p.a p.b == 3) f)
 ]
 

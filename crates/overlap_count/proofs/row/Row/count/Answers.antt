@@ -2,7 +2,7 @@
 use Rattle.std.proofs.Common.{◌≡◌, ◌/◌, ◌%◌, ap, sym, ◌∙◌, arith, length, get_or}
 use Rattle.std.proofs.lemmas.List.{get_or_read, get_or_past}
 use Rattle.overlap_count.specs.Rows.{blank, digit}
-use Rattle.overlap_count.proofs.CountLemmas.{length-counts_of, get_or-counts_of}
+use Rattle.overlap_count.proofs.DigitLemmas.{length-counts_of, get_or-counts_of}
 use Rattle.overlap_count.proofs.row.Row.count.Goals as goal
 
 pub returns-then-at-len-clause-count : goal.returns-then-at-len-clause-count
