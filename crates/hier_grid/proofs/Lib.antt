@@ -5,5 +5,6 @@ mod HitLemmas
 mod LeveledLemmas
 mod MapLemmas
 mod PairLemmas
+mod PartnerLemmas
 mod RowLemmas
 mod SlotLemmas

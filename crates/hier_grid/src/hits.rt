@@ -4,13 +4,11 @@ ghost use Rattle.fixed_box.specs.Bounds.{Bounds, meets, holds};
 ghost use Rattle.broad_index.specs.Found.{found, query_meets};
 ghost use Rattle.broad_index.specs.Members.{is_found};
 ghost use Rattle.slot_search.specs.Reach.{reach};
-ghost use Rattle.hier_grid.specs.Search.{HasMetBelow};
 
 use crate::kept_boxes::KeptBoxes;
 use crate::partners::push_partners;
 use crate::slot_boxes::SlotBoxes;
 use broad_index::{Query, push_rising_slots};
-use cell_table::LEVELS;
 use fixed_box::{FBox, NoMemory, Point, box_laws};
 use std::alloc::Global;
 
@@ -52,8 +50,9 @@ fn push_near(
     ensures ok { OnOk result (out.new.items ≡ out.old.items ++ found kept.now query.now) }
     ensures err { OnErr result (out.new.items ≡ out.old.items) }
 {
+    let mut places = Vec::new(alloc);
     let mut candidates = Vec::new(alloc);
-    push_all_candidates(kept, region, &mut 0, &mut candidates)?;
+    kept.push_from(0, region, &mut 0, &mut places, &mut candidates)?;
     let mut hits = Vec::new(alloc);
     push_found(kept.boxes(), query, &candidates, &mut hits)?;
     push_rising_slots(&mut hits, out)
@@ -92,8 +91,9 @@ pub(crate) fn push_reach(
     ensures err { OnErr result (out.new.items ≡ out.old.items) }
 {
     let mut looked = 0;
+    let mut places = Vec::new(alloc);
     let mut candidates = Vec::new(alloc);
-    push_all_candidates(kept, body, &mut looked, &mut candidates)?;
+    kept.push_from(0, body, &mut looked, &mut places, &mut candidates)?;
     let mut partners = Vec::new(alloc);
     push_partners(
         kept.boxes(),
@@ -106,19 +106,4 @@ pub(crate) fn push_reach(
     )?;
     push_rising_slots(&mut partners, out)?;
     Ok(u32::try_from(looked).unwrap_or(u32::MAX))
-}
-
-// Appends slots, and among them all whose boxes meet a region.
-fn push_all_candidates(
-    kept: &KeptBoxes,
-    region: &FBox,
-    looked: &mut u64,
-    out: &mut Vec<u32>,
-) -> Result<(), NoMemory>
-    ensures { OnOk result (HasMetBelow kept.now LEVELS region.now out.new.items) }
-{
-    'levels: for level in 0..LEVELS {
-        kept.push_candidates(level, region, looked, out)?;
-    }
-    Ok(())
 }
