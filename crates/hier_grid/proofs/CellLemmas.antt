@@ -41,12 +41,12 @@ same_order (negsuc a) (negsuc b) k h le =
     let p : b / k < a / k + 1 = div_below b k (a / k + 1) h (let q = below a k h in omega (arith, ints)) in
     omega (arith, ints)
 
-record Axes (p q : Point) : Type 0 where
+pub record Axes (p q : Point) : Type 0 where
   pub x : int_le p.x q.x ≡ true
   pub y : int_le p.y q.y ≡ true
   pub z : int_le p.z q.z ≡ true
 
-axes : (p q : Point) → is_at_most p q ≡ true → Axes p q
+pub axes : (p q : Point) → is_at_most p q ≡ true → Axes p q
 axes p q h =
     let parts = and_parts (int_le p.x q.x && int_le p.y q.y) (int_le p.z q.z) h in
     let firsts = and_parts (int_le p.x q.x) (int_le p.y q.y) parts.0 in
@@ -91,7 +91,7 @@ cell_high level (pos a) h = let p = few a (cell_side level) (wide level) (omega 
 cell_high level (negsuc a) h = omega (arith, ints)
 
 -- ---- the order of cells
-int_order : (x y : ℤ) → (x <ℤ y) ⊎ ((x ≡ y) ⊎ (y <ℤ x))
+pub int_order : (x y : ℤ) → (x <ℤ y) ⊎ ((x ≡ y) ⊎ (y <ℤ x))
 int_order x y = grind (arith, ints)
 
 one_key : (k c : CellKey) → k.level ≡ c.level → k.x ≡ c.x → k.y ≡ c.y → k.z ≡ c.z → k ≡ c

@@ -49,7 +49,7 @@ meets_at bodies body q = both_meet (Some body) (get bodies q)
 abbrev pub is_partner : FinMap nat_cmp Bounds → ℕ → Bounds → Bool → ℕ → Bool
 is_partner bodies slot body any q = not (q == slot) && (any || nat_lt slot q) && meets_at bodies body q
 
--- a slot has only partners in a list
+-- a list has partners of a slot alone
 abbrev pub AreReached : FinMap nat_cmp Bounds → ℕ → Bounds → List ℕ → Type 0
 AreReached bodies slot body slots = (q : ℕ) → has_slot slots q ≡ true → is_partner bodies slot body true q ≡ true
 

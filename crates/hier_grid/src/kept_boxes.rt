@@ -1,7 +1,9 @@
-ghost use Rattle.std.specs.Prelude.{◌≡◌, ◌<◌, true, false, Some, IfOk, OnOk};
+ghost use Rattle.std.specs.Prelude.{◌≡◌, ℕ, ◌<◌, true, false, Some, IsTrue, IfOk, OnOk};
 ghost use Rattle.std.specs.FinMap as map;
+ghost use Rattle.fixed_box.specs.Bounds.{Bounds, meets};
 ghost use Rattle.hier_grid.specs.Grid.{AreKeyed};
 ghost use Rattle.hier_grid.specs.Search.{HasAfter, HasKeyed, HasMet, HasMetIn, HasMore};
+ghost use Rattle.hier_grid.specs.Space.{space};
 
 use crate::cell::cell_of;
 use crate::leveled_boxes::LeveledBoxes;
@@ -60,6 +62,14 @@ impl KeptBoxes {
         &self.cells
     }
 
+    /// A law for proofs, with nothing to run: each box lies in space.
+    pub(crate) fn space_law(&self)
+        ensures { (slot : ℕ) (b : Bounds) → map.get self.now slot ≡ Some b → IsTrue (meets space b) }
+    {
+        // what a value keeps is known where it is read
+        let _boxes = &self.boxes;
+    }
+
     /// Puts a box under an absent slot. It takes no memory.
     pub(crate) fn put(&mut self, slot: u32, body: FBox)
         requires small { slot < SLOTS }
@@ -97,7 +107,8 @@ impl KeptBoxes {
         Ok(())
     }
 
-    /// Appends slots, and among them all whose boxes meet a box of their own level and lie in cells after its cell.
+    /// Appends slots, and among them all whose boxes meet a box of their own level and lie in cells after its cell. Where
+    /// the level has few boxes those in cells before it are among them too.
     pub(crate) fn push_after(
         &self,
         level: u8,

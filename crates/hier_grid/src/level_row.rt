@@ -88,7 +88,7 @@ impl LevelRow {
         moved
     }
 
-    /// Appends the slots whose boxes meet a region. Its places are room for the scan.
+    /// Appends the slots whose boxes meet a region. `places` is room for the scan.
     pub(crate) fn push_met(
         &self,
         region: &FBox,

@@ -13,4 +13,4 @@ returns-clause-ok c =
     let met : HasMetIn kept 0 11 c.args.region.now slots =
     subst (HasMetIn kept 0 11 c.args.region.now) (sym c.deref.ensures.value) c.in_ok-push_from.ensures.found in
     c.push_rising_slots.ensures.found kept c.args.query.now
-    (λ k. ap (λ l. has_slot l k) is ∙ hits_among kept c.args.query.now c.args.region.now slots c.requires met k)
+    (λ k. ap (λ l. has_slot l k) is ∙ hits_among kept c.args.query.now c.args.region.now slots c.space_law.ensures c.requires met k)
