@@ -1,5 +1,5 @@
--- Quotients rounded down, and the cells beside a box: where a box meets another, the other's cell is beside it.
-use Rattle.std.proofs.Common.{◌≡◌, ℕ, ◌+◌, ◌*◌, ◌/◌, ◌<◌, ◌≤◌, arith, true, ◌&&◌}
+-- Quotients rounded down, the cells beside a box, where the cells of what it meets are, and the order of cells.
+use Rattle.std.proofs.Common.{◌≡◌, ◌⊎◌, ℕ, ◌+◌, ◌*◌, ◌/◌, ◌<◌, ◌≤◌, arith, true, ◌&&◌, inl, inr, sym, ap, ◌∙◌}
 use Rattle.std.proofs.lemmas.Int.{ints}
 use Rattle.std.proofs.lemmas.Bool.{and_parts}
 use Rattle.std.proofs.lemmas.Nat.{pow_pos}
@@ -8,7 +8,8 @@ use Rattle.std.specs.Prelude.{ℤ, pos, negsuc, ◌+ℤ◌, ◌-ℤ◌, ◌≤�
 use Rattle.fixed_box.specs.Bounds.{Bounds, cell_side, longest_side, meets}
 use Rattle.fixed_box.specs.declared.point.Point.{Point}
 use Rattle.fixed_box.specs.Point.{is_at_most}
-use Rattle.hier_grid.specs.Cells.{cell_at, cell_on, IsFrom, IsBeside}
+use Rattle.cell_table.specs.declared.cell_key.CellKey.{CellKey}
+use Rattle.hier_grid.specs.Cells.{cell_at, cell_on, IsFrom, IsBeside, IsAfter}
 use Rattle.std.specs.Int.{int_div_euclid}
 use Rattle.std.proofs.lemmas.Nat.{div_below}
 
@@ -40,12 +41,12 @@ same_order (negsuc a) (negsuc b) k h le =
     let p : b / k < a / k + 1 = div_below b k (a / k + 1) h (let q = below a k h in omega (arith, ints)) in
     omega (arith, ints)
 
-record Axes (p q : Point) : Type 0 where
+pub record Axes (p q : Point) : Type 0 where
   pub x : int_le p.x q.x ≡ true
   pub y : int_le p.y q.y ≡ true
   pub z : int_le p.z q.z ≡ true
 
-axes : (p q : Point) → is_at_most p q ≡ true → Axes p q
+pub axes : (p q : Point) → is_at_most p q ≡ true → Axes p q
 axes p q h =
     let parts = and_parts (int_le p.x q.x && int_le p.y q.y) (int_le p.z q.z) h in
     let firsts = and_parts (int_le p.x q.x) (int_le p.y q.y) parts.0 in
@@ -88,3 +89,34 @@ cell_low level (negsuc a) h = let p = few a (cell_side level) (wide level) (omeg
 pub cell_high : (level : ℕ) (x : ℤ) → x <ℤ pos 2147483648 → cell_at level x ≤ℤ pos 1048576
 cell_high level (pos a) h = let p = few a (cell_side level) (wide level) (omega (arith, ints)) in omega (arith, ints)
 cell_high level (negsuc a) h = omega (arith, ints)
+
+-- ---- the order of cells
+pub int_order : (x y : ℤ) → (x <ℤ y) ⊎ ((x ≡ y) ⊎ (y <ℤ x))
+int_order x y = grind (arith, ints)
+
+one_key : (k c : CellKey) → k.level ≡ c.level → k.x ≡ c.x → k.y ≡ c.y → k.z ≡ c.z → k ≡ c
+one_key k c l x y z =
+    ap (λ n. record k { level = n }) l ∙ ap (λ n. record c { x = n; y = k.y; z = k.z }) x
+    ∙ ap (λ n. record c { y = n; z = k.z }) y ∙ ap (λ n. record c { z = n }) z
+
+-- of two cells of one level one comes after the other, or they are one
+pub cell_order : (k c : CellKey) → k.level ≡ c.level → (k ≡ c) ⊎ (IsAfter k c ⊎ IsAfter c k)
+cell_order k c l = elim (int_order k.x c.x) as (λ _. (k ≡ c) ⊎ (IsAfter k c ⊎ IsAfter c k)) [
+  | inl x ↦ inr (inr (inl x))
+  | inr rx ↦ elim rx as (λ _. (k ≡ c) ⊎ (IsAfter k c ⊎ IsAfter c k)) [
+    | inr x ↦ inr (inl (inl x))
+    | inl x ↦ elim (int_order k.y c.y) as (λ _. (k ≡ c) ⊎ (IsAfter k c ⊎ IsAfter c k)) [
+      | inl y ↦ inr (inr (inr (inl (sym x, y))))
+      | inr ry ↦ elim ry as (λ _. (k ≡ c) ⊎ (IsAfter k c ⊎ IsAfter c k)) [
+        | inr y ↦ inr (inl (inr (inl (x, y))))
+        | inl y ↦ elim (int_order k.z c.z) as (λ _. (k ≡ c) ⊎ (IsAfter k c ⊎ IsAfter c k)) [
+          | inl z ↦ inr (inr (inr (inr (sym x, (sym y, z)))))
+          | inr rz ↦ elim rz as (λ _. (k ≡ c) ⊎ (IsAfter k c ⊎ IsAfter c k)) [
+            | inr z ↦ inr (inl (inr (inr (x, (y, z)))))
+            | inl z ↦ inl (one_key k c l x y z)
+          ]
+        ]
+      ]
+    ]
+  ]
+]

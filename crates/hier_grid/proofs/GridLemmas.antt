@@ -14,9 +14,9 @@ use Rattle.std.specs.FinMap as maps
 use Rattle.fixed_box.specs.Bounds.{Bounds, cell_side, level_of, longest_side}
 use Rattle.cell_table.specs.declared.cell_key.CellKey.{CellKey}
 use Rattle.cell_table.specs.Cells.{has, slots_at}
-use Rattle.hier_grid.specs.Cells.{cell_of, IsBeside}
+use Rattle.hier_grid.specs.Cells.{cell_of, cell_on, IsAfter, IsBeside}
 use Rattle.hier_grid.specs.Grid.{IsGrid, IsSized}
-use Rattle.hier_grid.specs.Search.{HasCell, HasMet}
+use Rattle.hier_grid.specs.Search.{HasAfter, HasCell, HasMet}
 use Rattle.hier_grid.proofs.CellLemmas.{beside}
 
 low_find : (p : ℕ → Bool) (n m : ℕ) → n + m ≤ 11 → unwrap_or (find p (range_with_len n m)) 10 < 11
@@ -78,6 +78,15 @@ pub met_beside : (bodies : FinMap nat_cmp Bounds) (cells : FinMap nat_cmp CellKe
 met_beside bodies cells level region slots g h q b e l m =
     let sized = g.sized q b e in
     h (cell_of b) l (subst (λ n. IsBeside n region (cell_of b)) l (beside (level_of b) region b sized.fits sized.ordered m)) q
+    (g.keyed q ∙ ap (option_map cell_of) e)
+
+-- The same of the cells after that of a body's lower corner.
+pub met_after : (bodies : FinMap nat_cmp Bounds) (cells : FinMap nat_cmp CellKey) (level : ℕ) (body : Bounds) (slots : List ℕ) → IsGrid bodies cells
+    → ((k : CellKey) → k.level ≡ level → IsBeside level body k → IsAfter k (cell_on level body.lo) → HasCell cells k slots)
+    → HasAfter bodies level body slots
+met_after bodies cells level body slots g h q b e l after m =
+    let sized = g.sized q b e in
+    h (cell_of b) l (subst (λ n. IsBeside n body (cell_of b)) l (beside (level_of b) body b sized.fits sized.ordered m)) after q
     (g.keyed q ∙ ap (option_map cell_of) e)
 
 pub tie_is : (x y : ℕ) → eq_by_cmp nat_cmp x y ≡ true → x ≡ y

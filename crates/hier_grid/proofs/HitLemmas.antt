@@ -13,30 +13,33 @@ use Rattle.broad_index.specs.declared.query.Query.{Query}
 use Rattle.broad_index.specs.Members.{has_slot, slots_rise, both_meet, is_found, is_reached, meets_query}
 use Rattle.broad_index.specs.NearRises.{entries_rise, slot_lt, true_from}
 use Rattle.broad_index.specs.Searched.{AreAllIn}
-use Rattle.hier_grid.specs.Search.{HasMetBelow, meets_at, is_partner, present}
+use Rattle.hier_grid.specs.Search.{HasMetIn, meets_at, is_partner, present}
+use Rattle.hier_grid.specs.Space.{space}
 use Rattle.hier_grid.proofs.GridLemmas.{low_level, tie_is}
 use Rattle.hier_grid.proofs.SlotLemmas.{all_among}
 
 hit_at : (bodies : FinMap nat_cmp Bounds) (query : Query) (region : Bounds) (slots : List ℕ)
-    → ((b : Bounds) → query_meets query b ≡ true → meets region b ≡ true)
-    → HasMetBelow bodies 11 region slots → (q : ℕ) (o : Option Bounds) → get bodies q ≡ o → meets_query query o ≡ true → has_slot slots q ≡ true
-hit_at bodies query region slots same h q None e t = absurd (false≢true t)
-hit_at bodies query region slots same h q (Some b) e t = h q b e (low_level b) (same b t)
+    → ((q : ℕ) (b : Bounds) → get bodies q ≡ Some b → meets space b ≡ true)
+    → ((b : Bounds) → meets space b ≡ true → query_meets query b ≡ true → meets region b ≡ true)
+    → HasMetIn bodies 0 11 region slots → (q : ℕ) (o : Option Bounds) → get bodies q ≡ o → meets_query query o ≡ true → has_slot slots q ≡ true
+hit_at bodies query region slots near same h q None e t = absurd (false≢true t)
+hit_at bodies query region slots near same h q (Some b) e t = h q b e (omega arith) (low_level b) (same b (near q b e) t)
 
 -- what meets a query is among the slots whose boxes meet its region
 pub hits_among : (bodies : FinMap nat_cmp Bounds) (query : Query) (region : Bounds) (slots : List ℕ)
-    → ((b : Bounds) → query_meets query b ≡ true → meets region b ≡ true) → HasMetBelow bodies 11 region slots
+    → ((q : ℕ) (b : Bounds) → get bodies q ≡ Some b → meets space b ≡ true)
+    → ((b : Bounds) → meets space b ≡ true → query_meets query b ≡ true → meets region b ≡ true) → HasMetIn bodies 0 11 region slots
     → (q : ℕ) → has_slot (filter (is_found bodies query) slots) q ≡ is_found bodies query q
-hits_among bodies query region slots same h =
-    all_among (is_found bodies query) slots (λ q t. hit_at bodies query region slots same h q (get bodies q) refl t)
+hits_among bodies query region slots near same h =
+    all_among (is_found bodies query) slots (λ q t. hit_at bodies query region slots near same h q (get bodies q) refl t)
 
-partner_at : (bodies : FinMap nat_cmp Bounds) (body : Bounds) (slots : List ℕ) → HasMetBelow bodies 11 body slots
+partner_at : (bodies : FinMap nat_cmp Bounds) (body : Bounds) (slots : List ℕ) → HasMetIn bodies 0 11 body slots
     → (q : ℕ) (o : Option Bounds) → get bodies q ≡ o → both_meet (Some body) o ≡ true → has_slot slots q ≡ true
 partner_at bodies body slots h q None e t = absurd (false≢true t)
-partner_at bodies body slots h q (Some b) e t = h q b e (low_level b) t
+partner_at bodies body slots h q (Some b) e t = h q b e (omega arith) (low_level b) t
 
 -- a slot reaches its partners, whichever their slots
-pub reach_among : (bodies : FinMap nat_cmp Bounds) (slot : ℕ) (body : Bounds) (slots : List ℕ) → get bodies slot ≡ Some body → HasMetBelow bodies 11 body slots
+pub reach_among : (bodies : FinMap nat_cmp Bounds) (slot : ℕ) (body : Bounds) (slots : List ℕ) → get bodies slot ≡ Some body → HasMetIn bodies 0 11 body slots
     → (q : ℕ) → has_slot (filter (is_partner bodies slot body true) slots) q ≡ is_reached bodies slot q
 reach_among bodies slot body slots own h q =
     all_among (is_partner bodies slot body true) slots (λ k t.

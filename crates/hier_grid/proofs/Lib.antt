@@ -5,5 +5,7 @@ mod HitLemmas
 mod LeveledLemmas
 mod MapLemmas
 mod PairLemmas
+mod PartnerLemmas
+mod RegionLemmas
 mod RowLemmas
 mod SlotLemmas

@@ -1,7 +1,6 @@
 -- Each pair of boxes that meet is found from one of its slots, and nothing else is.
-use Rattle.std.proofs.Common.{◌≡◌, ℕ, ◌≤◌, Bool, true, false, cond, not, ◌&&◌, ◌||◌, ◌==◌, nat_lt, List, [], ◌∷◌, ◌++◌, map, Option, None}
+use Rattle.std.proofs.Common.{◌≡◌, ◌⊎◌, ℕ, ◌<◌, Bool, true, false, cond, not, ◌&&◌, ◌||◌, ◌==◌, nat_lt, List, [], ◌∷◌, ◌++◌, map, Option, None}
 use Rattle.std.proofs.Common.{Some, refl, sym, ap, ◌∙◌, arith, inl, inr}
-use Rattle.std.specs.List.{filter}
 use Rattle.std.proofs.lemmas.Bool.{and_parts, and_from, or_left, or_cases, false≢true}
 use Rattle.std.proofs.lemmas.Bool.Decides.{nat_tests}
 use Rattle.std.proofs.lemmas.List.Folds.{list_any-append}
@@ -11,10 +10,10 @@ use Rattle.fixed_box.specs.Bounds.{Bounds, meets, level_of}
 use Rattle.fixed_box.specs.Point.{is_at_most}
 use Rattle.broad_index.specs.declared.pair.Pair.{Pair}
 use Rattle.broad_index.specs.Members.{has_pair, has_slot, same_pair, both_meet, is_near}
-use Rattle.broad_index.specs.Touched.{ordered}
-use Rattle.hier_grid.specs.Search.{meets_at, is_partner, partnered, IsSound, HasPairs, FindsFor}
-use Rattle.hier_grid.proofs.GridLemmas.{low_level}
-use Rattle.hier_grid.proofs.SlotLemmas.{has_filtered}
+use Rattle.broad_index.specs.Touched.{ordered, ordered_pairs}
+use Rattle.hier_grid.specs.Cells.{cell_of}
+use Rattle.hier_grid.specs.Search.{meets_at, is_partner, AreReached, IsDue, IsSound, HasPairs, FindsFor}
+use Rattle.hier_grid.proofs.CellLemmas.{cell_order}
 
 same_means : (p q : Pair) → same_pair p q ≡ true → p ≡ q
 same_means p q h =
@@ -50,11 +49,11 @@ both_turned (Some b) body = meets_turned body b
 pub more_pairs : (old more : List Pair) → HasPairs old (old ++ more)
 more_pairs old more p h = list_any-append (same_pair p) old more ∙ ap (λ b. b || has_pair more p) h
 
-partner_near : (bodies : FinMap nat_cmp Bounds) (slot : ℕ) (body : Bounds) (higher : Bool) (q : ℕ) → get bodies slot ≡ Some body
-    → is_partner bodies slot body higher q ≡ true → is_near bodies (ordered slot q) ≡ true
-partner_near bodies slot body higher q own h =
-    let r = and_parts (not (q == slot) && (higher || nat_lt slot q)) (meets_at bodies body q) h in
-    let other : not (q == slot) ≡ true = (and_parts (not (q == slot)) (higher || nat_lt slot q) r.0).0 in
+partner_near : (bodies : FinMap nat_cmp Bounds) (slot : ℕ) (body : Bounds) (any : Bool) (q : ℕ) → get bodies slot ≡ Some body
+    → is_partner bodies slot body any q ≡ true → is_near bodies (ordered slot q) ≡ true
+partner_near bodies slot body any q own h =
+    let r = and_parts (not (q == slot) && (any || nat_lt slot q)) (meets_at bodies body q) h in
+    let other : not (q == slot) ≡ true = (and_parts (not (q == slot)) (any || nat_lt slot q) r.0).0 in
     elim (nat_lt slot q) as (λ b. nat_lt slot q ≡ b → is_near bodies (cond b (record { a = slot; b = q }) (record { a = q; b = slot })) ≡ true) [
       | true ↦ λ t. and_from (nat_lt slot q) (both_meet (get bodies slot) (get bodies q)) t (ap (λ o. both_meet o (get bodies q)) own ∙ r.1)
       | false ↦ λ f.
@@ -77,16 +76,13 @@ sound_each bodies slot (x ∷ xs) h p i = elim (or_cases (same_pair p (ordered s
       | inr e ↦ sound_each bodies slot xs (λ q j. h q (ap (λ b. (q == x) || b) j ∙ or_true (q == x))) p e
     ]
 
-pub sound_more : (bodies : FinMap nat_cmp Bounds) (slot : ℕ) (body : Bounds) (higher : Bool) (slots : List ℕ) (old : List Pair) → get bodies slot ≡ Some body
-    → IsSound bodies old → IsSound bodies (old ++ partnered bodies slot body higher slots)
-sound_more bodies slot body higher slots old own s p h =
-    elim (or_cases (has_pair old p) (has_pair (partnered bodies slot body higher slots) p)
-    (sym (list_any-append (same_pair p) old (partnered bodies slot body higher slots)) ∙ h)) as
+pub sound_more : (bodies : FinMap nat_cmp Bounds) (slot : ℕ) (body : Bounds) (slots : List ℕ) (old : List Pair) → get bodies slot ≡ Some body
+    → AreReached bodies slot body slots → IsSound bodies old → IsSound bodies (old ++ ordered_pairs slot slots)
+sound_more bodies slot body slots old own right s p h =
+    elim (or_cases (has_pair old p) (has_pair (ordered_pairs slot slots) p) (sym (list_any-append (same_pair p) old (ordered_pairs slot slots)) ∙ h)) as
     (λ _. is_near bodies p ≡ true) [
       | inl e ↦ s p e
-      | inr e ↦ sound_each bodies slot (filter (is_partner bodies slot body higher) slots) (λ q i.
-          partner_near bodies slot body higher q own
-          (and_parts (has_slot slots q) (is_partner bodies slot body higher q) (sym (has_filtered (is_partner bodies slot body higher) slots q) ∙ i)).1) p e
+      | inr e ↦ sound_each bodies slot slots (λ q i. partner_near bodies slot body true q own (right q i)) p e
     ]
 
 found_each : (slot q : ℕ) (xs : List ℕ) → has_slot xs q ≡ true → has_pair (map (ordered slot) xs) (ordered slot q) ≡ true
@@ -99,13 +95,9 @@ found_each slot q (x ∷ xs) h = elim (or_cases (q == x) (has_slot xs q) h) as (
   | inr e ↦ ap (λ b. same_pair (ordered slot q) (ordered slot x) || b) (found_each slot q xs e) ∙ or_true (same_pair (ordered slot q) (ordered slot x))
 ]
 
-pub found_more : (bodies : FinMap nat_cmp Bounds) (slot : ℕ) (body : Bounds) (higher : Bool) (slots : List ℕ) (old : List Pair) (q : ℕ)
-    → has_slot slots q ≡ true → is_partner bodies slot body higher q ≡ true → has_pair (old ++ partnered bodies slot body higher slots) (ordered slot q) ≡ true
-found_more bodies slot body higher slots old q h t =
-    list_any-append (same_pair (ordered slot q)) old (partnered bodies slot body higher slots)
-    ∙ ap (λ b. has_pair old (ordered slot q) || b)
-    (found_each slot q (filter (is_partner bodies slot body higher) slots)
-    (has_filtered (is_partner bodies slot body higher) slots q ∙ and_from (has_slot slots q) (is_partner bodies slot body higher q) h t))
+pub found_more : (slot q : ℕ) (slots : List ℕ) (old : List Pair) → has_slot slots q ≡ true → has_pair (old ++ ordered_pairs slot slots) (ordered slot q) ≡ true
+found_more slot q slots old h =
+    list_any-append (same_pair (ordered slot q)) old (ordered_pairs slot slots) ∙ ap (λ b. has_pair old (ordered slot q) || b) (found_each slot q slots h)
     ∙ or_true (has_pair old (ordered slot q))
 
 -- ---- the whole
@@ -126,37 +118,45 @@ two_of bodies p None r e f h = absurd (false≢true h)
 two_of bodies p (Some x) None e f h = absurd (false≢true h)
 two_of bodies p (Some x) (Some y) e f h = record { first = x; second = y; at_first = e; at_second = f; met = h }
 
--- the pair of a slot with another one, from whose box it is found
-from_one : (bodies : FinMap nat_cmp Bounds) (found : List Pair) → ((s : ℕ) → FindsFor bodies s found) → (s q : ℕ) (x y : Bounds)
-    → get bodies s ≡ Some x → get bodies q ≡ Some y → meets x y ≡ true → level_of x ≤ level_of y
-    → (not (q == s) && (nat_lt (level_of x) (level_of y) || nat_lt s q)) ≡ true → has_pair found (ordered s q) ≡ true
-from_one bodies found c s q x y ex ey m le due =
-    c s x ex (level_of y) le (low_level y) q y ey refl
-    (and_from (not (q == s) && (nat_lt (level_of x) (level_of y) || nat_lt s q)) (meets_at bodies x q) due (ap (both_meet (Some x)) ey ∙ m))
+nat_order : (x y : ℕ) → (x < y) ⊎ ((x ≡ y) ⊎ (y < x))
+nat_order x y = grind arith
+
+-- of two slots one has to find their pair
+one_due : (s q : ℕ) (x y : Bounds) → s < q → IsDue s x q y ⊎ IsDue q y s x
+one_due s q x y lt = elim (nat_order (level_of x) (level_of y)) as (λ _. IsDue s x q y ⊎ IsDue q y s x) [
+  | inl below ↦ inl (inr (inl below))
+  | inr r ↦ elim r as (λ _. IsDue s x q y ⊎ IsDue q y s x) [
+    | inr above ↦ inr (inr (inl above))
+    | inl level ↦ elim (cell_order (cell_of y) (cell_of x) (sym level)) as (λ _. IsDue s x q y ⊎ IsDue q y s x) [
+      | inl same ↦ inl (inl (same, lt))
+      | inr o ↦ elim o as (λ _. IsDue s x q y ⊎ IsDue q y s x) [
+        | inl later ↦ inl (inr (inr (sym level, later)))
+        | inr sooner ↦ inr (inr (inr (level, sooner)))
+      ]
+    ]
+  ]
+]
 
 pub all_found : (bodies : FinMap nat_cmp Bounds) (found : List Pair) → IsSound bodies found → ((s : ℕ) → FindsFor bodies s found)
     → (p : Pair) → has_pair found p ≡ is_near bodies p
 all_found bodies found s c p = same_bool (has_pair found p) (is_near bodies p) (s p) (λ h.
     let r = and_parts (nat_lt p.a p.b) (both_meet (get bodies p.a) (get bodies p.b)) h in
     let t = two_of bodies p (get bodies p.a) (get bodies p.b) refl refl r.1 in
-    let back : nat_lt p.b p.a ≡ false = not_back p.a p.b r.0 in
-    elim (nat_lt (level_of t.second) (level_of t.first)) as (λ b. nat_lt (level_of t.second) (level_of t.first) ≡ b → has_pair found p ≡ true) [
-      | true ↦ λ above.
-          let le : level_of t.second ≤ level_of t.first = grind (arith, nat_tests) in
-          let at : ordered p.b p.a ≡ p = ap (λ b. cond b (other p) p) back in
-          ap (has_pair found) (sym at) ∙ from_one bodies found c p.b p.a t.second t.first t.at_second t.at_first (meets_turned t.second t.first ∙ t.met) le
-          (and_from (not (p.a == p.b)) (nat_lt (level_of t.second) (level_of t.first) || nat_lt p.b p.a) (not_same p.a p.b r.0)
-          (ap (λ b. b || nat_lt p.b p.a) above))
-      | false ↦ λ below.
-          let le : level_of t.first ≤ level_of t.second = grind (arith, nat_tests) in
+    elim (one_due p.a p.b t.first t.second (is_below p.a p.b r.0)) as (λ _. has_pair found p ≡ true) [
+      | inl due ↦
           let at : ordered p.a p.b ≡ p = ap (λ b. cond b p (other p)) r.0 in
-          ap (has_pair found) (sym at) ∙ from_one bodies found c p.a p.b t.first t.second t.at_first t.at_second t.met le
-          (and_from (not (p.b == p.a)) (nat_lt (level_of t.first) (level_of t.second) || nat_lt p.a p.b) (not_turned p.a p.b r.0)
-          (ap (λ b. nat_lt (level_of t.first) (level_of t.second) || b) r.0 ∙ or_true (nat_lt (level_of t.first) (level_of t.second))))
-    ] refl)
+          ap (has_pair found) (sym at) ∙ c p.a t.first t.at_first p.b t.second t.at_second t.met (not_turned p.a p.b r.0) due
+      | inr due ↦
+          let at : ordered p.b p.a ≡ p = ap (λ b. cond b (other p) p) (not_back p.a p.b r.0) in
+          ap (has_pair found) (sym at)
+          ∙ c p.b t.second t.at_second p.a t.first t.at_first (meets_turned t.second t.first ∙ t.met) (not_same p.a p.b r.0) due
+    ])
   where
     other : Pair → Pair
     other p = record { a = p.b; b = p.a }
+
+    is_below : (a b : ℕ) → nat_lt a b ≡ true → a < b
+    is_below a b lt = grind (arith, nat_tests)
 
     not_back : (a b : ℕ) → nat_lt a b ≡ true → nat_lt b a ≡ false
     not_back a b lt = grind (arith, nat_tests)
@@ -166,9 +166,3 @@ all_found bodies found s c p = same_bool (has_pair found p) (is_near bodies p) (
 
     not_turned : (a b : ℕ) → nat_lt a b ≡ true → not (b == a) ≡ true
     not_turned a b lt = grind (arith, nat_tests)
-
--- a partner's box meets the body
-pub partner_met : (bodies : FinMap nat_cmp Bounds) (slot : ℕ) (body : Bounds) (higher : Bool) (q : ℕ) (b : Bounds) → get bodies q ≡ Some b
-    → is_partner bodies slot body higher q ≡ true → meets body b ≡ true
-partner_met bodies slot body higher q b e t =
-    ap (both_meet (Some body)) (sym e) ∙ (and_parts (not (q == slot) && (higher || nat_lt slot q)) (meets_at bodies body q) t).1

@@ -1,5 +1,5 @@
 -- Definitions: the cell of a box, and the cells beside a box (Ericson, Real-Time Collision Detection, 2005, 7.2.1).
-use Rattle.std.specs.Prelude.{ℕ, ℤ, pos, ◌-ℤ◌, ◌≤ℤ◌}
+use Rattle.std.specs.Prelude.{◌≡◌, ◌⊎◌, ℕ, ℤ, pos, ◌-ℤ◌, ◌≤ℤ◌, ◌<ℤ◌}
 use Rattle.std.specs.Int.{int_div_euclid}
 use Rattle.fixed_box.specs.Bounds.{Bounds, cell_side, level_of}
 use Rattle.fixed_box.specs.declared.point.Point.{Point}
@@ -27,3 +27,7 @@ pub record IsBeside (level : ℕ) (a : Bounds) (c : CellKey) : Type 0 where
   pub x : IsFrom level a.lo.x a.hi.x c.x
   pub y : IsFrom level a.lo.y a.hi.y c.y
   pub z : IsFrom level a.lo.z a.hi.z c.z
+
+-- A cell comes after another in the order of x, then y, then z.
+abbrev pub IsAfter : CellKey → CellKey → Type 0
+IsAfter k c = (c.x <ℤ k.x) ⊎ (((k.x ≡ c.x) × (c.y <ℤ k.y)) ⊎ ((k.x ≡ c.x) × ((k.y ≡ c.y) × (c.z <ℤ k.z))))

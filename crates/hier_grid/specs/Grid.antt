@@ -2,15 +2,17 @@
 use Rattle.std.specs.Prelude.{◌≡◌, ℕ, ◌<◌, IsTrue, Some, option_map}
 use Rattle.std.specs.Ordering.{nat_cmp}
 use Rattle.std.specs.FinMap.{FinMap, get}
-use Rattle.fixed_box.specs.Bounds.{Bounds, cell_side, level_of, longest_side}
+use Rattle.fixed_box.specs.Bounds.{Bounds, cell_side, level_of, longest_side, meets}
 use Rattle.fixed_box.specs.Point.{is_at_most}
 use Rattle.cell_table.specs.declared.cell_key.CellKey.{CellKey}
 use Rattle.hier_grid.specs.Cells.{cell_of}
+use Rattle.hier_grid.specs.Space.{space}
 
--- a box with its corners in order, which is shorter than the cells of its level
+-- a box in space with its corners in order, which is shorter than the cells of its level
 pub record IsSized (b : Bounds) : Type 0 where
   pub ordered : IsTrue (is_at_most b.lo b.hi)
   pub fits : longest_side b < cell_side (level_of b)
+  pub in_space : IsTrue (meets space b)
 
 -- exactly the present slots have cells, each that of its box
 abbrev pub AreKeyed : FinMap nat_cmp Bounds → FinMap nat_cmp CellKey → Type 0

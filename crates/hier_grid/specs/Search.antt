@@ -1,5 +1,5 @@
 -- Definitions: what searches find.
-use Rattle.std.specs.Prelude.{◌≡◌, ℕ, ◌<◌, ◌≤◌, Bool, true, not, ◌&&◌, ◌||◌, ◌==◌, nat_lt, List, map, filter, Some}
+use Rattle.std.specs.Prelude.{◌≡◌, ◌⊎◌, ℕ, ◌<◌, ◌≤◌, Bool, true, not, ◌&&◌, ◌||◌, ◌==◌, nat_lt, List, map, Some}
 use Rattle.std.specs.Ordering.{nat_cmp}
 use Rattle.std.specs.FinMap.{FinMap, get, entries}
 use Rattle.fixed_box.specs.Bounds.{Bounds, meets, level_of}
@@ -7,6 +7,7 @@ use Rattle.broad_index.specs.declared.pair.Pair.{Pair}
 use Rattle.broad_index.specs.Members.{has_pair, has_slot, both_meet, is_near}
 use Rattle.broad_index.specs.Touched.{ordered}
 use Rattle.cell_table.specs.declared.cell_key.CellKey.{CellKey}
+use Rattle.hier_grid.specs.Cells.{cell_of, cell_on, IsAfter}
 
 -- what was in a list is still in it
 abbrev pub HasMore : List ℕ → List ℕ → Type 0
@@ -21,10 +22,20 @@ abbrev pub HasMet : FinMap nat_cmp Bounds → ℕ → Bounds → List ℕ → Ty
 HasMet bodies level region slots =
     (q : ℕ) (b : Bounds) → get bodies q ≡ Some b → level_of b ≡ level → meets region b ≡ true → has_slot slots q ≡ true
 
--- the same below a level
-abbrev pub HasMetBelow : FinMap nat_cmp Bounds → ℕ → Bounds → List ℕ → Type 0
-HasMetBelow bodies end region slots =
-    (q : ℕ) (b : Bounds) → get bodies q ≡ Some b → level_of b < end → meets region b ≡ true → has_slot slots q ≡ true
+-- the same of the levels from one on and below an end
+abbrev pub HasMetIn : FinMap nat_cmp Bounds → ℕ → ℕ → Bounds → List ℕ → Type 0
+HasMetIn bodies first end region slots =
+    (q : ℕ) (b : Bounds) → get bodies q ≡ Some b → first ≤ level_of b → level_of b < end → meets region b ≡ true → has_slot slots q ≡ true
+
+-- the slots whose boxes lie in a cell are in a list
+abbrev pub HasKeyed : FinMap nat_cmp Bounds → CellKey → List ℕ → Type 0
+HasKeyed bodies key slots = (q : ℕ) (b : Bounds) → get bodies q ≡ Some b → cell_of b ≡ key → has_slot slots q ≡ true
+
+-- the slots of a level whose boxes meet a body, and lie in cells after that of its lower corner, are in a list
+abbrev pub HasAfter : FinMap nat_cmp Bounds → ℕ → Bounds → List ℕ → Type 0
+HasAfter bodies level body slots =
+    (q : ℕ) (b : Bounds) → get bodies q ≡ Some b → level_of b ≡ level → IsAfter (cell_of b) (cell_on level body.lo) → meets body b ≡ true
+    → has_slot slots q ≡ true
 
 -- all present slots, rising
 abbrev pub present : FinMap nat_cmp Bounds → List ℕ
@@ -34,13 +45,31 @@ present bodies = map (λ e. e.0) (entries bodies)
 abbrev pub meets_at : FinMap nat_cmp Bounds → Bounds → ℕ → Bool
 meets_at bodies body q = both_meet (Some body) (get bodies q)
 
--- A slot finds its pair with another one whose box meets its box: with any on a higher level, on its own with a higher slot.
+-- a slot's partner: another one whose box meets its box, any such one or only one with a higher slot
 abbrev pub is_partner : FinMap nat_cmp Bounds → ℕ → Bounds → Bool → ℕ → Bool
-is_partner bodies slot body higher q = not (q == slot) && (higher || nat_lt slot q) && meets_at bodies body q
+is_partner bodies slot body any q = not (q == slot) && (any || nat_lt slot q) && meets_at bodies body q
 
--- the pairs of a slot with its partners among others
-abbrev pub partnered : FinMap nat_cmp Bounds → ℕ → Bounds → Bool → List ℕ → List Pair
-partnered bodies slot body higher slots = map (ordered slot) (filter (is_partner bodies slot body higher) slots)
+-- a list has partners of a slot alone
+abbrev pub AreReached : FinMap nat_cmp Bounds → ℕ → Bounds → List ℕ → Type 0
+AreReached bodies slot body slots = (q : ℕ) → has_slot slots q ≡ true → is_partner bodies slot body true q ≡ true
+
+-- of two boxes the other one has a higher level, or it lies in a later cell of the same level
+abbrev pub IsOther : Bounds → Bounds → Type 0
+IsOther body b = (level_of body < level_of b) ⊎ ((level_of b ≡ level_of body) × IsAfter (cell_of b) (cell_of body))
+
+-- Of each two slots one has to find their pair: the other's level is higher, or its cell is later, or in one cell its slot is higher.
+abbrev pub IsDue : ℕ → Bounds → ℕ → Bounds → Type 0
+IsDue slot body q b = ((cell_of b ≡ cell_of body) × (slot < q)) ⊎ IsOther body b
+
+-- the partners of a slot with higher levels or in later cells are in a list
+abbrev pub HasOthers : FinMap nat_cmp Bounds → ℕ → Bounds → List ℕ → Type 0
+HasOthers bodies slot body slots =
+    (q : ℕ) (b : Bounds) → get bodies q ≡ Some b → meets body b ≡ true → not (q == slot) ≡ true → IsOther body b → has_slot slots q ≡ true
+
+-- the partners of a slot whose pairs with it are to be found from it are in a list
+abbrev pub HasDue : FinMap nat_cmp Bounds → ℕ → Bounds → List ℕ → Type 0
+HasDue bodies slot body slots =
+    (q : ℕ) (b : Bounds) → get bodies q ≡ Some b → meets body b ≡ true → not (q == slot) ≡ true → IsDue slot body q b → has_slot slots q ≡ true
 
 -- what was found is right
 abbrev pub IsSound : FinMap nat_cmp Bounds → List Pair → Type 0
@@ -50,17 +79,11 @@ IsSound bodies pairs = (p : Pair) → has_pair pairs p ≡ true → is_near bodi
 abbrev pub HasPairs : List Pair → List Pair → Type 0
 HasPairs old new = (p : Pair) → has_pair old p ≡ true → has_pair new p ≡ true
 
--- the pairs of a slot with its partners of a level were found
-abbrev pub FindsAt : FinMap nat_cmp Bounds → ℕ → Bounds → Bool → ℕ → List Pair → Type 0
-FindsAt bodies slot body higher level found =
-    (q : ℕ) (b : Bounds) → get bodies q ≡ Some b → level_of b ≡ level → is_partner bodies slot body higher q ≡ true
-    → has_pair found (ordered slot q) ≡ true
+-- the pairs that are to be found from a slot were found
+abbrev pub FindsFrom : FinMap nat_cmp Bounds → ℕ → Bounds → List Pair → Type 0
+FindsFrom bodies slot body found =
+    (q : ℕ) (b : Bounds) → get bodies q ≡ Some b → meets body b ≡ true → not (q == slot) ≡ true → IsDue slot body q b → has_pair found (ordered slot q) ≡ true
 
--- the pairs of a slot with its partners of its own level and of those above it, below an end, were found
-abbrev pub FindsBelow : FinMap nat_cmp Bounds → ℕ → Bounds → ℕ → List Pair → Type 0
-FindsBelow bodies slot body end found =
-    (level : ℕ) → level_of body ≤ level → level < end → FindsAt bodies slot body (nat_lt (level_of body) level) level found
-
--- the pairs of a slot with its partners were found, if it is present
+-- the same if the slot is present
 abbrev pub FindsFor : FinMap nat_cmp Bounds → ℕ → List Pair → Type 0
-FindsFor bodies slot found = (body : Bounds) → get bodies slot ≡ Some body → FindsBelow bodies slot body 11 found
+FindsFor bodies slot found = (body : Bounds) → get bodies slot ≡ Some body → FindsFrom bodies slot body found

@@ -1,9 +1,10 @@
 ghost use Rattle.std.specs.Prelude.{◌≡◌, ℤ, pos, negsuc, ◌<◌, ◌≤ℤ◌};
-ghost use Rattle.hier_grid.specs.Cells.{cell_at, cell_of};
+ghost use Rattle.hier_grid.specs.Cells.{cell_at, cell_of, cell_on};
 ghost use Rattle.hier_grid.specs.Grid.{IsSized};
 
+use crate::space::space_law;
 use cell_table::{CellKey, LEVELS};
-use fixed_box::{FBox, Fix};
+use fixed_box::{FBox, Fix, Point};
 
 /// The level and the cell of a box.
 pub(crate) fn cell_of(body: &FBox) -> CellKey
@@ -11,13 +12,21 @@ pub(crate) fn cell_of(body: &FBox) -> CellKey
     ensures level { result.level < LEVELS }
     ensures sized { IsSized body.now }
 {
+    space_law(body);
     let level = body.level();
-    let lo = body.lo();
+    cell_on(level, &body.lo())
+}
+
+// The cell of a level that a point lies in.
+fn cell_on(level: u8, at: &Point) -> CellKey
+    requires { level < LEVELS }
+    ensures { result ≡ cell_on level at.now }
+{
     CellKey {
         level,
-        x: cell_at(level, lo.x),
-        y: cell_at(level, lo.y),
-        z: cell_at(level, lo.z),
+        x: cell_at(level, at.x),
+        y: cell_at(level, at.y),
+        z: cell_at(level, at.z),
     }
 }
 

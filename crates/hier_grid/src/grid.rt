@@ -21,7 +21,9 @@ use std::marker::Model;
 ///
 /// A box lies at the least level whose cells are longer than its longest side, in the cell of its lower corner. So it
 /// reaches at most into the next cell on each axis, and what it meets lies in the cells beside it. A pair is found from
-/// the box of the lower level, or on one level from the lower slot.
+/// the box of the lower level, or on one level from the box whose cell comes first in the order of x, y and z, which looks
+/// at half of the cells about it, and in one cell from the lower slot. Where a level has fewer boxes than cells lie beside
+/// a box, all of them are compared with it in place of a look at those cells.
 ///
 /// Only `new`, `pairs`, `pairs_with` and `hits` take memory; `add`, `shift` and `leave` take a time that doesn't grow with
 /// the number of boxes.

@@ -1,21 +1,21 @@
-ghost use Rattle.std.specs.Prelude.{◌≡◌, ◌<◌, ◌++◌, true, Some, OnOk, OnErr, filter};
+ghost use Rattle.std.specs.Prelude.{◌≡◌, ◌<◌, ◌++◌, true, Some, IsTrue, OnOk, OnErr, filter};
 ghost use Rattle.std.specs.FinMap as map;
-ghost use Rattle.fixed_box.specs.Bounds.{Bounds, meets, holds};
+ghost use Rattle.fixed_box.specs.Bounds.{Bounds, meets};
 ghost use Rattle.broad_index.specs.Found.{found, query_meets};
 ghost use Rattle.broad_index.specs.Members.{is_found};
 ghost use Rattle.slot_search.specs.Reach.{reach};
-ghost use Rattle.hier_grid.specs.Search.{HasMetBelow};
+ghost use Rattle.hier_grid.specs.Space.{space};
 
 use crate::kept_boxes::KeptBoxes;
 use crate::partners::push_partners;
+use crate::regions::{flat_box, ray_box, seg_box};
 use crate::slot_boxes::SlotBoxes;
 use broad_index::{Query, push_rising_slots};
-use cell_table::LEVELS;
-use fixed_box::{FBox, NoMemory, Point, box_laws};
+use fixed_box::{FBox, NoMemory};
 use std::alloc::Global;
 
-/// Appends the present slots whose boxes meet a query, rising. A ray and a segment test each box. After an `Err` `out` is
-/// as before.
+/// Appends the present slots whose boxes meet a query, rising. The query is tested against the boxes near a region that all
+/// boxes meet which meet the query. After an `Err` `out` is as before.
 pub(crate) fn push_hits(
     kept: &KeptBoxes,
     alloc: Global,
@@ -28,16 +28,9 @@ pub(crate) fn push_hits(
     match query {
         Query::Region(region) => push_near(kept, alloc, query, region, out),
         Query::Spot(at) => push_near(kept, alloc, query, &flat_box(at), out),
-        Query::Along(_) | Query::Between(_) => kept.boxes().push_found(query, out),
+        Query::Along(ray) => push_near(kept, alloc, query, &ray_box(ray), out),
+        Query::Between(seg) => push_near(kept, alloc, query, &seg_box(seg), out),
     }
-}
-
-// The flat box at a point: what holds the point meets it.
-fn flat_box(at: &Point) -> FBox
-    ensures { (b : Bounds) → holds b at.now ≡ true → meets result b ≡ true }
-{
-    box_laws();
-    FBox::new(*at, *at).unwrap()
 }
 
 // The same, of a query that only boxes meet which meet a region.
@@ -48,12 +41,14 @@ fn push_near(
     region: &FBox,
     out: &mut Vec<u32>,
 ) -> Result<(), NoMemory>
-    requires { (b : Bounds) → query_meets query.now b ≡ true → meets region.now b ≡ true }
+    requires { (b : Bounds) → IsTrue (meets space b) → query_meets query.now b ≡ true → meets region.now b ≡ true }
     ensures ok { OnOk result (out.new.items ≡ out.old.items ++ found kept.now query.now) }
     ensures err { OnErr result (out.new.items ≡ out.old.items) }
 {
+    kept.space_law();
+    let mut places = Vec::new(alloc);
     let mut candidates = Vec::new(alloc);
-    push_all_candidates(kept, region, &mut 0, &mut candidates)?;
+    kept.push_from(0, region, &mut 0, &mut places, &mut candidates)?;
     let mut hits = Vec::new(alloc);
     push_found(kept.boxes(), query, &candidates, &mut hits)?;
     push_rising_slots(&mut hits, out)
@@ -92,8 +87,9 @@ pub(crate) fn push_reach(
     ensures err { OnErr result (out.new.items ≡ out.old.items) }
 {
     let mut looked = 0;
+    let mut places = Vec::new(alloc);
     let mut candidates = Vec::new(alloc);
-    push_all_candidates(kept, body, &mut looked, &mut candidates)?;
+    kept.push_from(0, body, &mut looked, &mut places, &mut candidates)?;
     let mut partners = Vec::new(alloc);
     push_partners(
         kept.boxes(),
@@ -106,19 +102,4 @@ pub(crate) fn push_reach(
     )?;
     push_rising_slots(&mut partners, out)?;
     Ok(u32::try_from(looked).unwrap_or(u32::MAX))
-}
-
-// Appends slots, and among them all whose boxes meet a region.
-fn push_all_candidates(
-    kept: &KeptBoxes,
-    region: &FBox,
-    looked: &mut u64,
-    out: &mut Vec<u32>,
-) -> Result<(), NoMemory>
-    ensures { OnOk result (HasMetBelow kept.now LEVELS region.now out.new.items) }
-{
-    'levels: for level in 0..LEVELS {
-        kept.push_candidates(level, region, looked, out)?;
-    }
-    Ok(())
 }

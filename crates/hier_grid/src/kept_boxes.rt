@@ -1,11 +1,13 @@
-ghost use Rattle.std.specs.Prelude.{◌≡◌, ◌<◌, true, false, Some, IfOk, OnOk};
+ghost use Rattle.std.specs.Prelude.{◌≡◌, ℕ, ◌<◌, true, false, Some, IsTrue, IfOk, OnOk};
 ghost use Rattle.std.specs.FinMap as map;
+ghost use Rattle.fixed_box.specs.Bounds.{Bounds, meets};
 ghost use Rattle.hier_grid.specs.Grid.{AreKeyed};
-ghost use Rattle.hier_grid.specs.Search.{HasMet, HasMore};
+ghost use Rattle.hier_grid.specs.Search.{HasAfter, HasKeyed, HasMet, HasMetIn, HasMore};
+ghost use Rattle.hier_grid.specs.Space.{space};
 
 use crate::cell::cell_of;
 use crate::leveled_boxes::LeveledBoxes;
-use crate::near_cells::{count_beside, push_beside};
+use crate::near_cells::{count_beside, push_after, push_beside, push_cell};
 use crate::slot_boxes::SlotBoxes;
 use cell_table::{CellKey, CellTable, LEVELS};
 use fixed_box::{FBox, NoMemory, SLOTS};
@@ -60,6 +62,14 @@ impl KeptBoxes {
         &self.cells
     }
 
+    /// A law for proofs, with nothing to run: each box lies in space.
+    pub(crate) fn space_law(&self)
+        ensures { (slot : ℕ) (b : Bounds) → map.get self.now slot ≡ Some b → IsTrue (meets space b) }
+    {
+        // what a value keeps is known where it is read
+        let _boxes = &self.boxes;
+    }
+
     /// Puts a box under an absent slot. It takes no memory.
     pub(crate) fn put(&mut self, slot: u32, body: FBox)
         requires small { slot < SLOTS }
@@ -89,13 +99,68 @@ impl KeptBoxes {
         self.boxes.take(slot);
     }
 
-    /// Appends slots, and among them all of a level whose boxes meet a region. Where the region has more cells beside it
-    /// than the level has boxes, each of them is compared, and counted.
-    pub(crate) fn push_candidates(
+    /// Appends the slots in a cell.
+    pub(crate) fn push_in(&self, cell: &CellKey, out: &mut Vec<u32>) -> Result<(), NoMemory>
+        ensures { OnOk result (HasKeyed self.now cell.now out.new.items) }
+    {
+        push_cell(&self.cells, cell, out)?;
+        Ok(())
+    }
+
+    /// Appends slots, and among them all whose boxes meet a box of their own level and lie in cells after its cell. Where
+    /// the level has few boxes those in cells before it are among them too.
+    pub(crate) fn push_after(
+        &self,
+        level: u8,
+        body: &FBox,
+        looked: &mut u64,
+        places: &mut Vec<u32>,
+        out: &mut Vec<u32>,
+    ) -> Result<(), NoMemory>
+        requires { level < LEVELS }
+        ensures { OnOk result (HasAfter self.now level body.now out.new.items) }
+    {
+        if self.has_few(level, body) {
+            self.scan(level, body, looked, places, out)
+        } else {
+            self.push_after_cell(level, body, out)
+        }
+    }
+
+    // Appends the slots of a level in cells beside a region after the cell of its lower corner.
+    fn push_after_cell(&self, level: u8, body: &FBox, out: &mut Vec<u32>) -> Result<(), NoMemory>
+        requires { level < LEVELS }
+        ensures { OnOk result (HasAfter self.now level body.now out.new.items) }
+    {
+        push_after(&self.cells, level, body, out)?;
+        Ok(())
+    }
+
+    /// Appends slots, and among them all whose boxes meet a region and have a level from one on.
+    pub(crate) fn push_from(
+        &self,
+        first: u8,
+        region: &FBox,
+        looked: &mut u64,
+        places: &mut Vec<u32>,
+        out: &mut Vec<u32>,
+    ) -> Result<(), NoMemory>
+        ensures more { OnOk result (HasMore out.old.items out.new.items) }
+        ensures found { OnOk result (HasMetIn self.now first LEVELS region.now out.new.items) }
+    {
+        'levels: for level in first..LEVELS {
+            self.push_candidates(level, region, looked, places, out)?;
+        }
+        Ok(())
+    }
+
+    // Appends slots, and among them all of a level whose boxes meet a region.
+    fn push_candidates(
         &self,
         level: u8,
         region: &FBox,
         looked: &mut u64,
+        places: &mut Vec<u32>,
         out: &mut Vec<u32>,
     ) -> Result<(), NoMemory>
         requires { level < LEVELS }
@@ -106,12 +171,35 @@ impl KeptBoxes {
         if some == 0 {
             return Ok(());
         }
-        if count_beside(level, region) > u64::from(some) {
-            *looked = looked.saturating_add(u64::from(some));
-            self.boxes.scan(level, region, out)
+        if self.has_few(level, region) {
+            self.scan(level, region, looked, places, out)
         } else {
             self.push_from_cells(level, region, out)
         }
+    }
+
+    // Whether a region has more cells of a level beside it than the level has boxes.
+    fn has_few(&self, level: u8, region: &FBox) -> bool
+        requires { level < LEVELS }
+    {
+        count_beside(level, region) > u64::from(self.cells.level_len(level))
+    }
+
+    // Appends the slots of a level whose boxes meet a region. Each box of the level is compared, and counted.
+    fn scan(
+        &self,
+        level: u8,
+        region: &FBox,
+        looked: &mut u64,
+        places: &mut Vec<u32>,
+        out: &mut Vec<u32>,
+    ) -> Result<(), NoMemory>
+        requires { level < LEVELS }
+        ensures more { OnOk result (HasMore out.old.items out.new.items) }
+        ensures found { OnOk result (HasMet self.now level region.now out.new.items) }
+    {
+        *looked = looked.saturating_add(u64::from(self.cells.level_len(level)));
+        self.boxes.scan(level, region, places, out)
     }
 
     // Appends the slots of a level in cells beside a region.

@@ -88,16 +88,21 @@ impl LevelRow {
         moved
     }
 
-    /// Appends the slots whose boxes meet a region.
-    pub(crate) fn push_met(&self, region: &FBox, out: &mut Vec<u32>) -> Result<(), NoMemory>
+    /// Appends the slots whose boxes meet a region. `places` is room for the scan.
+    pub(crate) fn push_met(
+        &self,
+        region: &FBox,
+        places: &mut Vec<u32>,
+        out: &mut Vec<u32>,
+    ) -> Result<(), NoMemory>
         requires { length self.now.boxes < 2 ^ 32 }
         ensures more { OnOk result (HasMore out.old.items out.new.items) }
         ensures found { OnOk result ((place : ℕ) → place < length self.now.boxes → meets region.now (slice_index_or self.now.boxes place blank) ≡ true
             → has_slot out.new.items (slice_index self.now.slots place) ≡ true) }
     {
-        let mut places = Vec::new(*out.allocator());
-        self.columns.scan(region, &mut places)?;
-        push_slots(&self.slots, &places, out)?;
+        places.clear();
+        self.columns.scan(region, places)?;
+        push_slots(&self.slots, places, out)?;
         Ok(())
     }
 }

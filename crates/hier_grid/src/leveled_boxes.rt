@@ -118,12 +118,18 @@ impl LeveledBoxes {
     }
 
     /// Appends the slots of a level whose boxes meet a region, by a scan of the level.
-    pub(crate) fn scan(&self, level: u8, region: &FBox, out: &mut Vec<u32>) -> Result<(), NoMemory>
+    pub(crate) fn scan(
+        &self,
+        level: u8,
+        region: &FBox,
+        places: &mut Vec<u32>,
+        out: &mut Vec<u32>,
+    ) -> Result<(), NoMemory>
         requires { level < LEVELS }
         ensures more { OnOk result (HasMore out.old.items out.new.items) }
         ensures found { OnOk result (HasMet self.now level region.now out.new.items) }
     {
-        self.rows[level as usize].push_met(region, out)?;
+        self.rows[level as usize].push_met(region, places, out)?;
         Ok(())
     }
 }

@@ -11,7 +11,9 @@ mod leveled_boxes;
 mod near_cells;
 mod pair_search;
 mod partners;
+mod regions;
 mod slot_boxes;
+mod space;
 
 pub use grid::HierGrid;
 

@@ -1,6 +1,6 @@
 ghost use Rattle.std.specs.Prelude.{◌≡◌, ℤ, pos, ◌+ℤ◌, ◌-ℤ◌, ◌<◌, ◌≤ℤ◌, ◌<ℤ◌, OnOk};
 ghost use Rattle.cell_table.specs.declared.cell_key.CellKey as key;
-ghost use Rattle.hier_grid.specs.Cells.{cell_at, IsBeside};
+ghost use Rattle.hier_grid.specs.Cells.{cell_at, cell_on, IsAfter, IsBeside};
 ghost use Rattle.hier_grid.specs.Search.{HasCell, HasMore};
 
 use crate::cell::cell_at;
@@ -25,6 +25,25 @@ pub(crate) fn push_beside(
         &end_beside(level, region),
         out,
     )?;
+    Ok(())
+}
+
+/// Appends the slots in those cells beside a region that come after the cell of its lower corner in the order of x, y
+/// and z: about half of them.
+pub(crate) fn push_after(
+    cells: &CellTable,
+    level: u8,
+    region: &FBox,
+    out: &mut Vec<u32>,
+) -> Result<(), NoMemory>
+    requires { level < LEVELS }
+    ensures { OnOk result ((k : key.CellKey) → k.level ≡ level → IsBeside level region.now k
+        → IsAfter k (cell_on level region.now.lo) → HasCell cells.now k out.new.items) }
+{
+    let end = end_beside(level, region);
+    push_row(cells, &after_on_z(level, region), &end, out)?;
+    push_plane(cells, &after_on_y(level, region), &end, out)?;
+    push_block(cells, &after_on_x(level, region), &end, out)?;
     Ok(())
 }
 
@@ -90,7 +109,12 @@ fn push_row(
     Ok(())
 }
 
-fn push_cell(cells: &CellTable, key: &CellKey, out: &mut Vec<u32>) -> Result<(), NoMemory>
+/// Appends the slots in a cell.
+pub(crate) fn push_cell(
+    cells: &CellTable,
+    key: &CellKey,
+    out: &mut Vec<u32>,
+) -> Result<(), NoMemory>
     ensures more { OnOk result (HasMore out.old.items out.new.items) }
     ensures found { OnOk result (HasCell cells.now key.now out.new.items) }
 {
@@ -128,6 +152,57 @@ fn first_beside(level: u8, region: &FBox) -> CellKey
     CellKey {
         level,
         x: cell_before(level, lo.x),
+        y: cell_before(level, lo.y),
+        z: cell_before(level, lo.z),
+    }
+}
+
+// The first cell beside a region that comes after that of its lower corner at the same x and y.
+fn after_on_z(level: u8, region: &FBox) -> CellKey
+    requires { level < LEVELS }
+    ensures level { result.level ≡ level }
+    ensures x { result.x ≡ cell_at level region.now.lo.x }
+    ensures y { result.y ≡ cell_at level region.now.lo.y }
+    ensures z { result.z ≡ (cell_at level region.now.lo.z +ℤ pos 1) }
+{
+    let lo = region.lo();
+    CellKey {
+        level,
+        x: cell_at(level, lo.x),
+        y: cell_at(level, lo.y),
+        z: cell_after(level, lo.z),
+    }
+}
+
+// The same at the same x and a greater y.
+fn after_on_y(level: u8, region: &FBox) -> CellKey
+    requires { level < LEVELS }
+    ensures level { result.level ≡ level }
+    ensures x { result.x ≡ cell_at level region.now.lo.x }
+    ensures y { result.y ≡ (cell_at level region.now.lo.y +ℤ pos 1) }
+    ensures z { result.z ≡ (cell_at level region.now.lo.z -ℤ pos 1) }
+{
+    let lo = region.lo();
+    CellKey {
+        level,
+        x: cell_at(level, lo.x),
+        y: cell_after(level, lo.y),
+        z: cell_before(level, lo.z),
+    }
+}
+
+// The same at a greater x.
+fn after_on_x(level: u8, region: &FBox) -> CellKey
+    requires { level < LEVELS }
+    ensures level { result.level ≡ level }
+    ensures x { result.x ≡ (cell_at level region.now.lo.x +ℤ pos 1) }
+    ensures y { result.y ≡ (cell_at level region.now.lo.y -ℤ pos 1) }
+    ensures z { result.z ≡ (cell_at level region.now.lo.z -ℤ pos 1) }
+{
+    let lo = region.lo();
+    CellKey {
+        level,
+        x: cell_after(level, lo.x),
         y: cell_before(level, lo.y),
         z: cell_before(level, lo.z),
     }

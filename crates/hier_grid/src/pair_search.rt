@@ -2,8 +2,11 @@ ghost use Rattle.std.specs.Prelude.{◌≡◌, ◌<◌, Some, OnOk};
 ghost use Rattle.std.specs.FinMap as map;
 ghost use Rattle.broad_index.specs.Members.{has_pair, is_near};
 ghost use Rattle.broad_index.specs.declared.pair.Pair as pair;
-ghost use Rattle.hier_grid.specs.Search.{IsSound, HasPairs, FindsAt, FindsBelow, FindsFor};
+ghost use Rattle.fixed_box.specs.Bounds.{level_of};
+ghost use Rattle.hier_grid.specs.Search.{AreReached, HasMore, HasDue, HasOthers};
+ghost use Rattle.hier_grid.specs.Search.{IsSound, HasPairs, FindsFrom, FindsFor};
 
+use crate::cell::cell_of;
 use crate::kept_boxes::KeptBoxes;
 use crate::partners::push_partners;
 use broad_index::{Pair, push_ordered_pairs};
@@ -16,6 +19,7 @@ use std::alloc::Global;
 pub(crate) struct Findings {
     pub(crate) pairs: Vec<Pair>,
     candidates: Vec<u32>,
+    places: Vec<u32>,
     partners: Vec<u32>,
 }
 
@@ -25,6 +29,7 @@ impl Findings {
         Findings {
             pairs: Vec::new(alloc),
             candidates: Vec::new(alloc),
+            places: Vec::new(alloc),
             partners: Vec::new(alloc),
         }
     }
@@ -64,7 +69,7 @@ fn find_for(
     Ok(())
 }
 
-// Finds the pairs of a slot with its partners, at the level of its box and at those above it.
+// Finds the pairs of a slot with those partners that it is to find.
 fn find_from(
     kept: &KeptBoxes,
     slot: u32,
@@ -76,44 +81,82 @@ fn find_from(
     requires sound { IsSound kept.now found.old.pairs.items }
     ensures sound { OnOk result (IsSound kept.now found.new.pairs.items) }
     ensures more { OnOk result (HasPairs found.old.pairs.items found.new.pairs.items) }
-    ensures found { OnOk result (FindsBelow kept.now slot body.now LEVELS found.new.pairs.items) }
+    ensures found { OnOk result (FindsFrom kept.now slot body.now found.new.pairs.items) }
 {
-    let own = body.level();
-    'levels: for level in own..LEVELS {
-        find_at(kept, slot, body, level > own, level, looked, found)?;
-    }
+    find_partners(kept, slot, body, looked, found)?;
+    push_ordered_pairs(slot, &found.partners, &mut found.pairs)?;
     Ok(())
 }
 
-// Finds the pairs of a slot with its partners of one level.
-fn find_at(
+// Finds those partners of a slot whose pairs with it are found from it.
+fn find_partners(
     kept: &KeptBoxes,
     slot: u32,
     body: &FBox,
-    higher: bool,
-    level: u8,
     looked: &mut u64,
     found: &mut Findings,
 ) -> Result<(), NoMemory>
-    requires own { map.get kept.now slot ≡ Some body.now }
-    requires level { level < LEVELS }
-    requires sound { IsSound kept.now found.old.pairs.items }
-    ensures sound { OnOk result (IsSound kept.now found.new.pairs.items) }
-    ensures more { OnOk result (HasPairs found.old.pairs.items found.new.pairs.items) }
-    ensures found { OnOk result (FindsAt kept.now slot body.now higher level found.new.pairs.items) }
+    ensures pairs { found.new.pairs.items ≡ found.old.pairs.items }
+    ensures right { OnOk result (AreReached kept.now slot body.now found.new.partners.items) }
+    ensures found { OnOk result (HasDue kept.now slot body.now found.new.partners.items) }
 {
+    let own = cell_of(body);
     found.candidates.clear();
-    kept.push_candidates(level, body, looked, &mut found.candidates)?;
+    kept.push_in(&own, &mut found.candidates)?;
     found.partners.clear();
     push_partners(
         kept.boxes(),
         slot,
         body,
-        higher,
+        false,
         &found.candidates,
         looked,
         &mut found.partners,
     )?;
-    push_ordered_pairs(slot, &found.partners, &mut found.pairs)?;
+    push_others(kept, slot, body, own.level, looked, found)?;
+    Ok(())
+}
+
+// Appends a slot's partners in later cells of its level and at the levels above it.
+fn push_others(
+    kept: &KeptBoxes,
+    slot: u32,
+    body: &FBox,
+    level: u8,
+    looked: &mut u64,
+    found: &mut Findings,
+) -> Result<(), NoMemory>
+    requires low { level < LEVELS }
+    requires level { level ≡ level_of body.now }
+    requires right { AreReached kept.now slot body.now found.old.partners.items }
+    ensures pairs { found.new.pairs.items ≡ found.old.pairs.items }
+    ensures right { OnOk result (AreReached kept.now slot body.now found.new.partners.items) }
+    ensures more { OnOk result (HasMore found.old.partners.items found.new.partners.items) }
+    ensures found { OnOk result (HasOthers kept.now slot body.now found.new.partners.items) }
+{
+    found.candidates.clear();
+    kept.push_after(
+        level,
+        body,
+        looked,
+        &mut found.places,
+        &mut found.candidates,
+    )?;
+    kept.push_from(
+        level + 1,
+        body,
+        looked,
+        &mut found.places,
+        &mut found.candidates,
+    )?;
+    push_partners(
+        kept.boxes(),
+        slot,
+        body,
+        true,
+        &found.candidates,
+        looked,
+        &mut found.partners,
+    )?;
     Ok(())
 }

@@ -4,21 +4,22 @@ ghost use Rattle.hier_grid.specs.Search.{is_partner};
 use crate::slot_boxes::SlotBoxes;
 use fixed_box::{FBox, NoMemory};
 
-/// Appends a slot's partners among others, each of which is compared, and counted, if its slot may be a partner's.
+/// Appends a slot's partners among others, either any or those with higher slots alone. Each one that may be a partner is
+/// compared, and counted.
 pub(crate) fn push_partners(
     boxes: &SlotBoxes,
     slot: u32,
     body: &FBox,
-    higher: bool,
+    any: bool,
     slots: &[u32],
     looked: &mut u64,
     out: &mut Vec<u32>,
 ) -> Result<(), NoMemory>
-    ensures { OnOk result (out.new.items ≡ out.old.items ++ filter (is_partner boxes.now slot body.now higher) slots.now) }
+    ensures { OnOk result (out.new.items ≡ out.old.items ++ filter (is_partner boxes.now slot body.now any) slots.now) }
 {
     let mut rest = slots;
     'slots: while let [other, more @ ..] = rest {
-        if is_partner(boxes, slot, body, higher, *other, looked) {
+        if is_partner(boxes, slot, body, any, *other, looked) {
             out.push(*other)?;
         }
         rest = more;
@@ -31,13 +32,13 @@ fn is_partner(
     boxes: &SlotBoxes,
     slot: u32,
     body: &FBox,
-    higher: bool,
+    any: bool,
     other: u32,
     looked: &mut u64,
 ) -> bool
-    ensures { result ≡ is_partner boxes.now slot body.now higher other }
+    ensures { result ≡ is_partner boxes.now slot body.now any other }
 {
-    if other == slot || (!higher && other < slot) {
+    if other == slot || (!any && other < slot) {
         return false;
     }
     *looked = looked.saturating_add(1);

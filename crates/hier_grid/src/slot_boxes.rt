@@ -1,8 +1,7 @@
-ghost use Rattle.std.specs.Prelude.{◌≡◌, ℕ, ◌<◌, ◌≤◌, ◌++◌, true, false, None, IfOk, OnOk, OnErr, length, take, vec_len};
+ghost use Rattle.std.specs.Prelude.{◌≡◌, ℕ, ◌<◌, ◌≤◌, true, false, None, IfOk, length};
 ghost use Rattle.std.specs.Prelude.{All, map as mapped, slice_index_or};
 ghost use Rattle.std.specs.FinMap as map;
-ghost use Rattle.broad_index.specs.Found.{found, found_of};
-ghost use Rattle.broad_index.specs.Members.{is_found, meets_query};
+ghost use Rattle.broad_index.specs.Members.{is_found};
 ghost use Rattle.fixed_box.specs.SlotMap.{entries_from};
 ghost use Rattle.hier_grid.specs.Search.{meets_at, present};
 
@@ -109,19 +108,6 @@ impl SlotBoxes {
         self.boxes[slot as usize] = None;
     }
 
-    /// Appends the present slots whose boxes meet a query, rising. It tests each box. After an `Err` `out` is as before.
-    pub(crate) fn push_found(&self, query: &Query, out: &mut Vec<u32>) -> Result<(), NoMemory>
-        ensures ok { OnOk result (out.new.items ≡ out.old.items ++ found self.now query.now) }
-        ensures err { OnErr result (out.new.items ≡ out.old.items) }
-    {
-        let before = out.len();
-        let pushed = push_met(&self.boxes, query, out);
-        if pushed.is_err() {
-            out.truncate(before);
-        }
-        pushed
-    }
-
     /// The present slots, rising.
     pub(crate) fn present(&self, alloc: Global) -> Result<Vec<u32>, NoMemory>
         ensures slots { IfOk result (λ slots. slots.items ≡ present self.now) }
@@ -143,33 +129,6 @@ fn no_boxes(alloc: Global) -> Result<Vec<Option<FBox>>, NoMemory>
         boxes.push(None)?;
     }
     Ok(boxes)
-}
-
-// Appends the slots whose boxes meet a query. What was there stays, after an `Err` too.
-fn push_met(boxes: &[Option<FBox>], query: &Query, out: &mut Vec<u32>) -> Result<(), NoMemory>
-    requires { length boxes.now ≡ SLOTS }
-    ensures ok { OnOk result (out.new.items ≡ out.old.items ++ found_of (entries_from 0 boxes.now) query.now) }
-    ensures kept { take (vec_len out.old) out.new.items ≡ out.old.items }
-{
-    let mut rest = boxes;
-    let mut slot = 0;
-    'slots: while let [body, more @ ..] = rest {
-        if is_met(body, query) {
-            out.push(slot)?;
-        }
-        slot += 1;
-        rest = more;
-    }
-    Ok(())
-}
-
-fn is_met(body: &Option<FBox>, query: &Query) -> bool
-    ensures { result ≡ meets_query query.now body.now }
-{
-    match body {
-        Some(body) => query.meets(body),
-        None => false,
-    }
 }
 
 // The slots that have boxes.

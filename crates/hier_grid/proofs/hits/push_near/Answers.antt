@@ -1,7 +1,7 @@
 -- All boxes that meet the query are candidates.
 use Rattle.std.proofs.Common.{◌≡◌, ap, sym, ◌∙◌, filter, subst, rules}
 use Rattle.broad_index.specs.Members.{has_slot, is_found}
-use Rattle.hier_grid.specs.Search.{HasMetBelow}
+use Rattle.hier_grid.specs.Search.{HasMetIn}
 use Rattle.hier_grid.proofs.HitLemmas.{hits_among}
 use Rattle.hier_grid.proofs.hits.push_near.Goals as goal
 
@@ -10,7 +10,7 @@ returns-clause-ok c =
     let kept = c.args.kept.now in
     let slots = c.deref.result.now in
     let is : c.push_found.new.out.items ≡ filter (is_found kept c.args.query.now) slots = search rules in
-    let met : HasMetBelow kept 11 c.args.region.now slots =
-    subst (HasMetBelow kept 11 c.args.region.now) (sym c.deref.ensures.value) c.in_ok-push_all_candidates.ensures in
+    let met : HasMetIn kept 0 11 c.args.region.now slots =
+    subst (HasMetIn kept 0 11 c.args.region.now) (sym c.deref.ensures.value) c.in_ok-push_from.ensures.found in
     c.push_rising_slots.ensures.found kept c.args.query.now
-    (λ k. ap (λ l. has_slot l k) is ∙ hits_among kept c.args.query.now c.args.region.now slots c.requires met k)
+    (λ k. ap (λ l. has_slot l k) is ∙ hits_among kept c.args.query.now c.args.region.now slots c.space_law.ensures c.requires met k)

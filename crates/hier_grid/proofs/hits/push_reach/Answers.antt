@@ -1,7 +1,7 @@
 -- All boxes that meet the body are candidates.
 use Rattle.std.proofs.Common.{◌≡◌, ap, sym, ◌∙◌, filter, subst, rules, true}
 use Rattle.broad_index.specs.Members.{has_slot}
-use Rattle.hier_grid.specs.Search.{HasMetBelow, is_partner}
+use Rattle.hier_grid.specs.Search.{HasMetIn, is_partner}
 use Rattle.hier_grid.proofs.HitLemmas.{reach_among}
 use Rattle.hier_grid.proofs.hits.push_reach.Goals as goal
 
@@ -10,7 +10,7 @@ returns-clause-ok c =
     let kept = c.args.kept.now in
     let slots = c.deref.result.now in
     let is : c.push_partners.new.out.items ≡ filter (is_partner kept c.args.slot c.args.body.now true) slots = search rules in
-    let met : HasMetBelow kept 11 c.args.body.now slots =
-    subst (HasMetBelow kept 11 c.args.body.now) (sym c.deref.ensures.value) c.in_ok-push_all_candidates.ensures in
+    let met : HasMetIn kept 0 11 c.args.body.now slots =
+    subst (HasMetIn kept 0 11 c.args.body.now) (sym c.deref.ensures.value) c.in_ok-push_from.ensures.found in
     c.in_ok-push_rising_slots.ensures.reach kept c.args.slot
     (λ k. ap (λ l. has_slot l k) is ∙ reach_among kept c.args.slot c.args.body.now slots c.requires met k)

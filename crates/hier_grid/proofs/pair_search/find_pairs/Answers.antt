@@ -11,9 +11,9 @@ use Rattle.hier_grid.proofs.pair_search.find_pairs.Goals as goal
 pub slots-preserved : goal.slots-preserved
 slots-preserved c = record {
   sound = c.in_ok-find_for.ensures.sound;
-  found = λ s lt body own level lo le q b e at t. elim (nat_next s c.slots.slot lt) as (λ _. has_pair c.find_for.new.found.pairs.items (ordered s q) ≡ true) [
-    | inl below ↦ c.in_ok-find_for.ensures.more (ordered s q) (c.slots.invariant.found s below body own level lo le q b e at t)
-    | inr is ↦ subst (λ n. FindsFor c.args.kept.now n c.find_for.new.found.pairs.items) (sym is) c.in_ok-find_for.ensures.found body own level lo le q b e at t
+  found = λ s lt body own q b e m other due. elim (nat_next s c.slots.slot lt) as (λ _. has_pair c.find_for.new.found.pairs.items (ordered s q) ≡ true) [
+    | inl below ↦ c.in_ok-find_for.ensures.more (ordered s q) (c.slots.invariant.found s below body own q b e m other due)
+    | inr is ↦ subst (λ n. FindsFor c.args.kept.now n c.find_for.new.found.pairs.items) (sym is) c.in_ok-find_for.ensures.found body own q b e m other due
   ];
 }
 

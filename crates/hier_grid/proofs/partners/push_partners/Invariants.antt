@@ -6,7 +6,7 @@ use Rattle.hier_grid.proofs.partners.push_partners.Given as goal
 
 abbrev pub invariant-slots : goal.invariant-slots
 invariant-slots l =
-    l.out.items ++ filter (is_partner l.boxes l.slot l.body l.higher) l.rest ≡ l.fn.out.items ++ filter (is_partner l.boxes l.slot l.body l.higher) l.slots
+    l.out.items ++ filter (is_partner l.boxes l.slot l.body l.any) l.rest ≡ l.fn.out.items ++ filter (is_partner l.boxes l.slot l.body l.any) l.slots
 
 abbrev pub decreases-slots : goal.decreases-slots
 decreases-slots l = length l.rest

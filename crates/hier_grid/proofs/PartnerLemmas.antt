@@ -1,0 +1,43 @@
+-- A slot's partners among candidates.
+use Rattle.std.proofs.Common.{◌≡◌, ℕ, ◌<◌, Bool, true, false, not, ◌&&◌, ◌||◌, ◌==◌, nat_lt, List, ◌++◌, Some, refl, sym, ap, ◌∙◌, arith, inl, inr}
+use Rattle.std.specs.List.{filter}
+use Rattle.std.proofs.lemmas.Bool.{and_parts, and_from, or_cases}
+use Rattle.std.proofs.lemmas.Bool.Decides.{nat_tests}
+use Rattle.std.proofs.lemmas.List.Folds.{list_any-append}
+use Rattle.std.specs.Ordering.{nat_cmp}
+use Rattle.std.specs.FinMap.{FinMap, get}
+use Rattle.fixed_box.specs.Bounds.{Bounds, meets}
+use Rattle.broad_index.specs.Members.{has_slot, both_meet}
+use Rattle.hier_grid.specs.Search.{meets_at, is_partner, AreReached}
+use Rattle.hier_grid.proofs.SlotLemmas.{has_filtered, more_right}
+
+any_partner : (bodies : FinMap nat_cmp Bounds) (slot : ℕ) (body : Bounds) (any : Bool) (q : ℕ) → is_partner bodies slot body any q ≡ true
+    → is_partner bodies slot body true q ≡ true
+any_partner bodies slot body any q h =
+    let r = and_parts (not (q == slot) && (any || nat_lt slot q)) (meets_at bodies body q) h in
+    let other = and_parts (not (q == slot)) (any || nat_lt slot q) r.0 in
+    and_from (not (q == slot) && true) (meets_at bodies body q) (and_from (not (q == slot)) true other.0 refl) r.1
+
+-- those that are appended are partners
+pub reached_more : (bodies : FinMap nat_cmp Bounds) (slot : ℕ) (body : Bounds) (any : Bool) (slots old : List ℕ) → AreReached bodies slot body old
+    → AreReached bodies slot body (old ++ filter (is_partner bodies slot body any) slots)
+reached_more bodies slot body any slots old right q h =
+    let new = filter (is_partner bodies slot body any) slots in
+    elim (or_cases (has_slot old q) (has_slot new q) (sym (list_any-append (λ x. q == x) old new) ∙ h)) as (λ _. is_partner bodies slot body true q ≡ true) [
+      | inl e ↦ right q e
+      | inr e ↦ any_partner bodies slot body any q
+          (and_parts (has_slot slots q) (is_partner bodies slot body any q) (sym (has_filtered (is_partner bodies slot body any) slots q) ∙ e)).1
+    ]
+
+-- a partner among the candidates is appended
+pub partner_in : (bodies : FinMap nat_cmp Bounds) (slot : ℕ) (body : Bounds) (any : Bool) (slots old : List ℕ) (q : ℕ) (b : Bounds) → get bodies q ≡ Some b
+    → meets body b ≡ true → not (q == slot) ≡ true → (any || nat_lt slot q) ≡ true → has_slot slots q ≡ true
+    → has_slot (old ++ filter (is_partner bodies slot body any) slots) q ≡ true
+partner_in bodies slot body any slots old q b e m other due h =
+    let p = is_partner bodies slot body any in
+    let t : p q ≡ true = and_from (not (q == slot) && (any || nat_lt slot q)) (meets_at bodies body q)
+    (and_from (not (q == slot)) (any || nat_lt slot q) other due) (ap (both_meet (Some body)) e ∙ m) in
+    more_right old (filter p slots) q (has_filtered p slots q ∙ and_from (has_slot slots q) (p q) h t)
+
+pub higher : (s q : ℕ) → s < q → (false || nat_lt s q) ≡ true
+higher s q lt = grind (arith, nat_tests)
