@@ -1,6 +1,6 @@
 -- The steps of a descent with a query.
-use Rattle.std.proofs.Common.{◌≡◌, ℕ, ◌+◌, ◌<◌, ◌≤◌, max, true, false, cond, Option, None, Some, List, [], ◌∷◌, ◌++◌}
-use Rattle.std.proofs.Common.{map, length, get_or, length-append, append_assoc, refl, sym, ap, ◌∙◌, subst, arith, ⊎_elim}
+use Rattle.std.proofs.Common.{◌≡◌, ℕ, ◌+◌, ◌≤◌, max, true, false, cond, Option, None, Some, List, [], ◌∷◌, ◌++◌}
+use Rattle.std.proofs.Common.{is_some, option_to_list, map, length, get_or, length-append, append_assoc, refl, sym, ap, ◌∙◌, subst, arith, ⊎_elim}
 use Rattle.std.specs.List.{filter}
 use Rattle.std.proofs.lemmas.List.{same_from_push, append-nil, length_push, map-append}
 use Rattle.std.proofs.lemmas.List.Elements.{filter-append}
@@ -9,9 +9,10 @@ use Rattle.broad_index.specs.declared.query.Query.{Query}
 use Rattle.broad_index.specs.Found.{query_meets, found_of}
 use Rattle.broad_index.specs.Members.{meets_query}
 use Rattle.tree_nodes.specs.declared.node_view.NodeView.{NodeView}
+use Rattle.tree_nodes.specs.declared.node_view.NodeView.TheVariants.{Leaf as LeafNode, Inner}
 use Rattle.tree_nodes.specs.Tree.{Tree, tip, fork, top, leaves, Leaf, height, bounds, view_of, view_in, IsTree, Balanced, Within}
-use Rattle.box_tree.specs.Descent.{visits_by, visits_by_in, entry_of, exact, exact_in, IsInside, IsNodeInside, all_leaves, all_visits, tops}
-use Rattle.box_tree.specs.Descent.{AreLow, AllWithin, Stands, Popped, Laws, found_at, next_at}
+use Rattle.box_tree.specs.Descent.{visits_by, visits_by_in, entry_of, exact, exact_in, IsInside, IsLeafInside, all_leaves, owed, all_owed, tops}
+use Rattle.box_tree.specs.Descent.{Wait, Stands, Popped, Laws, met_at, found_at}
 
 pub found_append : (q : Query) (es fs : List (ℕ × Bounds)) → found_of (es ++ fs) q ≡ found_of es q ++ found_of fs q
 found_append q es fs =
@@ -65,19 +66,62 @@ module _ (bodies : List (Option Bounds)) where
       inside_within (fork n h k l r) u inside x =
           ⊎_elim (λ e. subst (IsInside bodies) (sym e) inside) (λ v. ⊎_elim (inside_within l u inside.0) (inside_within r u inside.1) v) x
 
+      -- and no node is looked at
+      none_owed : (t : Tree) → query_meets q (bounds t) ≡ false → owed t q ≡ 0
+      none_owed (tip n s f) out = refl
+      none_owed (fork n h k l r) out = ap (λ m. cond m (visits_by l q + visits_by r q) 0) out
+
+      owed_of : (u : Tree) → visits_by u q ≡ 1 + owed u q
+      owed_of (tip n s f) = refl
+      owed_of (fork n h k l r) = refl
+
+      met_top : (o : Option Tree) (u : Tree) → view_in o (top u) ≡ Some (view_of u)
+          → met_at q (view_in o (top u)) (top u) ≡ cond (query_meets q (bounds u)) (top u ∷ []) []
+      met_top o (tip n s f) e = ap (λ v. met_at q v n) e
+      met_top o (fork n h k l r) e = ap (λ v. met_at q v n) e
+
+      -- a tree waits where it is met
+      onto : (t : Tree) (stack : List ℕ) (us : List Tree) (u : Tree) → Wait q t stack us → height u + length us ≤ 18 → Within t u → Balanced u
+          → IsInside bodies u → (vs : List Tree) × Wait q t (stack ++ cond (query_meets q (bounds u)) (top u ∷ []) []) vs
+          × (met (all_leaves vs) ≡ met (leaves u) ++ met (all_leaves us)) × (all_owed vs q ≡ owed u q + all_owed us q) × (length vs ≤ length us + 1)
+      onto t stack us u s low here bal inside =
+          elim (query_meets q (bounds u)) as
+          (λ m. query_meets q (bounds u) ≡ m → (vs : List Tree) × Wait q t (stack ++ cond m (top u ∷ []) []) vs
+          × (met (all_leaves vs) ≡ met (leaves u) ++ met (all_leaves us)) × (all_owed vs q ≡ owed u q + all_owed us q) × (length vs ≤ length us + 1)) [
+            | true ↦ λ m. (
+              u ∷ us,
+              record {
+                stack_is = ap (λ xs. xs ++ top u ∷ []) s.stack_is;
+                low = (low, s.low);
+                within = (here, s.within);
+                met = (m, s.met);
+              },
+              met_append (leaves u) (all_leaves us),
+              refl,
+              omega arith,
+            )
+            | false ↦ λ m. (
+              us,
+              record { stack_is = append-nil stack ∙ s.stack_is; low = s.low; within = s.within; met = s.met },
+              sym (ap (λ xs. xs ++ met (all_leaves us)) (none_met u bal inside m)),
+              (let e = none_owed u m in omega arith),
+              omega arith,
+            )
+          ] refl
+
       -- the next tree comes off the stack
-      pub popped : (o : Option Tree) (stack rest before now : List ℕ) (at count : ℕ) → Stands o bodies q stack before now count → stack ≡ rest ++ at ∷ []
+      popped : (o : Option Tree) (rest before now : List ℕ) (at count : ℕ) → Stands o bodies q (rest ++ at ∷ []) before now count
           → Popped o bodies q rest at before now count
-      popped o stack rest before now at count s e = by_list s.us s.stack_is s.low s.within s.found_is s.count_is
+      popped o rest before now at count s = by_list s.us s.wait s.found_is s.count_is
         where
-          by_list : (us : List Tree) → stack ≡ tops us → AreLow us → AllWithin s.t us → now ++ met (all_leaves us) ≡ before ++ met (leaves s.t)
-              → count + all_visits us q ≡ visits_by s.t q → Popped o bodies q rest at before now count
-          by_list [] st low wi fo co =
-              let len : length (rest ++ at ∷ []) ≡ 0 = ap length (sym e ∙ st) in
+          by_list : (us : List Tree) → Wait q s.t (rest ++ at ∷ []) us → now ++ met (all_leaves us) ≡ before ++ met (leaves s.t)
+              → count + all_owed us q ≡ visits_by s.t q → Popped o bodies q rest at before now count
+          by_list [] wa fo co =
+              let len : length (rest ++ at ∷ []) ≡ 0 = ap length wa.stack_is in
               let l = length_push rest at in
               absurd (omega arith)
-          by_list (u ∷ us) st low wi fo co =
-              let p = same_from_push rest (tops us) at (top u) (sym e ∙ st) in
+          by_list (u ∷ us) wa fo co =
+              let p = same_from_push rest (tops us) at (top u) wa.stack_is in
               record {
                 t = s.t;
                 u = u;
@@ -86,122 +130,17 @@ module _ (bodies : List (Option Bounds)) where
                 is_tree = s.is_tree;
                 inside = s.inside;
                 at_is = p.1;
-                rest_is = p.0;
-                low_here = low.0;
-                low = low.1;
-                here = wi.0;
-                within = wi.1;
+                wait = record { stack_is = p.0; low = wa.low.1; within = wa.within.1; met = wa.met.1 };
+                low_here = wa.low.0;
+                here = wa.within.0;
+                met_here = wa.met.0;
                 found_is = fo;
                 count_is = co;
               }
 
-      pub popped_shown : (o : Option Tree) (rest before now : List ℕ) (at count : ℕ) → (p : Popped o bodies q rest at before now count)
+      popped_shown : (o : Option Tree) (rest before now : List ℕ) (at count : ℕ) → (p : Popped o bodies q rest at before now count)
           → view_in o at ≡ Some (view_of p.u)
       popped_shown o rest before now at count p = rw (p.is, p.at_is) (w.shown p.t p.u p.here p.is_tree.apart)
-
-      node_inside : (u : Tree) → IsInside bodies u → IsNodeInside bodies (view_of u)
-      node_inside (tip n s f) i = i
-      node_inside (fork n h k l r) i = tt
-
-      pub popped_inside : (o : Option Tree) (rest before now : List ℕ) (at count : ℕ) (v : NodeView) → Popped o bodies q rest at before now count
-          → view_in o at ≡ Some v → IsNodeInside bodies v
-      popped_inside o rest before now at count v p e =
-          let s = popped_shown o rest before now at count p in
-          let same : view_of p.u ≡ v = cc in
-          subst (IsNodeInside bodies) same (node_inside p.u (inside_within p.t p.u p.inside p.here))
-
-      -- one node more
-      pub looked_on : (o : Option Tree) (rest before now : List ℕ) (at count : ℕ) (v : NodeView) → Popped o bodies q rest at before now count
-          → view_in o at ≡ Some v → Stands o bodies q (rest ++ next_at q v) before (now ++ found_at bodies q v) (count + 1)
-      looked_on o rest before now at count v p e =
-          let same : view_of p.u ≡ v = let s = popped_shown o rest before now at count p in cc in
-          subst (λ v. Stands o bodies q (rest ++ next_at q v) before (now ++ found_at bodies q v) (count + 1)) same
-          (by_tree p.u (w.within p.t p.u p.here p.is_tree.balanced) (inside_within p.t p.u p.inside p.here) p.low_here p.here p.found_is p.count_is)
-        where
-          by_tree : (u : Tree) → Balanced u → IsInside bodies u → height u + length p.us ≤ 18 → Within p.t u
-              → now ++ met (leaves u ++ all_leaves p.us) ≡ before ++ met (leaves p.t) → count + (visits_by u q + all_visits p.us q) ≡ visits_by p.t q
-              → Stands o bodies q (rest ++ next_at q (view_of u)) before (now ++ found_at bodies q (view_of u)) (count + 1)
-          by_tree (tip n s f) bal inside low here fo co =
-              let x : Leaf = record { node = n; slot = s; fat = f } in
-              let at_leaf : List ℕ = cond (meets_query q (get_or bodies s None)) (s ∷ []) [] in
-              record {
-                t = p.t;
-                us = p.us;
-                is = p.is;
-                is_tree = p.is_tree;
-                inside = p.inside;
-                stack_is = append-nil rest ∙ p.rest_is;
-                low = p.low;
-                within = p.within;
-                found_is = append_assoc now at_leaf (met (all_leaves p.us)) ∙ ap (λ xs. now ++ xs) (sym (first_met x (all_leaves p.us))) ∙ fo;
-                count_is = omega arith;
-              }
-          by_tree (fork n h k l r) bal inside low here fo co =
-              let parted : now ++ (met (leaves l ++ leaves r) ++ met (all_leaves p.us)) ≡ before ++ met (leaves p.t) =
-              ap (λ xs. now ++ xs) (sym (met_append (leaves l ++ leaves r) (all_leaves p.us))) ∙ fo in
-              elim (query_meets q h) as
-              (λ m. query_meets q h ≡ m → count + ((1 + cond m (visits_by l q + visits_by r q) 0) + all_visits p.us q) ≡ visits_by p.t q
-              → Stands o bodies q (rest ++ cond m (top r ∷ top l ∷ []) []) before (now ++ []) (count + 1)) [
-                | true ↦ λ m co.
-                    let kk : k ≡ 1 + max (height l) (height r) = bal.0.height_is in
-                    let c = w.children n k h l r in
-                    record {
-                      t = p.t;
-                      us = l ∷ r ∷ p.us;
-                      is = p.is;
-                      is_tree = p.is_tree;
-                      inside = p.inside;
-                      stack_is = sym (append_assoc rest (top r ∷ []) (top l ∷ [])) ∙ ap (λ xs. (xs ++ top r ∷ []) ++ top l ∷ []) p.rest_is;
-                      low = (grind (arith), (grind (arith), p.low));
-                      within = (w.deeper p.t (fork n h k l r) l here c.0, (w.deeper p.t (fork n h k l r) r here c.1, p.within));
-                      found_is = rw (append-nil now) (ap (λ xs. now ++ met xs) (sym (append_assoc (leaves l) (leaves r) (all_leaves p.us))) ∙ fo);
-                      count_is = omega arith;
-                    }
-                | false ↦ λ m co.
-                    let none : met (leaves l ++ leaves r) ≡ [] = none_met (fork n h k l r) bal inside m in
-                    record {
-                      t = p.t;
-                      us = p.us;
-                      is = p.is;
-                      is_tree = p.is_tree;
-                      inside = p.inside;
-                      stack_is = append-nil rest ∙ p.rest_is;
-                      low = p.low;
-                      within = p.within;
-                      found_is = ap (λ xs. xs ++ met (all_leaves p.us)) (append-nil now)
-                          ∙ (ap (λ xs. now ++ (xs ++ met (all_leaves p.us))) (sym none) ∙ parted);
-                      count_is = omega arith;
-                    }
-              ] refl co
-
-      -- the start
-      pub begun : (o : Option Tree) (stack before : List ℕ) (root : ℕ) (t : Tree) → o ≡ Some t → root ≡ top t → IsTree t → IsInside bodies t
-          → stack ≡ root ∷ [] → Stands o bodies q stack before before 0
-      begun o stack before root t is at is_tree inside e = record {
-        t = t;
-        us = t ∷ [];
-        is = is;
-        is_tree = is_tree;
-        inside = inside;
-        stack_is = e ∙ ap (λ x. x ∷ []) at;
-        low = (let l = is_tree.low in omega arith, tt);
-        within = (w.itself t, tt);
-        found_is = ap (λ xs. before ++ met xs) (append-nil (leaves t));
-        count_is = omega arith;
-      }
-
-      -- the end
-      pub done_ok : (o : Option Tree) (stack before now : List ℕ) (count : ℕ) → Stands o bodies q stack before now count → stack ≡ []
-          → (now ≡ before ++ found_of (exact_in bodies o) q) × (count ≡ visits_by_in o q)
-      done_ok o stack before now count s e = by_list s.us s.stack_is s.found_is s.count_is
-        where
-          by_list : (us : List Tree) → stack ≡ tops us → now ++ met (all_leaves us) ≡ before ++ met (leaves s.t)
-              → count + all_visits us q ≡ visits_by s.t q → (now ≡ before ++ found_of (exact_in bodies o) q) × (count ≡ visits_by_in o q)
-          by_list [] st fo co = rw s.is (sym (append-nil now) ∙ fo, omega arith)
-          by_list (u ∷ us) st fo co =
-              let len : length (tops us ++ top u ∷ []) ≡ 0 = ap length (sym st ∙ e) in
-              let l = length_push (tops us) (top u) in
-              absurd (omega arith)
 
       few_visits : (t : Tree) → (1 ≤ visits_by t q) × (visits_by t q + 1 ≤ length (leaves t) + length (leaves t))
       few_visits (tip n s b) = (omega arith, omega arith)
@@ -216,17 +155,146 @@ module _ (bodies : List (Option Bounds)) where
             | false ↦ (omega arith, omega arith)
           ]
 
-      -- how far the count is
-      pub count_low : (o : Option Tree) (rest before now : List ℕ) (at count : ℕ) → Popped o bodies q rest at before now count
-          → (count < visits_by_in o q) × (visits_by_in o q ≤ 16383) × (length rest ≤ 18)
-      count_low o rest before now at count p =
-          let here = few_visits p.u in
-          let all = few_visits p.t in
-          let few = p.is_tree.few in
-          let co = p.count_is in
-          let lo = p.low_here in
-          rw p.is (omega arith, omega arith, rw p.rest_is (let l = length_tops p.us in omega arith))
+      length_tops : (us : List Tree) → length (tops us) ≡ length us
+      length_tops [] = refl
+      length_tops (u ∷ us) = length_push (tops us) (top u) ∙ (let l = length_tops us in omega arith)
+
+      pub fewer : (rest : List ℕ) (a b : Option NodeView) (m n : ℕ) → length ((rest ++ met_at q a m) ++ met_at q b n) ≤ length rest + 2
+      fewer rest a b m n =
+          let both = length-append (rest ++ met_at q a m) (met_at q b n) in
+          let one = length-append rest (met_at q a m) in
+          let la = short a m in
+          let lb = short b n in
+          omega arith
         where
-          length_tops : (us : List Tree) → length (tops us) ≡ length us
-          length_tops [] = refl
-          length_tops (u ∷ us) = length_push (tops us) (top u) ∙ (let l = length_tops us in omega arith)
+          short : (o : Option NodeView) (m : ℕ) → length (met_at q o m) ≤ 1
+          short None m = omega arith
+          short (Some (LeafNode slot fat)) m = elim (query_meets q fat) as (λ x. length (cond x (m ∷ []) []) ≤ 1) [ true ↦ omega arith | false ↦ omega arith ]
+          short (Some (Inner left right h k)) m = elim (query_meets q h) as (λ x. length (cond x (m ∷ []) []) ≤ 1) [ true ↦ omega arith | false ↦ omega arith ]
+
+      -- where a descent stands after a leaf, and after an inner node
+      abbrev pub After : Option Tree → List ℕ → List ℕ → List ℕ → ℕ → NodeView → Type 0
+      After o rest before now count (LeafNode slot fat) =
+          IsLeafInside bodies slot fat × Stands o bodies q rest before (now ++ found_at bodies q slot) count
+      After o rest before now count (Inner left right h k) =
+          (count + 2 ≤ visits_by_in o q) × (visits_by_in o q ≤ 16383) × (length rest ≤ 18)
+          × Stands o bodies q ((rest ++ met_at q (view_in o right) right) ++ met_at q (view_in o left) left) before now (count + 2)
+
+      -- one node more
+      looked_on : (o : Option Tree) (rest before now : List ℕ) (at count : ℕ) (v : NodeView) → Popped o bodies q rest at before now count
+          → view_in o at ≡ Some v → After o rest before now count v
+      looked_on o rest before now at count v p e =
+          let same : view_of p.u ≡ v = let s = popped_shown o rest before now at count p in cc in
+          subst (After o rest before now count) same (by_tree p.u (w.within p.t p.u p.here p.is_tree.balanced)
+          (inside_within p.t p.u p.inside p.here) p.low_here p.here p.met_here p.found_is p.count_is)
+        where
+          shown : (u : Tree) → Within p.t u → view_in o (top u) ≡ Some (view_of u)
+          shown u here = rw p.is (w.shown p.t u here p.is_tree.apart)
+
+          by_tree : (u : Tree) → Balanced u → IsInside bodies u → height u + length p.us ≤ 18 → Within p.t u → query_meets q (bounds u) ≡ true
+              → now ++ met (leaves u ++ all_leaves p.us) ≡ before ++ met (leaves p.t) → count + (owed u q + all_owed p.us q) ≡ visits_by p.t q
+              → After o rest before now count (view_of u)
+          by_tree (tip n s f) bal inside low here m fo co =
+              let x : Leaf = record { node = n; slot = s; fat = f } in (
+                inside,
+                record {
+                  t = p.t;
+                  us = p.us;
+                  is = p.is;
+                  is_tree = p.is_tree;
+                  inside = p.inside;
+                  wait = p.wait;
+                  found_is = append_assoc now (found_at bodies q s) (met (all_leaves p.us))
+                      ∙ ap (λ xs. now ++ xs) (sym (first_met x (all_leaves p.us))) ∙ fo;
+                  count_is = omega arith;
+                },
+              )
+          by_tree (fork n h k l r) bal inside low here m fo co =
+              let kk : k ≡ 1 + max (height l) (height r) = bal.0.height_is in
+              let c = w.children n k h l r in
+              let within_l = w.deeper p.t (fork n h k l r) l here c.0 in
+              let within_r = w.deeper p.t (fork n h k l r) r here c.1 in
+              let a = onto p.t rest p.us r p.wait (grind (arith)) within_r bal.2 inside.1 in
+              let short = a.4 in
+              let b = onto p.t (rest ++ cond (query_meets q (bounds r)) (top r ∷ []) []) a.0 l a.1 (grind (arith)) within_l bal.1 inside.0 in
+              let due : cond (query_meets q h) (visits_by l q + visits_by r q) 0 ≡ visits_by l q + visits_by r q =
+              ap (λ x. cond x (visits_by l q + visits_by r q) 0) m in
+              let vl = few_visits l in
+              let vr = few_visits r in
+              let all = few_visits p.t in
+              let few = p.is_tree.few in
+              let owed_l = owed_of l in
+              let owed_r = owed_of r in
+              let owed_a = a.3 in
+              let owed_b = b.3 in (
+                rw p.is (omega arith),
+                rw p.is (omega arith),
+                rw p.wait.stack_is (let len = length_tops p.us in omega arith),
+                rw (met_top o r (shown r within_r), met_top o l (shown l within_l)) (record {
+                  t = p.t;
+                  us = b.0;
+                  is = p.is;
+                  is_tree = p.is_tree;
+                  inside = p.inside;
+                  wait = b.1;
+                  found_is = ap (λ xs. now ++ xs) (b.2 ∙ ap (λ xs. met (leaves l) ++ xs) a.2
+                      ∙ sym (append_assoc (met (leaves l)) (met (leaves r)) (met (all_leaves p.us)))
+                      ∙ ap (λ xs. xs ++ met (all_leaves p.us)) (sym (met_append (leaves l) (leaves r)))
+                      ∙ sym (met_append (leaves l ++ leaves r) (all_leaves p.us))) ∙ fo;
+                  count_is = omega arith;
+                }),
+              )
+
+      -- the same of the next node as the loop holds it
+      off : {o : Option Tree} (stack : List ℕ) {before now : List ℕ} {next : Option ℕ} {at count : ℕ}
+          → Stands o bodies q (stack ++ option_to_list next) before now count → next ≡ Some at → Popped o bodies q stack at before now count
+      off {o} stack {before} {now} {next} {at} {count} s n =
+          popped o stack before now at count (subst (λ x. Stands o bodies q (stack ++ option_to_list x) before now count) n s)
+
+      pub next_shown : {o : Option Tree} (stack : List ℕ) {before now : List ℕ} {next : Option ℕ} {at count : ℕ}
+          → Stands o bodies q (stack ++ option_to_list next) before now count → next ≡ Some at → is_some (view_in o at) ≡ true
+      next_shown {o} stack {before} {now} {next} {at} {count} s n = ap is_some (popped_shown o stack before now at count (off stack s n))
+
+      pub at_leaf : {o : Option Tree} (stack : List ℕ) {before now : List ℕ} {next : Option ℕ} {at count : ℕ} {v : NodeView} {slot : ℕ} {fat : Bounds}
+          → Stands o bodies q (stack ++ option_to_list next) before now count → next ≡ Some at → view_in o at ≡ Some v → v ≡ LeafNode slot fat
+          → After o stack before now count (LeafNode slot fat)
+      at_leaf {o} stack {before} {now} {next} {at} {count} {v} {slot} {fat} s n e is =
+          looked_on o stack before now at count (LeafNode slot fat) (off stack s n) (e ∙ ap Some is)
+
+      pub at_inner : {o : Option Tree} (stack : List ℕ) {before now : List ℕ} {next : Option ℕ} {at count : ℕ} {v : NodeView} {left right k : ℕ} {h : Bounds}
+          → Stands o bodies q (stack ++ option_to_list next) before now count → next ≡ Some at → view_in o at ≡ Some v → v ≡ Inner left right h k
+          → After o stack before now count (Inner left right h k)
+      at_inner {o} stack {before} {now} {next} {at} {count} {v} {left} {right} {k} {h} s n e is =
+          looked_on o stack before now at count (Inner left right h k) (off stack s n) (e ∙ ap Some is)
+
+      -- the start
+      pub begun : (o : Option Tree) (before : List ℕ) (root : ℕ) (t : Tree) → o ≡ Some t → root ≡ top t → IsTree t → IsInside bodies t
+          → Stands o bodies q (met_at q (view_in o root) root) before before 1
+      begun o before root t is at is_tree inside =
+          let low = is_tree.low in
+          let a = onto t [] [] t (record { stack_is = refl; low = tt; within = tt; met = tt }) (omega arith) (w.itself t) is_tree.balanced inside in
+          let owed_a = a.3 in
+          let owed_t = owed_of t in
+          rw at (rw (met_top o t (rw is (w.shown t t (w.itself t) is_tree.apart))) (record {
+            t = t;
+            us = a.0;
+            is = is;
+            is_tree = is_tree;
+            inside = inside;
+            wait = a.1;
+            found_is = ap (λ xs. before ++ xs) (a.2 ∙ append-nil (met (leaves t)));
+            count_is = omega arith;
+          }))
+
+      -- the end
+      pub done_ok : (o : Option Tree) (before now : List ℕ) (count : ℕ) → Stands o bodies q [] before now count
+          → (now ≡ before ++ found_of (exact_in bodies o) q) × (count ≡ visits_by_in o q)
+      done_ok o before now count s = by_list s.us s.wait.stack_is s.found_is s.count_is
+        where
+          by_list : (us : List Tree) → [] ≡ tops us → now ++ met (all_leaves us) ≡ before ++ met (leaves s.t)
+              → count + all_owed us q ≡ visits_by s.t q → (now ≡ before ++ found_of (exact_in bodies o) q) × (count ≡ visits_by_in o q)
+          by_list [] st fo co = rw s.is (sym (append-nil now) ∙ fo, omega arith)
+          by_list (u ∷ us) st fo co =
+              let len : length (tops us ++ top u ∷ []) ≡ 0 = ap length (sym st) in
+              let l = length_push (tops us) (top u) in
+              absurd (omega arith)

@@ -1,5 +1,5 @@
 -- Serves proofs alone: what a descent with a query looks at, and what it finds.
-use Rattle.std.specs.Prelude.{◌≡◌, ℕ, false, ◌+◌, ◌<◌, ◌≤◌, List, [], ◌∷◌, ◌++◌, length, Option, None, Some, if◌then◌else◌, slice_index_or, IsTrue}
+use Rattle.std.specs.Prelude.{◌≡◌, ℕ, Bool, false, ◌+◌, ◌<◌, ◌≤◌, List, [], ◌∷◌, ◌++◌, length, Option, None, Some, if◌then◌else◌, slice_index_or, IsTrue}
 use Rattle.fixed_box.specs.Bounds.{Bounds, encloses, hull}
 use Rattle.broad_index.specs.declared.query.Query.{Query}
 use Rattle.broad_index.specs.Found.{query_meets, found_of}
@@ -7,7 +7,7 @@ use Rattle.broad_index.specs.Members.{meets_query}
 use Rattle.tree_nodes.specs.declared.node_view.NodeView.{NodeView}
 use Rattle.tree_nodes.specs.declared.node_view.NodeView.TheVariants.{Leaf as LeafNode, Inner}
 use Rattle.tree_nodes.specs.declared.TheConstants.{MOST_HEIGHT}
-use Rattle.tree_nodes.specs.Tree.{Tree, tip, fork, top, leaves, Leaf, height, count_of, view_of, view_at, IsTree, Balanced, Within}
+use Rattle.tree_nodes.specs.Tree.{Tree, tip, fork, top, bounds, leaves, Leaf, height, count_of, view_of, view_at, IsTree, Balanced, Within}
 
 -- how many nodes a descent with a query looks at: it goes on below a hull that is met
 abbrev pub visits_by : Tree → Query → ℕ
@@ -46,10 +46,6 @@ abbrev pub IsInsideIn : List (Option Bounds) → Option Tree → Type 0
 IsInsideIn bodies None = Unit {0}
 IsInsideIn bodies (Some t) = IsInside bodies t
 
-abbrev pub IsNodeInside : List (Option Bounds) → NodeView → Type 0
-IsNodeInside bodies (LeafNode slot fat) = IsLeafInside bodies slot fat
-IsNodeInside bodies (Inner left right hull height) = Unit {0}
-
 -- what is known of trees and queries
 pub record Laws (q : Query) : Type 0 where
   pub missed : (outer inner : Bounds) → IsTrue (encloses outer inner) → query_meets q outer ≡ false → query_meets q inner ≡ false
@@ -61,14 +57,19 @@ pub record Laws (q : Query) : Type 0 where
   pub within : (t u : Tree) → Within t u → Balanced t → Balanced u
   pub shown : (t u : Tree) → Within t u → ((k : ℕ) → count_of t k ≤ 1) → view_at t (top u) ≡ Some (view_of u)
 
+-- what stands below a node that was looked at is still to be looked at, where the node is met
+abbrev pub owed : Tree → Query → ℕ
+owed (tip n s b) q = 0
+owed (fork n h k l r) q = if query_meets q h then visits_by l q + visits_by r q else 0
+
 -- trees that wait on a stack, the next one first
 abbrev pub all_leaves : List Tree → List Leaf
 all_leaves [] = []
 all_leaves (u ∷ us) = leaves u ++ all_leaves us
 
-abbrev pub all_visits : List Tree → Query → ℕ
-all_visits [] q = 0
-all_visits (u ∷ us) q = visits_by u q + all_visits us q
+abbrev pub all_owed : List Tree → Query → ℕ
+all_owed [] q = 0
+all_owed (u ∷ us) q = owed u q + all_owed us q
 
 -- their numbers, the next one last
 abbrev pub tops : List Tree → List ℕ
@@ -84,6 +85,18 @@ abbrev pub AllWithin : Tree → List Tree → Type 0
 AllWithin t [] = Unit {0}
 AllWithin t (u ∷ us) = Within t u × AllWithin t us
 
+-- Only trees that are met wait.
+abbrev pub AreMet : Query → List Tree → Type 0
+AreMet q [] = Unit {0}
+AreMet q (u ∷ us) = IsTrue (query_meets q (bounds u)) × AreMet q us
+
+-- the trees of t that wait on a stack
+pub record Wait (q : Query) (t : Tree) (stack : List ℕ) (us : List Tree) : Type 0 where
+  pub stack_is : stack ≡ tops us
+  pub low : AreLow us
+  pub within : AllWithin t us
+  pub met : AreMet q us
+
 -- where a descent stands: what it has found, with what it will find below the waiting trees, is what is found of all
 pub record Stands (o : Option Tree) (bodies : List (Option Bounds)) (q : Query) (stack before now : List ℕ) (count : ℕ) : Type 0 where
   pub t : Tree
@@ -91,11 +104,9 @@ pub record Stands (o : Option Tree) (bodies : List (Option Bounds)) (q : Query) 
   pub is : o ≡ Some t
   pub is_tree : IsTree t
   pub inside : IsInside bodies t
-  pub stack_is : stack ≡ tops us
-  pub low : AreLow us
-  pub within : AllWithin t us
+  pub wait : Wait q t stack us
   pub found_is : now ++ found_of (exact bodies (all_leaves us)) q ≡ before ++ found_of (exact bodies (leaves t)) q
-  pub count_is : count + all_visits us q ≡ visits_by t q
+  pub count_is : count + all_owed us q ≡ visits_by t q
 
 -- and where its next tree is taken from the stack
 pub record Popped (o : Option Tree) (bodies : List (Option Bounds)) (q : Query) (rest : List ℕ) (at : ℕ) (before now : List ℕ) (count : ℕ) : Type 0 where
@@ -106,19 +117,23 @@ pub record Popped (o : Option Tree) (bodies : List (Option Bounds)) (q : Query) 
   pub is_tree : IsTree t
   pub inside : IsInside bodies t
   pub at_is : at ≡ top u
-  pub rest_is : rest ≡ tops us
+  pub wait : Wait q t rest us
   pub low_here : height u + length us ≤ MOST_HEIGHT
-  pub low : AreLow us
   pub here : Within t u
-  pub within : AllWithin t us
+  pub met_here : IsTrue (query_meets q (bounds u))
   pub found_is : now ++ found_of (exact bodies (leaves u ++ all_leaves us)) q ≡ before ++ found_of (exact bodies (leaves t)) q
-  pub count_is : count + (visits_by u q + all_visits us q) ≡ visits_by t q
+  pub count_is : count + (owed u q + all_owed us q) ≡ visits_by t q
 
--- what one node adds to what is found, and to the stack
-abbrev pub found_at : List (Option Bounds) → Query → NodeView → List ℕ
-found_at bodies q (LeafNode slot fat) = if meets_query q (slice_index_or bodies slot None) then slot ∷ [] else []
-found_at bodies q (Inner left right hull height) = []
+-- a query meets the hull of an inner node, or the fat box of a leaf
+abbrev pub meets_node : Query → NodeView → Bool
+meets_node q (LeafNode slot fat) = query_meets q fat
+meets_node q (Inner left right hull height) = query_meets q hull
 
-abbrev pub next_at : Query → NodeView → List ℕ
-next_at q (LeafNode slot fat) = []
-next_at q (Inner left right hull height) = if query_meets q hull then right ∷ left ∷ [] else []
+-- the number of a node that is met
+abbrev pub met_at : Query → Option NodeView → ℕ → List ℕ
+met_at q None at = []
+met_at q (Some node) at = if meets_node q node then at ∷ [] else []
+
+-- what the leaf of a slot adds to what is found
+abbrev pub found_at : List (Option Bounds) → Query → ℕ → List ℕ
+found_at bodies q slot = if meets_query q (slice_index_or bodies slot None) then slot ∷ [] else []

@@ -1,11 +1,10 @@
-ghost use Rattle.std.specs.Prelude.{◌≡◌, ◌+◌, ◌≤◌, ◌++◌, Some, None, OnOk, IfOk, slice_index_or};
+ghost use Rattle.std.specs.Prelude.{◌≡◌, ◌+◌, ◌<◌, ◌≤◌, ◌++◌, Some, None, OnOk, IfOk, IsSome, length, option_to_list};
 ghost use Rattle.smallvec.specs.SmallVec.{small_vec_len};
-ghost use Rattle.tree_nodes.specs.Tree.{Tree, IsTree, top};
-ghost use Rattle.tree_nodes.specs.declared.node_view.NodeView.TheVariants.{Leaf as LeafNode};
+ghost use Rattle.tree_nodes.specs.Tree.{Tree, IsTree, top, view_in};
 ghost use Rattle.broad_index.specs.declared.query.Query.{Query};
 ghost use Rattle.broad_index.specs.Found.{found_of, query_meets};
 ghost use Rattle.broad_index.specs.Members.{meets_query};
-ghost use Rattle.box_tree.specs.Descent.{visits_by_in, exact_in, IsInside, IsInsideIn, IsNodeInside, Laws, found_at, next_at};
+ghost use Rattle.box_tree.specs.Descent.{visits_by_in, exact_in, IsInside, IsInsideIn, Laws, met_at, found_at};
 
 use crate::query_law::query_law;
 use broad_index::Query;
@@ -13,7 +12,7 @@ use fixed_box::{FBox, NoMemory};
 use smallvec::SmallVec;
 use tree_nodes::{NodeView, Nodes, tree_laws};
 
-// The nodes that wait to be looked at: no descent through a tree of 8,192 leaves has more than 32.
+// The nodes that wait, each of them met: no descent through a tree of 8,192 leaves has more than 32.
 type Stack = SmallVec<usize, 32>;
 
 // Appends the slots of leaves whose exact boxes meet a query, and answers how many nodes it looked at. It passes by what
@@ -34,7 +33,8 @@ pub(crate) fn descend(
     }
 }
 
-// The same from the root on.
+// The same from the root on. The next node is held apart from those that wait. A node is asked, and counted, with its
+// sibling as their parent is opened: one that is missed never waits.
 fn walk(
     nodes: &Nodes,
     bodies: &[Option<FBox>],
@@ -48,11 +48,24 @@ fn walk(
 {
     descent_law();
     let mut stack: Stack = SmallVec::new(*out.allocator());
-    stack.push_reserved(root);
-    let mut count = 0u32;
-    'walk: while let Some(at) = stack.pop() {
-        count += 1;
-        look(nodes.node(at), bodies, query, &mut stack, out)?;
+    let mut next = met_node(nodes, root, query);
+    let mut count = 1u32;
+    'walk: while let Some(at) = next {
+        match nodes.node(at) {
+            NodeView::Leaf { slot, fat: _ } => {
+                push_found(bodies, *slot, query, out)?;
+                next = stack.pop();
+            }
+            NodeView::Inner {
+                left,
+                right,
+                hull: _,
+                height: _,
+            } => {
+                count += 2;
+                next = open(nodes, *left, *right, query, &mut stack);
+            }
+        }
     }
     Ok(count)
 }
@@ -65,48 +78,58 @@ fn descent_law()
     query_law();
 }
 
-// Looks at one node: appends the slot of a leaf that is met, and puts the children of a hull that is met onto the stack.
-fn look(
-    node: &NodeView,
-    bodies: &[Option<FBox>],
-    query: &Query,
-    stack: &mut Stack,
-    out: &mut Vec<u32>,
-) -> Result<(), NoMemory>
-    requires room { small_vec_len stack.old + 2 ≤ stack.old.capacity }
-    requires inside { IsNodeInside bodies.now node.now }
-    ensures ok { OnOk result (out.new.items ≡ out.old.items ++ found_at bodies.now query.now node.now) }
-    ensures next { OnOk result (stack.new.items ≡ stack.old.items ++ next_at query.now node.now) }
+// Looks at the children of a node, and answers which node is next, if any. Where both are met, the left one comes first
+// and the right one waits. Where neither is, the last one that waits comes.
+fn open(nodes: &Nodes, left: usize, right: usize, query: &Query, stack: &mut Stack) -> Option<usize>
+    requires room { small_vec_len stack.old + 1 ≤ stack.old.capacity }
+    requires left { IsSome (view_in nodes.now left) }
+    requires right { IsSome (view_in nodes.now right) }
+    ensures next { stack.new.items ++ option_to_list result ≡
+        (stack.old.items ++ met_at query.now (view_in nodes.now right) right) ++ met_at query.now (view_in nodes.now left) left }
+    ensures ended { result ≡ None → small_vec_len stack.new ≡ 0 }
     ensures capacity { stack.new.capacity ≡ stack.old.capacity }
 {
-    match node {
-        NodeView::Leaf { slot, fat } => {
-            if is_met(bodies, *slot, fat, query) {
-                out.push(*slot)?;
-            }
-        }
-        NodeView::Inner {
-            left,
-            right,
-            hull,
-            height: _,
-        } => {
-            if meets(query, hull) {
-                stack.push_reserved(*right);
-                stack.push_reserved(*left);
-            }
-        }
+    let later = met_node(nodes, right, query);
+    let Some(first) = met_node(nodes, left, query) else {
+        return if later.is_some() { later } else { stack.pop() };
+    };
+    if let Some(later) = later {
+        stack.push_reserved(later);
     }
-    Ok(())
+    Some(first)
 }
 
-// Whether a query meets the exact box of a slot. The fat box, which is at hand, is asked first.
-fn is_met(bodies: &[Option<FBox>], slot: u32, fat: &FBox, query: &Query) -> bool
-    requires { IsNodeInside bodies.now (LeafNode slot fat.now) }
-    ensures { result ≡ meets_query query.now (slice_index_or bodies.now slot None) }
+// A node, if the query meets its hull, or its fat box.
+fn met_node(nodes: &Nodes, at: usize, query: &Query) -> Option<usize>
+    requires { IsSome (view_in nodes.now at) }
+    ensures { option_to_list result ≡ met_at query.now (view_in nodes.now at) at }
 {
-    query_law();
-    meets(query, fat) && is_found(&bodies[slot as usize], query)
+    let bounds = match nodes.node(at) {
+        NodeView::Leaf { slot: _, fat } => fat,
+        NodeView::Inner {
+            left: _,
+            right: _,
+            hull,
+            height: _,
+        } => hull,
+    };
+    if meets(query, bounds) { Some(at) } else { None }
+}
+
+// Appends a slot whose exact box is met. Its fat box was asked first.
+fn push_found(
+    bodies: &[Option<FBox>],
+    slot: u32,
+    query: &Query,
+    out: &mut Vec<u32>,
+) -> Result<(), NoMemory>
+    requires { slot < length bodies.now }
+    ensures { OnOk result (out.new.items ≡ out.old.items ++ found_at bodies.now query.now slot) }
+{
+    if is_found(&bodies[slot as usize], query) {
+        out.push(slot)?;
+    }
+    Ok(())
 }
 
 // Whether there is a box, and a query meets it.

@@ -1,12 +1,13 @@
-use Rattle.std.proofs.Common.{◌≡◌, ◌-◌}
+use Rattle.std.proofs.Common.{◌≡◌, ◌+◌, ◌-◌, ◌++◌, None, length, option_to_list}
 use Rattle.box_tree.specs.Descent.{Stands, visits_by_in}
 use Rattle.box_tree.proofs.descent.walk.Given as goal
 
 abbrev pub invariant-walk : goal.invariant-walk
 invariant-walk l = record {
-  stands : Stands l.nodes l.bodies l.query l.stack.items l.fn.out.items l.out.items l.count;
+  stands : Stands l.nodes l.bodies l.query (l.stack.items ++ option_to_list l.next) l.fn.out.items l.out.items l.count;
+  ended : l.next ≡ None → length l.stack.items ≡ 0;
   room : l.stack.capacity ≡ 32;
 }
 
 abbrev pub decreases-walk : goal.decreases-walk
-decreases-walk l = visits_by_in l.nodes l.query - l.count
+decreases-walk l = (visits_by_in l.nodes l.query - l.count) + length (l.stack.items ++ option_to_list l.next)
