@@ -1,4 +1,4 @@
-ghost use Rattle.std.specs.Prelude.{◌≡◌, ◌<◌, ◌^◌, ◌⊎◌};
+ghost use Rattle.std.specs.Prelude.{◌≡◌, ◌<◌, ◌^◌, ◌⊎◌, unsigned_abs};
 ghost use Rattle.tree_nodes.specs.Stored.{StandsAt};
 ghost use Rattle.tree_nodes.specs.Tree.{Tree};
 
@@ -27,9 +27,16 @@ pub(crate) fn by_growth(
 }
 
 // The sum of a box's three sides, in raw units.
-pub(crate) fn perimeter(body: &FBox) -> u64
-    ensures { result < 2 ^ 34 }
+pub(crate) fn perimeter(body: &FBox) -> i64
+    ensures { unsigned_abs result < 2 ^ 34 }
 {
     let (lo, hi) = (body.lo(), body.hi());
-    u64::from(hi.x.abs_diff(lo.x)) + u64::from(hi.y.abs_diff(lo.y)) + u64::from(hi.z.abs_diff(lo.z))
+    side(lo.x, hi.x) + side(lo.y, hi.y) + side(lo.z, hi.z)
+}
+
+// From one end of a side to the other.
+fn side(lo: i32, hi: i32) -> i64
+    ensures { unsigned_abs result < 2 ^ 32 }
+{
+    i64::from(hi) - i64::from(lo)
 }

@@ -1,4 +1,3 @@
-use crate::median::Axis;
 use fixed_box::{FBox, Point};
 
 /// A leaf as a rebuild orders it: about the centre of its box, and its number.
@@ -8,13 +7,33 @@ pub(crate) struct LeafKey {
     pub(crate) number: usize,
 }
 
-impl LeafKey {
-    pub(crate) fn along(&self, axis: &Axis) -> i32 {
-        match axis {
-            Axis::X => self.centre.x,
-            Axis::Y => self.centre.y,
-            Axis::Z => self.centre.z,
-        }
+// An axis, known where the code is made: a partition is written once for each.
+pub(crate) trait Along {
+    // The coordinate of a centre on this axis.
+    fn coordinate(centre: &Point) -> i32;
+}
+
+pub(crate) struct AlongX;
+
+pub(crate) struct AlongY;
+
+pub(crate) struct AlongZ;
+
+impl Along for AlongX {
+    fn coordinate(centre: &Point) -> i32 {
+        centre.x
+    }
+}
+
+impl Along for AlongY {
+    fn coordinate(centre: &Point) -> i32 {
+        centre.y
+    }
+}
+
+impl Along for AlongZ {
+    fn coordinate(centre: &Point) -> i32 {
+        centre.z
     }
 }
 

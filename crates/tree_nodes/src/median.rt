@@ -1,11 +1,10 @@
 ghost use Rattle.std.specs.Prelude.{◌≤◌, length};
 ghost use Rattle.std.specs.List.Sorted.{IsPermutation};
 
-use crate::leaf_key::{LeafKey, middle};
+use crate::leaf_key::{Along, AlongX, AlongY, AlongZ, LeafKey, middle};
 use fixed_box::Point;
 
-#[derive(Clone, Copy)]
-pub(crate) enum Axis {
+enum Axis {
     X,
     Y,
     Z,
@@ -27,18 +26,29 @@ const ROUNDS: u32 = 32;
 pub(crate) fn divide(keys: &mut [LeafKey], place: usize)
     ensures { IsPermutation keys.old keys.new }
 {
-    let Spread {
-        axis,
-        mut lo,
-        mut hi,
-    } = greatest_spread(keys);
+    // two leaves go apart in either order
+    if keys.len() <= 2 {
+        return;
+    }
+    let Spread { axis, lo, hi } = greatest_spread(keys);
+    match axis {
+        Axis::X => divide_along::<AlongX>(keys, place, lo, hi),
+        Axis::Y => divide_along::<AlongY>(keys, place, lo, hi),
+        Axis::Z => divide_along::<AlongZ>(keys, place, lo, hi),
+    }
+}
+
+// The same on one axis, on which the centres lie between two coordinates.
+fn divide_along<A: Along>(keys: &mut [LeafKey], place: usize, mut lo: i32, mut hi: i32)
+    ensures { IsPermutation keys.old keys.new }
+{
     let (mut from, mut to) = (0, keys.len());
     'divide: for _ in 0..ROUNDS {
         let pivot = middle(lo, hi);
         if to - from < 2 || pivot <= lo {
             break;
         }
-        let found = partition(keys, from, to, &axis, pivot);
+        let found = partition::<A>(keys, from, to, pivot);
         if place < found {
             to = found;
             hi = pivot;
@@ -50,7 +60,7 @@ pub(crate) fn divide(keys: &mut [LeafKey], place: usize)
 }
 
 // Of the leaves between two places puts those that lie below a pivot first, and answers where the others begin.
-fn partition(keys: &mut [LeafKey], from: usize, to: usize, axis: &Axis, pivot: i32) -> usize
+fn partition<A: Along>(keys: &mut [LeafKey], from: usize, to: usize, pivot: i32) -> usize
     requires order { from ≤ to }
     requires within { to ≤ length keys.old }
     ensures order { IsPermutation keys.old keys.new }
@@ -59,7 +69,7 @@ fn partition(keys: &mut [LeafKey], from: usize, to: usize, axis: &Axis, pivot: i
 {
     let mut place = from;
     'partition: for at in from..to {
-        if keys[at].along(axis) < pivot {
+        if A::coordinate(&keys[at].centre) < pivot {
             keys.swap(place, at);
             place += 1;
         }

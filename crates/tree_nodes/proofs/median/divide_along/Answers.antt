@@ -1,11 +1,11 @@
 -- A partition leaves the same leaves, and finds a place between the two that it had.
 use Rattle.std.proofs.Common.{◌≤◌, length, arith}
 use Rattle.std.proofs.lemmas.List.Sorted.{IsPermutation-trans, length_permutation}
-use Rattle.tree_nodes.proofs.median.divide.Goals.{then-place-found, else-place-found}
-use Rattle.tree_nodes.proofs.median.divide.Goals as goal
+use Rattle.tree_nodes.proofs.median.divide_along.Goals.{then-place-found, else-place-found}
+use Rattle.tree_nodes.proofs.median.divide_along.Goals as goal
 
 pub divide-preserved : goal.divide-preserved
-divide-preserved c =
+divide-preserved g c =
     let i = c.divide.invariant in
     let p = c.partition-found.ensures in
     let least = p.least in
