@@ -8,7 +8,7 @@ use Rattle.slab.specs.Slab.{Slab, get}
 use Rattle.fixed_box.specs.Bounds.{Bounds}
 use Rattle.tree_nodes.specs.declared.node_view.NodeView.{NodeView}
 use Rattle.tree_nodes.specs.declared.node_view.NodeView.TheVariants.{Leaf}
-use Rattle.tree_nodes.specs.Exchange.{Opened, SameLeaves, height_shown}
+use Rattle.tree_nodes.specs.Parts.{Opened, SameLeaves, height_shown}
 use Rattle.tree_nodes.specs.Insertion.{ToInsert, Inserted}
 use Rattle.tree_nodes.specs.Moved.{refitted}
 use Rattle.tree_nodes.specs.Rotation.{Children, ToRebalance, rebalanced, BalancedNear, ToAdjust}

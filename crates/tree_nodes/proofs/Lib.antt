@@ -3,7 +3,6 @@ mod Balance
 mod BoxEquality
 mod BuiltTrees
 mod Detaching
-mod Exchanges
 mod Frames
 mod Gathering
 mod Halving

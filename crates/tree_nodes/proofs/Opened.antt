@@ -6,7 +6,7 @@ use Rattle.slab.specs.Slab.{Slab, get}
 use Rattle.fixed_box.specs.Bounds.{Bounds}
 use Rattle.tree_nodes.specs.declared.node_view.NodeView.{NodeView}
 use Rattle.tree_nodes.specs.declared.node_view.NodeView.TheVariants.{Leaf, Inner}
-use Rattle.tree_nodes.specs.Exchange.{Opened, height_shown}
+use Rattle.tree_nodes.specs.Parts.{Opened, height_shown}
 use Rattle.tree_nodes.specs.Stored.{StandsAt}
 use Rattle.tree_nodes.specs.Tree.{Tree, tip, fork, top, count_of, one, height, Balanced, leaves}
 use Rattle.tree_nodes.proofs.Frames.{one_same}

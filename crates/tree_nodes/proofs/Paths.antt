@@ -8,7 +8,7 @@ use Rattle.slab.specs.Slab.{Slab, get}
 use Rattle.fixed_box.specs.Bounds.{Bounds, encloses}
 use Rattle.tree_nodes.specs.declared.node_view.NodeView.{NodeView}
 use Rattle.tree_nodes.specs.declared.node_view.NodeView.TheVariants.{Leaf, Inner}
-use Rattle.tree_nodes.specs.Exchange.{height_shown}
+use Rattle.tree_nodes.specs.Parts.{height_shown}
 use Rattle.tree_nodes.specs.Path.{Leads, ToSearch, PathFound}
 use Rattle.tree_nodes.specs.Tree.{Tree, fork, bounds, height, Balanced, view_at, or_else, view_of}
 use Rattle.tree_nodes.proofs.Opened.{height_in_slab}

@@ -9,7 +9,7 @@ use Rattle.slab.specs.Slab.{Slab, get}
 use Rattle.fixed_box.specs.Bounds.{Bounds}
 use Rattle.tree_nodes.specs.declared.node_view.NodeView.{NodeView}
 use Rattle.tree_nodes.specs.declared.node_view.NodeView.TheVariants.{Inner}
-use Rattle.tree_nodes.specs.Exchange.{Opened, SameLeaves}
+use Rattle.tree_nodes.specs.Parts.{Opened, SameLeaves}
 use Rattle.tree_nodes.specs.Path.{ToRemove, Removed, Leads}
 use Rattle.tree_nodes.specs.Rotation.{ToRebalance, rebalanced, BalancedNear, ToAdjust}
 use Rattle.tree_nodes.specs.Stored.{Holds, StandsAt}

@@ -1,7 +1,7 @@
-pub mod Exchange
 pub mod Filled
 pub mod Insertion
 pub mod Moved
+pub mod Parts
 pub mod Path
 pub mod Rebuilt
 pub mod Resized

@@ -1,5 +1,5 @@
 ghost use Rattle.std.specs.Prelude.{◌≡◌};
-ghost use Rattle.tree_nodes.specs.Exchange.{SameLeaves};
+ghost use Rattle.tree_nodes.specs.Parts.{SameLeaves};
 ghost use Rattle.tree_nodes.specs.Moved.{refitted};
 ghost use Rattle.tree_nodes.specs.Rotation.{ToAdjust, ToRebalance, rebalanced};
 ghost use Rattle.tree_nodes.specs.Stored.{Holds, StandsAt, Apart, KeepsKeys};
@@ -9,10 +9,9 @@ use crate::NodeView;
 use crate::node_slab::height_at;
 use crate::refitting::refit;
 use crate::rotation::rotate_up;
-use crate::tightening::tighten;
 use slab::Slab;
 
-// Puts two trees below a node, rebalances it, and then exchanges a child with a grandchild where that shrinks a hull.
+// Puts two trees below a node and rebalances it, for a call that added or dropped a leaf in one of them.
 pub(crate) fn adjust(
     slab: &mut Slab<NodeView>,
     parents: &mut [usize],
@@ -27,10 +26,7 @@ pub(crate) fn adjust(
         Holds slab.old v → Holds slab.new v }
     ensures keys { KeepsKeys slab.old slab.new }
 {
-    let top = rebalance(slab, parents, at, left, right);
-    tighten(slab, parents, top, false);
-    tighten(slab, parents, top, true);
-    top
+    rebalance(slab, parents, at, left, right)
 }
 
 // Puts two trees below a node whose heights differ by at most two, and rotates where they differ by two.

@@ -6,7 +6,7 @@ ghost use Rattle.tree_nodes.specs.Tree.{Tree, count_of, one, leaves_in};
 ghost use Rattle.fixed_box.specs.Bounds.{Bounds};
 
 use crate::adjusting::adjust;
-use crate::growth::by_growth;
+use crate::nearness::by_distance;
 use crate::refitting::refit;
 use crate::{MOST_NODES, NodeView};
 use fixed_box::{FBox, SLOTS};
@@ -43,7 +43,7 @@ pub(crate) fn insert_leaf(
     }
 }
 
-// Puts a leaf into a tree, below the child whose hull grows least at each node, with the new parent over it.
+// Puts a leaf into a tree, below the nearer child at each node, with the new parent over it.
 fn insert_below(
     slab: &mut Slab<NodeView>,
     parents: &mut [usize],
@@ -71,7 +71,7 @@ fn insert_below(
             hull: _,
             height: _,
         } => {
-            let (down, stay) = by_growth(slab, left, right, fat);
+            let (down, stay) = by_distance(slab, left, right, fat);
             let below = insert_below(slab, parents, down, leaf, new_parent, fat);
             adjust(slab, parents, at, below, stay)
         }

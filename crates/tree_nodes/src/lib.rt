@@ -4,12 +4,12 @@
 #![tactic(auto)]
 
 mod adjusting;
-mod growth;
 mod insertion;
 mod laws;
 mod leaf_key;
 mod median;
 mod moving;
+mod nearness;
 mod node_slab;
 mod node_view;
 mod nodes;
@@ -19,7 +19,6 @@ mod refitting;
 mod removal;
 mod resizing;
 mod rotation;
-mod tightening;
 
 pub use laws::tree_laws;
 pub use node_view::NodeView;

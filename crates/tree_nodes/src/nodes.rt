@@ -24,11 +24,10 @@ use std::marker::Model;
 /// it goes, while an inner node may come and go, and stand elsewhere, with each call that adds or drops a leaf, and with
 /// a rebuild. Only `new` takes memory.
 ///
-/// Insertion goes down to the child whose hull grows least by the sum of its sides. On the way up each node is
-/// rebalanced by a rotation where the heights of its children differ by two, and a child changes places with a
-/// grandchild where that shrinks a hull and keeps the height. Removal goes up in the same way. So a call that adds,
-/// drops or moves a leaf writes to a few nodes per level. The more such calls, the more hulls overlap: a rebuild now and
-/// then, from the top down, keeps searches short.
+/// Insertion goes down to the child whose centre is nearer. On the way up each node is rebalanced by a rotation where the
+/// heights of its children differ by two. Removal goes up in the same way. So a call that adds, drops or moves a leaf
+/// writes to a few nodes per level. The more such calls, the more hulls overlap: a rebuild now and then, from the top
+/// down, keeps searches short.
 #[derive(Drop)]
 pub struct Nodes {
     // Each node is a key of the slab.

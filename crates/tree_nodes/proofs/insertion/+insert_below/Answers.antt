@@ -1,7 +1,7 @@
 -- One child grows by at most one, and the node is adjusted.
 use Rattle.std.proofs.Common.{◌<◌, ap, ◌∙◌, sym, subst, refl, Some, arith, IsSome}
 use Rattle.slab.specs.Slab.{get}
-use Rattle.tree_nodes.specs.Exchange.{height_shown}
+use Rattle.tree_nodes.specs.Parts.{height_shown}
 use Rattle.tree_nodes.specs.Moved.{refitted}
 use Rattle.tree_nodes.specs.Tree.{tip}
 use Rattle.tree_nodes.proofs.InsertingBelow.{leaf_children, leaf_inserted, step_down, step_rebalance, step_inserted, step_adjust, stay_free}
@@ -15,8 +15,8 @@ refit-requires t c =
     let p = c.requires in
     (p.2, tip c.args.leaf p.0 p.1, leaf_children c.args.slab.now c.args.at c.args.leaf c.args.new_parent p.0 p.1 p.2 p.3)
 
-pub by_growth-down-requires : goal.by_growth-down-requires
-by_growth-down-requires t c =
+pub by_distance-down-requires : goal.by_distance-down-requires
+by_distance-down-requires t c =
     let p = c.requires in
     let s = children c.args.slab.now c.args.at c.in-Inner.left c.in-Inner.right c.in-Inner.height c.in-Inner.hull p.2 p.3.kept
     (c.index.ensures ∙ ap Some c.in-Inner.is) in
@@ -25,15 +25,15 @@ by_growth-down-requires t c =
 pub insert_below-below-requires : goal.insert_below-below-requires
 insert_below-below-requires t c =
     let p = c.requires in
-    let o = opened c.args.slab.now c.args.at c.in-Inner.left c.in-Inner.right c.in-Inner.height c.in-Inner.hull p.2 c.by_growth-down.result p.3.kept
-    p.3.balanced (c.index.ensures ∙ ap Some c.in-Inner.is) c.by_growth-down.ensures in
-    let lt = below_low c.args.slab.now c.args.at c.by_growth-down.result.0 c.by_growth-down.result.1 p.2 o.0 o.1 p.3.kept o.2 in (
-      subst (λ m. height_shown (get c.args.slab.now c.by_growth-down.result.0) < m) c.decreases lt,
+    let o = opened c.args.slab.now c.args.at c.in-Inner.left c.in-Inner.right c.in-Inner.height c.in-Inner.hull p.2 c.by_distance-down.result p.3.kept
+    p.3.balanced (c.index.ensures ∙ ap Some c.in-Inner.is) c.by_distance-down.ensures in
+    let lt = below_low c.args.slab.now c.args.at c.by_distance-down.result.0 c.by_distance-down.result.1 p.2 o.0 o.1 p.3.kept o.2 in (
+      subst (λ m. height_shown (get c.args.slab.now c.by_distance-down.result.0) < m) c.decreases lt,
       (
         p.0,
         p.1,
         o.0,
-        step_down c.args.slab.now c.args.at c.by_growth-down.result.0 c.by_growth-down.result.1 c.args.leaf c.args.new_parent p.0 p.1 p.2
+        step_down c.args.slab.now c.args.at c.by_distance-down.result.0 c.by_distance-down.result.1 c.args.leaf c.args.new_parent p.0 p.1 p.2
             o.0 o.1 p.3 o.2,
       ),
     )
@@ -41,18 +41,18 @@ insert_below-below-requires t c =
 pub adjust-requires : goal.adjust-requires
 adjust-requires t c =
     let p = c.requires in
-    let o = opened c.args.slab.now c.args.at c.in-Inner.left c.in-Inner.right c.in-Inner.height c.in-Inner.hull p.2 c.by_growth-down.result p.3.kept
-    p.3.balanced (c.index.ensures ∙ ap Some c.in-Inner.is) c.by_growth-down.ensures in
-    let r = step_down c.args.slab.now c.args.at c.by_growth-down.result.0 c.by_growth-down.result.1 c.args.leaf c.args.new_parent p.0 p.1 p.2 o.0 o.1 p.3 o.2 in
+    let o = opened c.args.slab.now c.args.at c.in-Inner.left c.in-Inner.right c.in-Inner.height c.in-Inner.hull p.2 c.by_distance-down.result p.3.kept
+    p.3.balanced (c.index.ensures ∙ ap Some c.in-Inner.is) c.by_distance-down.ensures in
+    let r = step_down c.args.slab.now c.args.at c.by_distance-down.result.0 c.by_distance-down.result.1 c.args.leaf c.args.new_parent p.0 p.1 p.2 o.0 o.1 p.3 o.2 in
     let g = c.insert_below-below.ensures.there p.0 p.1 o.0 r in (
       g.0,
       o.1,
-      step_adjust c.insert_below-below.new.slab c.args.slab.now c.args.at c.by_growth-down.result.0 c.by_growth-down.result.1 c.insert_below-below.result
+      step_adjust c.insert_below-below.new.slab c.args.slab.now c.args.at c.by_distance-down.result.0 c.by_distance-down.result.1 c.insert_below-below.result
           c.args.leaf c.args.new_parent p.0 p.1 p.2 o.0 o.1 g.0 o.2 g.1
-          (step_rebalance c.args.slab.now c.insert_below-below.new.slab c.args.at c.by_growth-down.result.0 c.by_growth-down.result.1
+          (step_rebalance c.args.slab.now c.insert_below-below.new.slab c.args.at c.by_distance-down.result.0 c.by_distance-down.result.1
           c.insert_below-below.result c.args.leaf c.args.new_parent p.0 p.1 p.2 o.0 o.1 g.0 p.3 o.2 g.1
           (c.insert_below-below.ensures.keys.here c.args.at (subst IsSome (sym c.index.ensures) refl))
-          (c.insert_below-below.ensures.kept p.0 p.1 o.0 o.1 r (stay_free c.args.slab.now c.args.at c.by_growth-down.result.0 c.by_growth-down.result.1
+          (c.insert_below-below.ensures.kept p.0 p.1 o.0 o.1 r (stay_free c.args.slab.now c.args.at c.by_distance-down.result.0 c.by_distance-down.result.1
           c.args.leaf c.args.new_parent p.0 p.1 p.2 o.0 o.1 p.3 o.2) o.2.stay_kept.holds)),
     )
 
@@ -66,35 +66,35 @@ returns-in-Leaf-clause-there t c s b u p = (
 
 pub returns-in-Inner-clause-there : goal.returns-in-Inner-clause-there
 returns-in-Inner-clause-there t c s b x p =
-    let o = opened c.args.slab.now c.args.at c.in-Inner.left c.in-Inner.right c.in-Inner.height c.in-Inner.hull x c.by_growth-down.result p.kept p.balanced
-    (c.index.ensures ∙ ap Some c.in-Inner.is) c.by_growth-down.ensures in
-    let r = step_down c.args.slab.now c.args.at c.by_growth-down.result.0 c.by_growth-down.result.1 c.args.leaf c.args.new_parent s b x o.0 o.1 p o.2 in
+    let o = opened c.args.slab.now c.args.at c.in-Inner.left c.in-Inner.right c.in-Inner.height c.in-Inner.hull x c.by_distance-down.result p.kept p.balanced
+    (c.index.ensures ∙ ap Some c.in-Inner.is) c.by_distance-down.ensures in
+    let r = step_down c.args.slab.now c.args.at c.by_distance-down.result.0 c.by_distance-down.result.1 c.args.leaf c.args.new_parent s b x o.0 o.1 p o.2 in
     let g = c.insert_below-below.ensures.there s b o.0 r in
-    let n = step_rebalance c.args.slab.now c.insert_below-below.new.slab c.args.at c.by_growth-down.result.0 c.by_growth-down.result.1
+    let n = step_rebalance c.args.slab.now c.insert_below-below.new.slab c.args.at c.by_distance-down.result.0 c.by_distance-down.result.1
     c.insert_below-below.result c.args.leaf c.args.new_parent s b x o.0 o.1 g.0 p o.2 g.1
     (c.insert_below-below.ensures.keys.here c.args.at (subst IsSome (sym c.index.ensures) refl))
-    (c.insert_below-below.ensures.kept s b o.0 o.1 r (stay_free c.args.slab.now c.args.at c.by_growth-down.result.0 c.by_growth-down.result.1 c.args.leaf
+    (c.insert_below-below.ensures.kept s b o.0 o.1 r (stay_free c.args.slab.now c.args.at c.by_distance-down.result.0 c.by_distance-down.result.1 c.args.leaf
     c.args.new_parent s b x o.0 o.1 p o.2) o.2.stay_kept.holds) in
-    let w = c.adjust.ensures.there g.0 o.1 (step_adjust c.insert_below-below.new.slab c.args.slab.now c.args.at c.by_growth-down.result.0
-    c.by_growth-down.result.1 c.insert_below-below.result c.args.leaf c.args.new_parent s b x o.0 o.1 g.0 o.2 g.1 n) in (
+    let w = c.adjust.ensures.there g.0 o.1 (step_adjust c.insert_below-below.new.slab c.args.slab.now c.args.at c.by_distance-down.result.0
+    c.by_distance-down.result.1 c.insert_below-below.result c.args.leaf c.args.new_parent s b x o.0 o.1 g.0 o.2 g.1 n) in (
       w.0,
-      step_inserted c.args.slab.now c.insert_below-below.new.slab c.adjust.new.slab c.args.at c.by_growth-down.result.0 c.by_growth-down.result.1
+      step_inserted c.args.slab.now c.insert_below-below.new.slab c.adjust.new.slab c.args.at c.by_distance-down.result.0 c.by_distance-down.result.1
           c.insert_below-below.result c.adjust.result c.args.leaf c.args.new_parent s b x o.0 o.1 g.0 w.0 o.2 g.1 w.1,
     )
 
 pub returns-in-Inner-clause-kept : goal.returns-in-Inner-clause-kept
 returns-in-Inner-clause-kept t c s b x u p free held =
-    let o = opened c.args.slab.now c.args.at c.in-Inner.left c.in-Inner.right c.in-Inner.height c.in-Inner.hull x c.by_growth-down.result p.kept p.balanced
-    (c.index.ensures ∙ ap Some c.in-Inner.is) c.by_growth-down.ensures in
-    let r = step_down c.args.slab.now c.args.at c.by_growth-down.result.0 c.by_growth-down.result.1 c.args.leaf c.args.new_parent s b x o.0 o.1 p o.2 in
+    let o = opened c.args.slab.now c.args.at c.in-Inner.left c.in-Inner.right c.in-Inner.height c.in-Inner.hull x c.by_distance-down.result p.kept p.balanced
+    (c.index.ensures ∙ ap Some c.in-Inner.is) c.by_distance-down.ensures in
+    let r = step_down c.args.slab.now c.args.at c.by_distance-down.result.0 c.by_distance-down.result.1 c.args.leaf c.args.new_parent s b x o.0 o.1 p o.2 in
     let g = c.insert_below-below.ensures.there s b o.0 r in
-    let n = step_rebalance c.args.slab.now c.insert_below-below.new.slab c.args.at c.by_growth-down.result.0 c.by_growth-down.result.1
+    let n = step_rebalance c.args.slab.now c.insert_below-below.new.slab c.args.at c.by_distance-down.result.0 c.by_distance-down.result.1
     c.insert_below-below.result c.args.leaf c.args.new_parent s b x o.0 o.1 g.0 p o.2 g.1
     (c.insert_below-below.ensures.keys.here c.args.at (subst IsSome (sym c.index.ensures) refl))
-    (c.insert_below-below.ensures.kept s b o.0 o.1 r (stay_free c.args.slab.now c.args.at c.by_growth-down.result.0 c.by_growth-down.result.1 c.args.leaf
+    (c.insert_below-below.ensures.kept s b o.0 o.1 r (stay_free c.args.slab.now c.args.at c.by_distance-down.result.0 c.by_distance-down.result.1 c.args.leaf
     c.args.new_parent s b x o.0 o.1 p o.2) o.2.stay_kept.holds) in
-    let f = elsewhere c.args.slab.now c.insert_below-below.new.slab c.args.at c.by_growth-down.result.0 c.by_growth-down.result.1
+    let f = elsewhere c.args.slab.now c.insert_below-below.new.slab c.args.at c.by_distance-down.result.0 c.by_distance-down.result.1
     c.insert_below-below.result c.args.leaf c.args.new_parent s b x o.0 o.1 g.0 u o.2 g.1 free in
-    c.adjust.ensures.kept g.0 o.1 u (step_adjust c.insert_below-below.new.slab c.args.slab.now c.args.at c.by_growth-down.result.0 c.by_growth-down.result.1
+    c.adjust.ensures.kept g.0 o.1 u (step_adjust c.insert_below-below.new.slab c.args.slab.now c.args.at c.by_distance-down.result.0 c.by_distance-down.result.1
     c.insert_below-below.result c.args.leaf c.args.new_parent s b x o.0 o.1 g.0 o.2 g.1 n)
     (λ k. let a = free k in let e = o.2.counts_are k in let w = g.1.counts_are k in omega arith) (c.insert_below-below.ensures.kept s b o.0 u r f.0 held)

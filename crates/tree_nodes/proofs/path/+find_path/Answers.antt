@@ -1,7 +1,7 @@
 -- No leaf with this box stands below a hull that does not hold it.
 use Rattle.std.proofs.Common.{◌<◌, ap, ◌∙◌, sym, subst, Some, false}
 use Rattle.slab.specs.Slab.{get}
-use Rattle.tree_nodes.specs.Exchange.{height_shown}
+use Rattle.tree_nodes.specs.Parts.{height_shown}
 use Rattle.tree_nodes.specs.Path.{PathFound}
 use Rattle.tree_nodes.specs.Tree.{height}
 use Rattle.tree_nodes.proofs.Paths.{outside, both_below, falls}

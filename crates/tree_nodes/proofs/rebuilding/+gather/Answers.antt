@@ -1,7 +1,7 @@
 -- The leaves of the first child come before those of the second.
 use Rattle.std.proofs.Common.{◌≡◌, ◌<◌, ◌+◌, cond, [], ◌∷◌, ◌++◌, length, ap, ◌∙◌, subst, Some, arith, length-append, vec_capacity}
 use Rattle.slab.specs.Slab.{get}
-use Rattle.tree_nodes.specs.Exchange.{height_shown}
+use Rattle.tree_nodes.specs.Parts.{height_shown}
 use Rattle.tree_nodes.specs.Tree.{height}
 use Rattle.tree_nodes.proofs.Gathering.{leaf_some, first_room, second_room, more_keys, more_inner}
 use Rattle.tree_nodes.proofs.Paths.{both_below, falls}

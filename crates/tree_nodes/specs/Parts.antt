@@ -1,4 +1,4 @@
--- Serves proofs alone: a child changes places with a grandchild.
+-- Serves proofs alone: the two trees below a node, and a tree with the same leaves.
 use Rattle.std.specs.Prelude.{◌≡◌, ℕ, ◌+◌, ◌≤◌, max, ◌++◌, Option, None, Some}
 use Rattle.std.specs.List.Sorted.{IsPermutation}
 use Rattle.slab.specs.Slab.{Slab}
@@ -32,26 +32,3 @@ pub record SameLeaves (slab : Slab NodeView) (at : ℕ) (t u : Tree) : Type 0 wh
   pub height_is : height u ≡ height t
   pub counts_are : (k : ℕ) → count_of u k ≡ count_of t k
   pub leaves_are : IsPermutation (leaves t) (leaves u)
-
--- heights with which a child and a grandchild may change places
-pub record KeepsHeight (child keep go sibling : ℕ) : Type 0 where
-  pub low_left : child ≤ keep + 1
-  pub low_right : keep ≤ child + 1
-  pub top_left : 1 + max child keep ≤ go + 1
-  pub top_right : go ≤ (1 + max child keep) + 1
-  pub same : max (1 + max child keep) go ≡ max child sibling
-
--- a tree in which a child and a grandchild may change places
-pub record ToTighten (slab : Slab NodeView) (at : ℕ) (t : Tree) : Type 0 where
-  pub kept : StandsAt slab at t
-  pub balanced : Balanced t
-  pub apart : (k : ℕ) → count_of t k ≤ 1
-  pub low : height t ≤ 60
-
--- and its children
-pub record ToExchange (slab : Slab NodeView) (at child sibling : ℕ) (t d s : Tree) : Type 0 where
-  pub balanced : Balanced t
-  pub kept : StandsAt slab at t
-  pub opened : Opened slab at child sibling t d s
-  pub apart : (k : ℕ) → count_of t k ≤ 1
-  pub low : height t ≤ 60

@@ -1,0 +1,44 @@
+ghost use Rattle.std.specs.Prelude.{◌≡◌, ◌<◌, ◌^◌, ◌⊎◌};
+ghost use Rattle.tree_nodes.specs.Stored.{StandsAt};
+ghost use Rattle.tree_nodes.specs.Tree.{Tree};
+
+use crate::NodeView;
+use crate::node_slab::bounds_at;
+use fixed_box::FBox;
+use slab::Slab;
+
+// Of two trees the one whose centre lies nearer to that of a box, and the other: the sum of the distances on the three axes
+// decides, as in the dynamic tree of the Bullet engine. It is cheaper to tell than growth.
+pub(crate) fn by_distance(
+    slab: &Slab<NodeView>,
+    left: usize,
+    right: usize,
+    fat: &FBox,
+) -> (usize, usize)
+    requires { (f g : Tree) × StandsAt slab.now left f × StandsAt slab.now right g }
+    ensures { (result ≡ (left, right)) ⊎ (result ≡ (right, left)) }
+{
+    if distance(&bounds_at(slab, left), fat) <= distance(&bounds_at(slab, right), fat) {
+        (left, right)
+    } else {
+        (right, left)
+    }
+}
+
+// Twice the distance of two boxes' centres, summed over the axes.
+fn distance(a: &FBox, b: &FBox) -> u64
+    ensures { result < 2 ^ 40 }
+{
+    let (p, q) = (a.lo(), a.hi());
+    let (r, s) = (b.lo(), b.hi());
+    apart(p.x, q.x, r.x, s.x) + apart(p.y, q.y, r.y, s.y) + apart(p.z, q.z, r.z, s.z)
+}
+
+// Twice the distance of the middles of two intervals.
+fn apart(a: i32, b: i32, c: i32, d: i32) -> u64
+    ensures { result < 2 ^ 36 }
+{
+    let first = i64::from(a) + i64::from(b);
+    let second = i64::from(c) + i64::from(d);
+    first.abs_diff(second)
+}
