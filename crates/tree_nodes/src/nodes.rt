@@ -34,8 +34,8 @@ pub struct Nodes {
     slab: Slab<NodeView>,
     root: Option<usize>,
     alloc: Global,
-    // Where the parent of each node stands. A path that follows these is checked as it is walked down, and searched
-    // afresh where they don't lead to the leaf, so no promise rests on them.
+    // Where the parent of each node stands. A way up or a path down that follows these is checked as it is walked, and
+    // searched afresh where they lead elsewhere, so no promise rests on them.
     parents: Vec<usize>,
     // Room for a rebuild: the leaves, and the numbers of the inner nodes.
     keys: Vec<LeafKey>,
