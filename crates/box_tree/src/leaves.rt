@@ -9,6 +9,10 @@ use tree_nodes::{Nodes, tree_laws};
 // The fewest changes of a tree between two rebuilds.
 const FEWEST_CHANGES: usize = 16;
 
+// How many changes there are between two rebuilds for each leaf. A rebuild costs as much as some changes of each leaf,
+// and the nodes that a search looks at grow slowly with the changes.
+const CHANGES_PER_LEAF: usize = 4;
+
 // Gives a slot that has none a leaf.
 pub(crate) fn add_leaf(
     nodes: &mut Nodes,
@@ -53,15 +57,16 @@ pub(crate) fn relink(
     count_change(nodes, until_rebuild);
 }
 
-// Counts a change of the tree, and rebuilds it after as many as it has leaves: the more it is changed, the more nodes a
-// search looks at.
+// Counts a change of the tree, and rebuilds it after some for each leaf: the more it is changed, the more nodes a search
+// looks at.
 fn count_change(nodes: &mut Nodes, until_rebuild: &mut usize)
     ensures { (fats : List (Option Bounds)) (numbers : List ℕ) → Ties nodes.old fats numbers → Ties nodes.new fats numbers }
 {
     if 0 < *until_rebuild {
         *until_rebuild -= 1;
     } else {
-        *until_rebuild = nodes.rebuild().max(FEWEST_CHANGES);
+        let changes = nodes.rebuild().saturating_mul(CHANGES_PER_LEAF);
+        *until_rebuild = changes.max(FEWEST_CHANGES);
     }
 }
 

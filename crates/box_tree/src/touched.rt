@@ -22,7 +22,7 @@ use lane_boxes::Columns;
 use tree_nodes::{NodeView, Nodes};
 
 // From how many touched slots on they are searched for in groups. For fewer it doesn't pay to walk over the tree.
-const FEWEST_GROUPED: usize = 128;
+const FEWEST_GROUPED: usize = 1_024;
 
 // Replaces the found pairs by those of touched slots with the boxes that theirs meet, and answers a number raised by how
 // many nodes a descent for each of them looks at.

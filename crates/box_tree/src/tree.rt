@@ -30,8 +30,9 @@ use tree_nodes::{MOST_HEIGHT, Nodes};
 /// tree. Each slot that comes, moves or goes is touched, and `pairs` seeks for touched slots alone, by one descent each:
 /// the pairs of the others are kept from the last call. So a frame costs the moved boxes and the pairs.
 ///
-/// A leaf whose fat box changes moves in its place, or is put where it fits best. After as many such changes as there are
-/// leaves the tree is rebuilt, so that a search looks at few nodes however long the boxes move.
+/// A leaf whose fat box changes moves in its place, or is put where it fits best. After some such changes for each leaf the
+/// tree is rebuilt, so that a search looks at few nodes however long the boxes move. Where many slots are touched, `pairs`
+/// searches for eight at once whose leaves stand side by side.
 ///
 /// Only `new`, `pairs`, `pairs_with` and `hits` take memory. The structure is never spent.
 #[derive(Drop)]
