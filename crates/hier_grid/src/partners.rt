@@ -1,4 +1,4 @@
-ghost use Rattle.std.specs.Prelude.{◌≡◌, ◌++◌, filter, OnOk};
+ghost use Rattle.std.specs.Prelude.{◌≡◌, ◌++◌, ◌==◌, ◌&&◌, ◌||◌, not, nat_lt, filter, OnOk};
 ghost use Rattle.broad_index.specs.Touched.{ordered, ordered_pairs};
 ghost use Rattle.hier_grid.specs.Search.{is_partner};
 
@@ -63,7 +63,8 @@ fn ordered(slot: u32, other: u32) -> Pair
     }
 }
 
-// Whether another slot is a partner.
+// Whether another slot is a partner. No branch is taken on which slots may be partners, since that is past telling
+// beforehand.
 fn is_partner(
     boxes: &SlotBoxes,
     slot: u32,
@@ -74,9 +75,14 @@ fn is_partner(
 ) -> bool
     ensures { result ≡ is_partner boxes.now slot body.now any other }
 {
-    if other == slot || (!any && other < slot) {
-        return false;
-    }
-    *looked = looked.saturating_add(1);
-    boxes.meets(other, body)
+    let sought = is_sought(slot, any, other);
+    *looked = looked.saturating_add(u64::from(sought));
+    sought & boxes.meets(other, body)
+}
+
+// Whether another slot may be a partner.
+fn is_sought(slot: u32, any: bool, other: u32) -> bool
+    ensures { result ≡ (not (other == slot) && (any || nat_lt slot other)) }
+{
+    (other != slot) & (any | (slot < other))
 }
