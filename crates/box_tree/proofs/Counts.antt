@@ -30,3 +30,11 @@ pub raised_on : (f : ℕ → ℕ) (a c x : ℕ) (xs : List ℕ) → c ≡ f x �
 raised_on f a c x xs e =
     raised_again a c (sum (map f xs))
     ∙ ap (raised a) (ap (λ y. y + sum (map f xs)) e ∙ sym (sum_by-cons (λ (y : ℕ). y) (f x) (map f xs)))
+
+-- a number that is raised at a node, and below both children
+pub raised_thrice : (a x l r here more all total : ℕ) → here ≡ raised a x → more ≡ raised here l → all ≡ raised more r → total ≡ x + (l + r) → all ≡ raised a total
+raised_thrice a x l r here more all total eh em ea et =
+    ea
+    ∙ ap (λ n. raised n r) (em ∙ ap (λ n. raised n l) eh ∙ raised_again a x l)
+    ∙ raised_again a (x + l) r
+    ∙ ap (raised a) (omega arith)

@@ -1,8 +1,12 @@
 pub mod Counts
+pub mod CrossedPairs
 pub mod Descents
 pub mod QueryMeets
 pub mod LeafTies
 pub mod Soundness
 pub mod Changes
 pub mod Fats
+pub mod Groups
 pub mod Searching
+pub mod TouchedPairs
+pub mod TouchedSums

@@ -155,7 +155,7 @@ searched_slots bodies o (x ∷ xs) = ap (λ ys. x ∷ ys) (searched_slots bodies
 eqb_other : (a b : ℕ) → a ≢ b → (a == b) ≡ false
 eqb_other a b ne = grind (arith, nat_tests)
 
-has_marked : (mark : ℕ → Bool) (es : List (ℕ × Bounds)) (k : ℕ)
+pub has_marked : (mark : ℕ → Bool) (es : List (ℕ × Bounds)) (k : ℕ)
     → has_slot (map (λ (e : ℕ × Bounds). e.0) (filter (λ (e : ℕ × Bounds). mark e.0) es)) k ≡ (mark k && has_slot (map (λ (e : ℕ × Bounds). e.0) es) k)
 has_marked mark [] k = and_no (mark k)
   where
@@ -304,22 +304,7 @@ module _ (o : Option Tree) (bodies fats : List (Option Bounds)) (numbers : List 
   cost_viewed slot n bs eb e =
       e ∙ ap (λ xs. visits_for o (get_or xs slot None)) eb ∙ ap (visits_for o) (sym (get_map bodies slot)) ∙ ap (λ (b : Boxes). cost b slot) view
 
-  -- searches of the touched slots renew the pairs
-  pub pairs_renewed : ReachLaw → RenewingLaw → (bs : List (Option Bounds)) (ms : List Bool) (slots list : List ℕ) (before found : List Pair)
-      → bs ≡ bodies → ms ≡ marks → slots ≡ sought_from ms 0 bs → list ≡ slots → before ≡ []
-      → found ≡ before ++ gathered_with (searches bs o list) → Renewed (map_of bodies) marks kept found
-  pairs_renewed law renewing bs ms slots list before found eb em es el en e =
-      let own : list ≡ marked_of marks (map_of bodies) =
-      el ∙ es ∙ ap (λ xs. sought_from ms 0 xs) eb ∙ ap (λ xs. sought_from xs 0 bodies) em ∙ marked_is marks bodies in
-      let all : List ℕ = marked_of marks (map_of bodies) in
-      let is : found ≡ gathered_with (searches bodies o all) =
-      e ∙ ap (λ xs. xs ++ gathered_with (searches bs o list)) en ∙ ap (λ xs. gathered_with (searches xs o list)) eb
-      ∙ ap (λ xs. gathered_with (searches bodies o xs)) own in
-      subst (λ ps. Renewed (map_of bodies) marks kept ps) (sym is)
-      (renewing (map_of bodies) marks kept (searches bodies o all) (all_reached o bodies fats numbers marks kept s law all)
-      (subst (λ xs. AreMarked (map_of bodies) marks xs) (sym (searched_slots bodies o all)) (are_marked marks (map_of bodies))) s.kept_are)
-
-  -- and so do lists of what they reach
+  -- lists of what the touched slots reach renew the pairs
   pub lists_renewed : SoughtLaw → (slots : List ℕ) (lists : List (List ℕ)) (before found : List Pair) → slots ≡ sought v
       → lists ≡ map (reach v.bodies) slots → before ≡ [] → found ≡ before ++ gathered_with (zip slots lists) → Renewed (map_of bodies) marks kept found
   lists_renewed law slots lists before found es el en e =

@@ -1,4 +1,5 @@
 pub mod Boxes
 pub mod Descent
+pub mod Group
 pub mod Searches
 pub mod Ties

@@ -71,7 +71,7 @@ fn walk(
 }
 
 // A law for proofs, with nothing to run: what a descent rests on.
-fn descent_law()
+pub(crate) fn descent_law()
     ensures { (query : Query) → Laws query }
 {
     tree_laws();

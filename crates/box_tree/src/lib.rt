@@ -3,11 +3,13 @@
 #![tactic(auto)]
 
 mod descent;
+mod group;
 mod leaves;
 mod moved;
 mod query_law;
 mod renewal;
 mod search;
+mod touched;
 mod tree;
 
 pub use moved::Moved;

@@ -6,7 +6,8 @@ ghost use Rattle.broad_index.specs.Near.{near, rises};
 ghost use Rattle.broad_index.specs.Touched.{Renewed};
 
 use broad_index::{Pair, renew_pairs};
-use fixed_box::NoMemory;
+use fixed_box::{FBox, NoMemory};
+use lane_boxes::Columns;
 use std::alloc::Global;
 use std::mem;
 
@@ -14,6 +15,8 @@ use std::mem;
 #[derive(Drop)]
 pub(crate) struct Room {
     pub(crate) slots: Vec<u32>,
+    pub(crate) touched: Vec<(u32, FBox)>,
+    pub(crate) boxes: Columns,
     pub(crate) met: Vec<u32>,
     pub(crate) reached: Vec<u32>,
     pub(crate) found: Vec<Pair>,
@@ -25,6 +28,8 @@ impl Room {
     pub(crate) fn new(alloc: Global) -> Room {
         Room {
             slots: Vec::new(alloc),
+            touched: Vec::new(alloc),
+            boxes: Columns::new(alloc),
             met: Vec::new(alloc),
             reached: Vec::new(alloc),
             found: Vec::new(alloc),

@@ -61,7 +61,7 @@ pub(crate) fn reach(
 }
 
 // Appends all slots but one.
-fn push_others(slot: u32, met: &[u32], out: &mut Vec<u32>) -> Result<(), NoMemory>
+pub(crate) fn push_others(slot: u32, met: &[u32], out: &mut Vec<u32>) -> Result<(), NoMemory>
     ensures { OnOk result (out.new.items ≡ out.old.items ++ filter (λ s. not (s == slot)) met.now) }
 {
     let mut rest = met;

@@ -11,7 +11,8 @@ ghost use Rattle.box_tree.specs.Boxes.{no_boxes as outset, shifted, told, fat_en
 use crate::descent::descend;
 use crate::leaves::{add_leaf, drop_leaf, relink};
 use crate::renewal::{Room, renew};
-use crate::search::{push_sought, reach, search_all};
+use crate::search::{push_sought, reach};
+use crate::touched::search_touched;
 use crate::{MARGIN, Moved};
 use broad_index::{
     BroadPhase, Pair, Query, holding_laws, keeping_laws, member_laws, push_gathered_with,
@@ -234,19 +235,12 @@ impl BroadPhase for BoxTree {
 
     fn pairs(&mut self, out: &mut Vec<Pair>) -> Result<(), NoMemory> {
         member_laws();
-        holding_laws();
-        keeping_laws();
-        self.room.slots.clear();
-        push_sought(&self.bodies, &self.marks, &mut self.room.slots)?;
-        self.room.found.clear();
-        let looked = search_all(
+        let looked = search_touched(
             &self.nodes,
             &self.bodies,
-            &self.room.slots,
+            &self.marks,
             self.looked,
-            &mut self.room.met,
-            &mut self.room.reached,
-            &mut self.room.found,
+            &mut self.room,
         )?;
         renew(&mut self.kept, &mut self.marks, &mut self.room, out)?;
         self.looked = looked;

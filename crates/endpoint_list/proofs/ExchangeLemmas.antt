@@ -1,6 +1,6 @@
 -- `exchange_with_next`: the links when two neighbours change places.
 use Rattle.std.proofs.Common.{◌≡◌, ◌≢◌, ℕ, ◌+◌, ◌<◌, ◌≤◌, List, [], ◌∷◌, ◌++◌, length, get_or, set, sym, ◌∙◌, arith, append_assoc}
-use Rattle.std.proofs.lemmas.List.{get_or-set_same, get_or-set_other, length-set}
+use Rattle.std.proofs.lemmas.List.{get_or-set_same, get_or-set_other, get_or_read, length-set}
 use Rattle.endpoint_list.specs.declared.TheConstants.{NODES}
 use Rattle.fixed_box.specs.Links.{Fresh, Distinct, Below, Links}
 use Rattle.fixed_box.specs.LinkLaws.{Fresh-left, Fresh-right, Distinct-left, Distinct-right, Distinct-apart, Distinct-without, Below-left}
@@ -100,3 +100,9 @@ followed N P ys a b zs k =
       before = first.before;
       after = second.after;
     }
+
+-- what is read as the next node
+pub next_read : (N P ys : List ℕ) (a b : ℕ) (zs : List ℕ) (x : ℕ) → IsKept N P (ys ++ a ∷ b ∷ zs) → x ≡ get_or N a x → x ≡ b
+next_read N P ys a b zs x k read =
+    let w = followed N P ys a b zs k in
+    get_or_read N a x (omega (arith, k.next_len, w.small)) read 0 ∙ w.next

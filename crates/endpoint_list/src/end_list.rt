@@ -112,6 +112,17 @@ impl EndList {
         ensures list { IsNodeList self.new }
     {
         let other = self.next[node as usize];
+        self.exchange_neighbours(node, other);
+    }
+
+    /// A node and the next one, which the caller knows, change places.
+    #[inline]
+    pub fn exchange_neighbours(&mut self, node: u32, other: u32)
+        requires { (before : List ℕ) × (after : List ℕ) × (self.old ≡ before ++ node ∷ other ∷ after) }
+        ensures exchanged { (before after : List ℕ) → self.old ≡ before ++ node ∷ other ∷ after
+            → self.new ≡ before ++ other ∷ node ∷ after }
+        ensures list { IsNodeList self.new }
+    {
         exchange(&mut self.next, &mut self.prev, node, other);
     }
 }

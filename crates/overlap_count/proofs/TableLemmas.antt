@@ -1,9 +1,9 @@
 -- The rows and sets of a table when a count changes, and when a slot is forgotten.
-use Rattle.std.proofs.Common.{◌≡◌, ◌≢◌, ℕ, ◌+◌, ◌-◌, ◌<◌, ◌≤◌, Bool, true, false, cond, ◌&&◌, ◌||◌, List, [], length, get_or}
+use Rattle.std.proofs.Common.{◌≡◌, ◌≢◌, ℕ, ◌+◌, ◌-◌, ◌<◌, ◌≤◌, Bool, true, false, not, cond, ◌&&◌, ◌||◌, List, [], length, get_or}
 use Rattle.std.proofs.Common.{set, eqb, ltb, refl, sym, ap, ◌∙◌, subst, arith}
 use Rattle.std.proofs.Common.{length-set, get_or-set_same, get_or-set_other, inl, inr, eq-eqb, ne_eqb, lt-ltb, le-ltb, eqb-true, ltb-true}
 use Rattle.std.specs.Prelude.{Result, Ok, Err, OnOk, OnErr}
-use Rattle.std.proofs.lemmas.Bool.{cases_eq, cases_lt, cases_order, cases_Bool, or_left, or_right, and_left, and_right, and_parts}
+use Rattle.std.proofs.lemmas.Bool.{cases_eq, cases_lt, cases_order, cases_Bool, or_left, or_right, and_left, and_right, and_parts, and_from, true≢false}
 use Rattle.std.proofs.lemmas.List.{get_or_past, get_or_read, set-get_or}
 use Rattle.fixed_box.specs.declared.TheConstants.{SLOTS}
 use Rattle.overlap_count.specs.Counts.{count_of, IsCounts}
@@ -176,6 +176,89 @@ pub read_mark : (rows sets now : List (List ℕ)) (a b n : ℕ) (was : List ℕ)
     → count_of now a b ≡ n → get_or was b 0 ≡ mark n
 read_mark rows sets now a b n was t same small read count =
     ap (λ l. get_or l b 0) (set_read rows sets a was t small read) ∙ t.marked a b ∙ ap mark (ap (λ l. count_of l a b) same ∙ count)
+
+-- ---- a count rises or falls, or stays, and is not 3 before or after
+
+-- the row that a call looks at is that which the next one changes
+same_row : (rows sets : List (List ℕ)) (b : ℕ) (first was : List ℕ) → IsTable rows sets → b < SLOTS → first ≡ get_or rows b first → was ≡ get_or rows b was
+    → first ≡ was
+same_row rows sets b first was t small read_first read = row_read rows sets b first t small read_first ∙ sym (row_read rows sets b was t small read)
+
+not_equal : (n m : ℕ) → not (eqb n m) ≡ true → n ≢ m
+not_equal n m h e = true≢false (sym h ∙ ap not (eq-eqb n m e))
+
+-- one count changes where the row has its place, and the set stays
+in_place : (rows sets now : List (List ℕ)) (a b v w : ℕ) (was row : List ℕ) → IsTable rows sets → rows ≡ now → a < b → b < SLOTS → v ≤ 3
+    → mark (count_of now a b) ≡ mark v → was ≡ get_or rows b was → a < length was → row ≡ set was a w → w ≡ v → IsChanged (set rows b row) sets now a b v
+in_place rows sets now a b v w was row t same lt small few m read within is value =
+    row_changes rows sets now a b v row t same lt small few
+    (subst (λ l. Changed l row a v) (row_read rows sets b was t small read)
+    (subst (λ l. Changed was l a v) (sym (is ∙ ap (set was a) value)) (set_changes was a v within)))
+    (t.marked a b ∙ ap (λ l. mark (count_of l a b)) same ∙ m)
+
+pub raised_in_place : (rises : Bool) (rows sets now : List (List ℕ)) (a b : ℕ) (first was row : List ℕ) → IsTable rows sets → rows ≡ now → a < b → b < SLOTS
+    → (rises ≡ true → count_of now a b < 3) → first ≡ get_or rows b first → (ltb a (length first) && not (rises && eqb (get_or first a 0) 2)) ≡ true
+    → was ≡ get_or rows b was → row ≡ set was a (cond rises (get_or was a 0 + 1) (get_or was a 0))
+    → IsChanged (set rows b row) sets now a b (cond rises (count_of now a b + 1) (count_of now a b))
+raised_in_place rises rows sets now a b first was row t same lt small room read_first test read is =
+    let count = read_count rows sets now a b was t same lt small read in
+    let e = same_row rows sets b first was t small read_first read in
+    let parts = and_parts (ltb a (length was)) (not (rises && eqb (get_or was a 0) 2))
+    (subst (λ l. (ltb a (length l) && not (rises && eqb (get_or l a 0) 2)) ≡ true) e test) in
+    in_place rows sets now a b (cond rises (count_of now a b + 1) (count_of now a b)) (cond rises (get_or was a 0 + 1) (get_or was a 0)) was row
+    t same lt small (few rises room) (mark_is rises room (rw count parts.1)) read (ltb-true a (length was) parts.0) is
+    (ap (λ n. cond rises (n + 1) n) (sym count))
+  where
+    few : (rises : Bool) → (rises ≡ true → count_of now a b < 3) → cond rises (count_of now a b + 1) (count_of now a b) ≤ 3
+    few true room = omega (arith, room refl)
+    few false room = subst (λ l. count_of l a b ≤ 3) same (t.small a b)
+
+    mark_is : (rises : Bool) → (rises ≡ true → count_of now a b < 3) → not (rises && eqb (count_of now a b) 2) ≡ true
+        → mark (count_of now a b) ≡ mark (cond rises (count_of now a b + 1) (count_of now a b))
+    mark_is true room h =
+        let other = not_equal (count_of now a b) 2 h in
+        no_mark (count_of now a b) (λ e. absurd (omega (arith, e, room refl))) ∙ sym (no_mark (count_of now a b + 1) (λ e. other (omega (arith, e))))
+    mark_is false room h = refl
+
+pub lowered_in_place : (lowers : Bool) (rows sets now : List (List ℕ)) (a b : ℕ) (first was row : List ℕ) → IsTable rows sets → rows ≡ now → a < b → b < SLOTS
+    → (lowers ≡ true → count_of now a b ≢ 0) → first ≡ get_or rows b first → (ltb a (length first) && not (lowers && eqb (get_or first a 0) 3)) ≡ true
+    → was ≡ get_or rows b was → row ≡ set was a (cond lowers (get_or was a 0 - 1) (get_or was a 0))
+    → IsChanged (set rows b row) sets now a b (cond lowers (count_of now a b - 1) (count_of now a b))
+lowered_in_place lowers rows sets now a b first was row t same lt small above read_first test read is =
+    let count = read_count rows sets now a b was t same lt small read in
+    let e = same_row rows sets b first was t small read_first read in
+    let parts = and_parts (ltb a (length was)) (not (lowers && eqb (get_or was a 0) 3))
+    (subst (λ l. (ltb a (length l) && not (lowers && eqb (get_or l a 0) 3)) ≡ true) e test) in
+    in_place rows sets now a b (cond lowers (count_of now a b - 1) (count_of now a b)) (cond lowers (get_or was a 0 - 1) (get_or was a 0)) was row
+    t same lt small (few lowers) (mark_is lowers (rw count parts.1)) read (ltb-true a (length was) parts.0) is
+    (ap (λ n. cond lowers (n - 1) n) (sym count))
+  where
+    small_now : count_of now a b ≤ 3
+    small_now = subst (λ l. count_of l a b ≤ 3) same (t.small a b)
+
+    few : (lowers : Bool) → cond lowers (count_of now a b - 1) (count_of now a b) ≤ 3
+    few true = omega (arith, small_now)
+    few false = small_now
+
+    mark_is : (lowers : Bool) → not (lowers && eqb (count_of now a b) 3) ≡ true
+        → mark (count_of now a b) ≡ mark (cond lowers (count_of now a b - 1) (count_of now a b))
+    mark_is true h =
+        no_mark (count_of now a b) (not_equal (count_of now a b) 3 h)
+        ∙ sym (no_mark (count_of now a b - 1) (λ e. absurd (omega (arith, e, small_now))))
+    mark_is false h = refl
+
+-- where a count doesn't fall in its place it is 3, and in a place of the row
+pub apart_is_full : (lowers : Bool) (rows sets now : List (List ℕ)) (a b : ℕ) (first : List ℕ) → IsTable rows sets → rows ≡ now → a < b → b < SLOTS
+    → (lowers ≡ true → count_of now a b ≢ 0) → first ≡ get_or rows b first → (ltb a (length first) && not (lowers && eqb (get_or first a 0) 3)) ≡ false
+    → lowers ≡ true → count_of now a b ≡ 3
+apart_is_full lowers rows sets now a b first t same lt small above read_first test on =
+    let count = read_count rows sets now a b first t same lt small read_first in
+    let some : get_or first a 0 ≢ 0 = λ none. above on (count ∙ none) in
+    elim (cases_eq (get_or first a 0) 3) [
+      | inl three ↦ count ∙ three
+      | inr other ↦ absurd (true≢false (sym (and_from (ltb a (length first)) (not (lowers && eqb (get_or first a 0) 3))
+          (lt-ltb a (length first) (within first a some)) (ap not (and_right lowers (eqb (get_or first a 0) 3) (ne_eqb (get_or first a 0) 3 other)))) ∙ test))
+    ]
 
 -- ---- a count rises
 

@@ -73,12 +73,32 @@ impl Counts {
         ensures counts { IsCounts self.new }
         ensures err { OnErr result (self.new ≡ self.old) }
     {
-        if self.rows[pair.b as usize].count(pair.a) == 2 {
-            self.full[pair.a as usize].insert(pair.b)?;
-            self.rows[pair.b as usize].raise_within(pair.a);
+        self.raise_if(pair, true)
+    }
+
+    /// The pair's count rises by one where `rises`, and else all stays.
+    ///
+    /// Which of the two is as good as random where a walk passes endpoints of both kinds, so it is no branch: only a
+    /// count that comes to 3, or a row that has to grow, takes another path.
+    #[inline]
+    pub fn raise_if(&mut self, pair: Pair, rises: bool) -> Result<(), NoMemory>
+        requires order { pair.a < pair.b }
+        requires small { pair.b < SLOTS }
+        requires room { rises ≡ true → count_of self.old pair.a pair.b < 3 }
+        ensures ok { OnOk result ((a b : ℕ) → count_of self.new a b ≡ (if a == pair.a && b == pair.b
+            then (if rises then count_of self.old pair.a pair.b + 1 else count_of self.old pair.a pair.b)
+            else count_of self.old a b)) }
+        ensures counts { IsCounts self.new }
+        ensures err { OnErr result (self.new ≡ self.old) }
+    {
+        if self.rows[pair.b as usize].raises_within(pair.a, rises) {
+            self.rows[pair.b as usize].raise_within(pair.a, rises);
             return Ok(());
         }
-        self.rows[pair.b as usize].raise(pair.a, tallies_of(pair.b))
+        if rises {
+            return self.raise_apart(pair);
+        }
+        Ok(())
     }
 
     /// The pair's count falls by one, in constant time.
@@ -90,10 +110,26 @@ impl Counts {
             ≡ (if a == pair.a && b == pair.b then count_of self.old pair.a pair.b - 1 else count_of self.old a b) }
         ensures counts { IsCounts self.new }
     {
-        let count = self.rows[pair.b as usize].count(pair.a);
-        self.rows[pair.b as usize].lower(pair.a);
-        if count == 3 {
-            self.full[pair.a as usize].remove(pair.b);
+        self.lower_if(pair, true);
+    }
+
+    /// The pair's count falls by one where `lowers`, and else all stays. Only a count that was 3 takes a branch.
+    #[inline]
+    pub fn lower_if(&mut self, pair: Pair, lowers: bool)
+        requires order { pair.a < pair.b }
+        requires small { pair.b < SLOTS }
+        requires above { lowers ≡ true → count_of self.old pair.a pair.b ≢ 0 }
+        ensures lowered { (a b : ℕ) → count_of self.new a b ≡ (if a == pair.a && b == pair.b
+            then (if lowers then count_of self.old pair.a pair.b - 1 else count_of self.old pair.a pair.b)
+            else count_of self.old a b) }
+        ensures counts { IsCounts self.new }
+    {
+        if self.rows[pair.b as usize].lowers_within(pair.a, lowers) {
+            self.rows[pair.b as usize].lower_within(pair.a, lowers);
+            return;
+        }
+        if lowers {
+            self.lower_apart(pair);
         }
     }
 
@@ -123,6 +159,42 @@ impl Counts {
             out.truncate(before);
         }
         pushed
+    }
+
+    // The pair's count rises. The row grows where it lacks the place, and at 3 the set gets the pair. This stands apart, so
+    // that a count that has its place rises in few steps.
+    #[cold]
+    #[inline(never)]
+    fn raise_apart(&mut self, pair: Pair) -> Result<(), NoMemory>
+        requires order { pair.a < pair.b }
+        requires small { pair.b < SLOTS }
+        requires room { count_of self.old pair.a pair.b < 3 }
+        ensures ok { OnOk result ((a b : ℕ) → count_of self.new a b
+            ≡ (if a == pair.a && b == pair.b then count_of self.old pair.a pair.b + 1 else count_of self.old a b)) }
+        ensures counts { IsCounts self.new }
+        ensures err { OnErr result (self.new ≡ self.old) }
+    {
+        if self.rows[pair.b as usize].count(pair.a) == 2 {
+            self.full[pair.a as usize].insert(pair.b)?;
+            self.rows[pair.b as usize].raise_within(pair.a, true);
+            return Ok(());
+        }
+        self.rows[pair.b as usize].raise(pair.a, tallies_of(pair.b))
+    }
+
+    // The pair's count falls from 3, and the set loses the pair. This stands apart too.
+    #[cold]
+    #[inline(never)]
+    fn lower_apart(&mut self, pair: Pair)
+        requires order { pair.a < pair.b }
+        requires small { pair.b < SLOTS }
+        requires full { count_of self.old pair.a pair.b ≡ 3 }
+        ensures lowered { (a b : ℕ) → count_of self.new a b
+            ≡ (if a == pair.a && b == pair.b then count_of self.old pair.a pair.b - 1 else count_of self.old a b) }
+        ensures counts { IsCounts self.new }
+    {
+        self.rows[pair.b as usize].lower_within(pair.a, true);
+        self.full[pair.a as usize].remove(pair.b);
     }
 
     // Each pair with a lower slot counts 0: those of the slot's own row.

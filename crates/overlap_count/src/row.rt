@@ -1,4 +1,4 @@
-ghost use Rattle.std.specs.Prelude.{◌≡◌, ◌≢◌, ◌+◌, ◌-◌, ◌*◌, ◌<◌, ◌≤◌, ◌==◌, []};
+ghost use Rattle.std.specs.Prelude.{◌≡◌, ◌≢◌, ◌+◌, ◌-◌, ◌*◌, ◌<◌, ◌≤◌, ◌==◌, ◌&&◌, [], true, not, nat_lt};
 ghost use Rattle.std.specs.Prelude.{ℕ, if◌then◌else◌, OnOk, OnErr, length, slice_index, slice_set};
 
 use crate::tally::Tally;
@@ -48,6 +48,30 @@ impl Row {
         }
     }
 
+    // Whether the row has a place, and the count there doesn't come to 3 by one more where it `rises`.
+    pub(crate) fn raises_within(&self, place: u32, rises: bool) -> bool
+        ensures { result ≡ (nat_lt place (length self.now) && not (rises && slice_index self.now place == 2)) }
+    {
+        let at = (place / PLACES) as usize;
+        if at < self.tallies.len() {
+            !self.tallies[at].fills(place % PLACES, rises)
+        } else {
+            false
+        }
+    }
+
+    // Whether the row has a place, and the count there isn't 3 where it `lowers`.
+    pub(crate) fn lowers_within(&self, place: u32, lowers: bool) -> bool
+        ensures { result ≡ (nat_lt place (length self.now) && not (lowers && slice_index self.now place == 3)) }
+    {
+        let at = (place / PLACES) as usize;
+        if at < self.tallies.len() {
+            !self.tallies[at].empties(place % PLACES, lowers)
+        } else {
+            false
+        }
+    }
+
     // The count at a place rises by one. Memory is taken where the row has none: for so many tallies.
     pub(crate) fn raise(&mut self, place: u32, tallies: u32) -> Result<(), NoMemory>
         requires within { place < 64 * tallies }
@@ -57,29 +81,32 @@ impl Row {
         ensures err { OnErr result (self.new ≡ self.old) }
     {
         self.grow(tallies as usize)?;
-        self.raise_within(place);
+        self.raise_within(place, true);
         Ok(())
     }
 
-    // The count at a place that the row has rises by one.
-    pub(crate) fn raise_within(&mut self, place: u32)
+    // The count at a place that the row has rises by one, where it `rises`.
+    pub(crate) fn raise_within(&mut self, place: u32, rises: bool)
         requires within { place < length self.old }
-        requires room { slice_index self.old place < 3 }
-        ensures { self.new ≡ slice_set self.old place (slice_index self.old place + 1) }
+        requires room { rises ≡ true → slice_index self.old place < 3 }
+        ensures { self.new ≡ slice_set self.old place
+            (if rises then slice_index self.old place + 1 else slice_index self.old place) }
     {
         let at = (place / PLACES) as usize;
         let tally = self.tallies[at];
-        self.tallies[at] = tally.raised(place % PLACES);
+        self.tallies[at] = tally.raised(place % PLACES, rises);
     }
 
-    // The count at a place falls by one.
-    pub(crate) fn lower(&mut self, place: u32)
-        requires { slice_index self.old place ≢ 0 }
-        ensures { self.new ≡ slice_set self.old place (slice_index self.old place - 1) }
+    // The count at a place that the row has falls by one, where it `lowers`.
+    pub(crate) fn lower_within(&mut self, place: u32, lowers: bool)
+        requires within { place < length self.old }
+        requires above { lowers ≡ true → slice_index self.old place ≢ 0 }
+        ensures { self.new ≡ slice_set self.old place
+            (if lowers then slice_index self.old place - 1 else slice_index self.old place) }
     {
         let at = (place / PLACES) as usize;
         let tally = self.tallies[at];
-        self.tallies[at] = tally.lowered(place % PLACES);
+        self.tallies[at] = tally.lowered(place % PLACES, lowers);
     }
 
     // The count at a place becomes 0.

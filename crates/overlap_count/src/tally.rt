@@ -1,4 +1,5 @@
-ghost use Rattle.std.specs.Prelude.{◌≡◌, ◌≢◌, ◌+◌, ◌-◌, ◌<◌, ◌≤◌, ℕ};
+ghost use Rattle.std.specs.Prelude.{◌≡◌, ◌≢◌, ◌+◌, ◌-◌, ◌<◌, ◌≤◌, ◌==◌, ◌&&◌, true, ℕ, if◌then◌else◌};
+ghost use Rattle.std.specs.Int.{bit_at};
 ghost use Rattle.overlap_count.specs.Rows.{blank, digit};
 
 // Sixty-four counts from 0 to 3. Bit k of each word is one of the two binary digits of count k.
@@ -27,14 +28,32 @@ impl Tally {
         (low + 2 * high) as u8
     }
 
-    // The tally with one more at a place: a low digit of 1 carries.
-    pub(crate) fn raised(self, place: u32) -> Tally
+    // Whether one more at a place, where it `rises`, makes 3.
+    pub(crate) fn fills(self, place: u32, rises: bool) -> bool
+        requires { place < 64 }
+        ensures { result ≡ (rises && digit self place == 2) }
+    {
+        let bit = bit_if(place, rises);
+        self.high & (self.low ^ bit) & bit != 0
+    }
+
+    // Whether the count at a place is 3, where it `lowers`.
+    pub(crate) fn empties(self, place: u32, lowers: bool) -> bool
+        requires { place < 64 }
+        ensures { result ≡ (lowers && digit self place == 3) }
+    {
+        let bit = bit_if(place, lowers);
+        self.high & self.low & bit != 0
+    }
+
+    // The tally with one more at a place, where it `rises`: a low digit of 1 carries.
+    pub(crate) fn raised(self, place: u32, rises: bool) -> Tally
         requires place { place < 64 }
-        requires room { digit self place < 3 }
-        ensures here { digit result place ≡ digit self place + 1 }
+        requires room { rises ≡ true → digit self place < 3 }
+        ensures here { digit result place ≡ (if rises then digit self place + 1 else digit self place) }
         ensures others { (k : ℕ) → k < 64 → k ≢ place → digit result k ≡ digit self k }
     {
-        let bit = 1u64 << place;
+        let bit = bit_if(place, rises);
         let carry = self.low & bit;
         Tally {
             low: self.low ^ bit,
@@ -42,14 +61,14 @@ impl Tally {
         }
     }
 
-    // The tally with one less at a place: a low digit that comes to 1 was borrowed.
-    pub(crate) fn lowered(self, place: u32) -> Tally
+    // The tally with one less at a place, where it `lowers`: a low digit that comes to 1 was borrowed.
+    pub(crate) fn lowered(self, place: u32, lowers: bool) -> Tally
         requires place { place < 64 }
-        requires above { digit self place ≢ 0 }
-        ensures here { digit result place ≡ digit self place - 1 }
+        requires above { lowers ≡ true → digit self place ≢ 0 }
+        ensures here { digit result place ≡ (if lowers then digit self place - 1 else digit self place) }
         ensures others { (k : ℕ) → k < 64 → k ≢ place → digit result k ≡ digit self k }
     {
-        let bit = 1u64 << place;
+        let bit = bit_if(place, lowers);
         let low = self.low ^ bit;
         let borrow = low & bit;
         Tally {
@@ -70,4 +89,13 @@ impl Tally {
             high: self.high & !bit,
         }
     }
+}
+
+// The word of one bit at a place, where it `does`, and else 0.
+fn bit_if(place: u32, does: bool) -> u64
+    requires { place < 64 }
+    ensures here { bit_at result place ≡ (if does then 1 else 0) }
+    ensures others { (k : ℕ) → k ≢ place → bit_at result k ≡ 0 }
+{
+    u64::from(does) << place
 }

@@ -41,16 +41,16 @@ impl Lists {
     }
 
     // A node changes places with the next one on an axis.
-    pub(crate) fn exchange(&mut self, axis: Axis, node: u32)
-        requires next { (before : List ℕ) × (after : List ℕ) × (other : ℕ)
-            × (on axis self.old ≡ before ++ node ∷ other ∷ after) }
-        ensures { (before after : List ℕ) (other : ℕ) → on axis self.old ≡ before ++ node ∷ other ∷ after
+    #[inline(always)]
+    pub(crate) fn exchange(&mut self, axis: Axis, node: u32, other: u32)
+        requires next { (before : List ℕ) × (after : List ℕ) × (on axis self.old ≡ before ++ node ∷ other ∷ after) }
+        ensures { (before after : List ℕ) → on axis self.old ≡ before ++ node ∷ other ∷ after
             → self.new ≡ with_on axis (before ++ other ∷ node ∷ after) self.old }
     {
         match axis {
-            Axis::X => self.x.exchange_with_next(node),
-            Axis::Y => self.y.exchange_with_next(node),
-            Axis::Z => self.z.exchange_with_next(node),
+            Axis::X => self.x.exchange_neighbours(node, other),
+            Axis::Y => self.y.exchange_neighbours(node, other),
+            Axis::Z => self.z.exchange_neighbours(node, other),
         }
     }
 

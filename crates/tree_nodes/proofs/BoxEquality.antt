@@ -22,6 +22,19 @@ same_point p q h =
     let all : ◌≡◌ {A = Point} (record { x = p.x; y = p.y; z = p.z }) (record { x = q.x; y = q.y; z = q.z }) = cc in
     all
 
+pub equal_box : (a b : Bounds)
+    → ((int_eq a.lo.x b.lo.x && (int_eq a.lo.y b.lo.y && int_eq a.lo.z b.lo.z)) &&
+    (int_eq a.hi.x b.hi.x && (int_eq a.hi.y b.hi.y && int_eq a.hi.z b.hi.z))) ≡ true
+    → a ≡ b
+equal_box a b h =
+    let lo = int_eq a.lo.x b.lo.x && (int_eq a.lo.y b.lo.y && int_eq a.lo.z b.lo.z) in
+    let hi = int_eq a.hi.x b.hi.x && (int_eq a.hi.y b.hi.y && int_eq a.hi.z b.hi.z) in
+    let parts = and_parts lo hi h in
+    let low = same_point a.lo b.lo parts.0 in
+    let high = same_point a.hi b.hi parts.1 in
+    let all : ◌≡◌ {A = Bounds} (record { lo = a.lo; hi = a.hi }) (record { lo = b.lo; hi = b.hi }) = cc in
+    all
+
 pub same_box : (a b : Bounds)
     → not ((int_eq a.lo.x b.lo.x && (int_eq a.lo.y b.lo.y && int_eq a.lo.z b.lo.z)) &&
     (int_eq a.hi.x b.hi.x && (int_eq a.hi.y b.hi.y && int_eq a.hi.z b.hi.z))) ≡ false
@@ -29,8 +42,4 @@ pub same_box : (a b : Bounds)
 same_box a b h =
     let lo = int_eq a.lo.x b.lo.x && (int_eq a.lo.y b.lo.y && int_eq a.lo.z b.lo.z) in
     let hi = int_eq a.hi.x b.hi.x && (int_eq a.hi.y b.hi.y && int_eq a.hi.z b.hi.z) in
-    let parts = and_parts lo hi (not_false (lo && hi) h) in
-    let low = same_point a.lo b.lo parts.0 in
-    let high = same_point a.hi b.hi parts.1 in
-    let all : ◌≡◌ {A = Bounds} (record { lo = a.lo; hi = a.hi }) (record { lo = b.lo; hi = b.hi }) = cc in
-    all
+    equal_box a b (not_false (lo && hi) h)

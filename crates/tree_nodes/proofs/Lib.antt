@@ -14,10 +14,12 @@ mod LeafMoves
 mod LeafViews
 mod MovedTrees
 mod NodesViews
+mod OccupiedKeys
 mod Opened
 mod Paths
 mod Rebalanced
 mod Removing
+mod ResizedTrees
 mod Rotations
 mod TreeLaws
 mod Views

@@ -4,6 +4,7 @@ pub mod Insertion
 pub mod Moved
 pub mod Path
 pub mod Rebuilt
+pub mod Resized
 pub mod Rotation
 pub mod Stored
 pub mod Tree

@@ -17,6 +17,7 @@ mod path;
 mod rebuilding;
 mod refitting;
 mod removal;
+mod resizing;
 mod rotation;
 mod tightening;
 

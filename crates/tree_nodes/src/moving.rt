@@ -5,10 +5,11 @@ ghost use Rattle.tree_nodes.specs.Path.{ToMove};
 ghost use Rattle.tree_nodes.specs.Stored.{Holds, SoundIn, tree_of, StandsAt, Apart, KeepsKeys};
 ghost use Rattle.tree_nodes.specs.Tree.{Tree, bounds, count_of, IsLeafOf};
 
-use crate::NodeView;
 use crate::node_slab::{bounds_at, replace};
 use crate::path::{Path, path_to};
 use crate::refitting::refit;
+use crate::resizing::resize;
+use crate::{MOST_HEIGHT, NodeView};
 use fixed_box::FBox;
 use slab::Slab;
 use smallvec::SmallVec;
@@ -16,6 +17,32 @@ use std::alloc::Global;
 
 // Gives a leaf of the slab's tree another box, and refits the nodes above it.
 pub(crate) fn move_in_place(
+    slab: &mut Slab<NodeView>,
+    parents: &mut [usize],
+    root: Option<usize>,
+    node: usize,
+    fat: &FBox,
+    alloc: Global,
+)
+    requires sound { SoundIn slab.old root (tree_of slab.old root) }
+    requires leaf { IsLeafOf (tree_of slab.old root) node }
+    ensures sound { SoundIn slab.new root (tree_of slab.new root) }
+    ensures moved { tree_of slab.new root ≡ option_map (moved node fat.now) (tree_of slab.old root) }
+    ensures capacity { slab.new.capacity ≡ slab.old.capacity }
+{
+    let Some(at) = root else {
+        return;
+    };
+    if resize(slab, parents, at, node, fat, MOST_HEIGHT) {
+        return;
+    }
+    move_from_root(slab, parents, root, node, fat, alloc);
+}
+
+// The same from the root down, along a path that is searched where the noted parents don't lead.
+#[cold]
+#[inline(never)]
+fn move_from_root(
     slab: &mut Slab<NodeView>,
     parents: &mut [usize],
     root: Option<usize>,

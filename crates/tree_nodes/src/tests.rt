@@ -1,7 +1,7 @@
-ghost use Rattle.std.specs.Prelude.{◌≡◌, ◌+◌, ◌<◌, ℕ, IsSome};
+ghost use Rattle.std.specs.Prelude.{◌≡◌, ◌+◌, ◌<◌, ℕ, IsSome, IfSome};
 ghost use Rattle.fixed_box.specs.Bounds.{Bounds};
 ghost use Rattle.tree_nodes.specs.Filled.{IsFilled};
-ghost use Rattle.tree_nodes.specs.Tree.{view_in};
+ghost use Rattle.tree_nodes.specs.Tree.{view_in, IsLeafOf};
 ghost use Rattle.tree_nodes.specs.declared.node_view.NodeView.TheVariants.{Leaf as LeafNode};
 
 use super::*;
@@ -62,15 +62,7 @@ fn leaf_at(nodes: &Nodes, node: usize) -> Option<(u32, FBox)>
 // What encloses all boxes.
 fn root_bounds(nodes: &Nodes) -> Option<FBox> {
     let root = nodes.root()?;
-    Some(match nodes.view(root) {
-        NodeView::Leaf { slot: _, fat } => fat,
-        NodeView::Inner {
-            left: _,
-            right: _,
-            hull,
-            height: _,
-        } => hull,
-    })
+    Some(shown_bounds(nodes, root))
 }
 
 // How many nodes a search looks at, in a tree of so many levels.
@@ -108,6 +100,111 @@ fn looked_by_searches(nodes: &Nodes, state: &mut u32) -> Option<u64> {
         total = total.saturating_add(looked(nodes, root, &region, MOST_HEIGHT + 1));
     }
     Some(total)
+}
+
+// A leaf below a node, in a tree of so many levels.
+fn leaf_below(nodes: &Nodes, node: usize, state: &mut u32, levels: u8) -> Option<usize>
+    requires { IsSome (view_in nodes.now node) }
+    ensures { IfSome result (λ leaf. IsLeafOf nodes.now leaf) }
+{
+    if levels == 0 {
+        return None;
+    }
+    match nodes.view(node) {
+        NodeView::Leaf { slot: _, fat: _ } => Some(node),
+        NodeView::Inner {
+            left,
+            right,
+            hull: _,
+            height: _,
+        } => {
+            if next_word(state) % 2 == 0 {
+                leaf_below(nodes, left, state, levels - 1)
+            } else {
+                leaf_below(nodes, right, state, levels - 1)
+            }
+        }
+    }
+}
+
+// The box about a unit further on.
+fn shifted(fat: &FBox, state: &mut u32) -> Option<FBox> {
+    let by = (next_word(state) % 131_072) as i32 - 65_536;
+    let (mut lo, mut hi) = (fat.lo(), fat.hi());
+    lo.x = lo.x.saturating_add(by);
+    hi.x = hi.x.saturating_add(by);
+    lo.y = lo.y.saturating_sub(by);
+    hi.y = hi.y.saturating_sub(by);
+    FBox::new(lo, hi)
+}
+
+// Moves some leaf, mostly near, and answers whether it shows the new box.
+fn move_some(nodes: &mut Nodes, state: &mut u32) -> Option<bool> {
+    let root = nodes.root()?;
+    let node = leaf_below(nodes, root, state, MOST_HEIGHT + 1)?;
+    let (slot, before) = leaf_at(nodes, node)?;
+    let fat = if next_word(state) % 8 == 0 {
+        scattered(state)?
+    } else {
+        shifted(&before, state)?
+    };
+    nodes.move_leaf(node, fat);
+    Some(leaf_at(nodes, node) == Some((slot, fat)))
+}
+
+// Moves a hundred leaves.
+fn move_hundred(nodes: &mut Nodes, state: &mut u32) -> bool {
+    for _ in 0..100 {
+        if move_some(nodes, state) != Some(true) {
+            return false;
+        }
+    }
+    true
+}
+
+// A leaf's box, or an inner node's hull.
+fn shown_bounds(nodes: &Nodes, node: usize) -> FBox
+    requires { IsSome (view_in nodes.now node) }
+{
+    match nodes.view(node) {
+        NodeView::Leaf { slot: _, fat } => fat,
+        NodeView::Inner {
+            left: _,
+            right: _,
+            hull,
+            height: _,
+        } => hull,
+    }
+}
+
+// Whether each hull is the union of what stands below it, in a tree of so many levels.
+fn is_refitted(nodes: &Nodes, node: usize, levels: u8) -> bool
+    requires { IsSome (view_in nodes.now node) }
+{
+    if levels == 0 {
+        return false;
+    }
+    match nodes.view(node) {
+        NodeView::Leaf { slot: _, fat: _ } => true,
+        NodeView::Inner {
+            left,
+            right,
+            hull,
+            height: _,
+        } => {
+            shown_bounds(nodes, left).union(&shown_bounds(nodes, right)) == hull
+                && is_refitted(nodes, left, levels - 1)
+                && is_refitted(nodes, right, levels - 1)
+        }
+    }
+}
+
+// The same of the whole tree.
+fn is_all_refitted(nodes: &Nodes) -> bool {
+    match nodes.root() {
+        None => true,
+        Some(root) => is_refitted(nodes, root, MOST_HEIGHT + 1),
+    }
 }
 
 // What several workers may read at once.
@@ -209,5 +306,23 @@ fn a_rebuild_keeps_the_leaves(rt: HostRuntime) -> Result<(), Fail> {
     assert_eq!(rt; leaf_at(&nodes, first), Some((0, far)));
     assert_eq!(rt; leaf_at(&nodes, second), Some((1, near)));
     assert_eq!(rt; root_bounds(&nodes), Some(near.union(&far)));
+    Ok(())
+}
+
+#[test]
+fn hulls_stay_unions_while_leaves_move(rt: HostRuntime) -> Result<(), Fail> {
+    let mut nodes = Nodes::new(rt.alloc())?;
+    let mut state = 7;
+    'fill: for slot in 0..4_096 {
+        let fat = scattered(&mut state).ok_or("a box")?;
+        add_next(&mut nodes, slot, fat);
+    }
+    'rounds: for round in 0..40 {
+        assert!(rt; move_hundred(&mut nodes, &mut state), "round {round}");
+        assert!(rt; is_all_refitted(&nodes), "round {round}");
+        if round == 20 {
+            nodes.rebuild();
+        }
+    }
     Ok(())
 }

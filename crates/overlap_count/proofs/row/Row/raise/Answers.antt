@@ -7,7 +7,7 @@ pub raise_within-requires-clause-within : goal.raise_within-requires-clause-with
 raise_within-requires-clause-within c = omega (arith, c.in_ok-grow.ensures.len, c.requires.within)
 
 pub raise_within-requires-clause-room : goal.raise_within-requires-clause-room
-raise_within-requires-clause-room c = omega (arith, c.in_ok-grow.ensures.ok c.args.place, c.requires.room)
+raise_within-requires-clause-room c on = omega (arith, c.in_ok-grow.ensures.ok c.args.place, c.requires.room)
 
 pub returns-clause-ok : goal.returns-clause-ok
 returns-clause-ok c k =

@@ -1,14 +1,11 @@
 -- The low digit turns, and the high one where the low one was 1.
-use Rattle.std.proofs.Common.{◌*◌, ◌%◌, ◌^◌}
-use Rattle.overlap_count.proofs.DigitLemmas.{one_bit, no_bit, raised_here, raised_other}
+use Rattle.overlap_count.proofs.DigitLemmas.{raised_if, raised_other}
 use Rattle.overlap_count.proofs.tally.Tally.raised.Goals as goal
 
 pub returns-clause-here : goal.returns-clause-here
 returns-clause-here c =
-    let place = c.args.place in
-    raised_here c.args.self.low c.args.self.high (1 * 2 ^ place % 18446744073709551616) place (one_bit place c.requires.place) c.requires.room
+    raised_if c.args.rises c.args.self.low c.args.self.high c.bit_if-bit.result c.args.place c.bit_if-bit.ensures.here c.requires.room
 
 pub returns-clause-others : goal.returns-clause-others
 returns-clause-others c k lt other =
-    let place = c.args.place in
-    raised_other c.args.self.low c.args.self.high (1 * 2 ^ place % 18446744073709551616) k (no_bit place k c.requires.place other)
+    raised_other c.args.self.low c.args.self.high c.bit_if-bit.result k (c.bit_if-bit.ensures.others k other)

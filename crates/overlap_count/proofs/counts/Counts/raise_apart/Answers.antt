@@ -2,7 +2,7 @@
 use Rattle.std.proofs.Common.{◌<◌, arith, sym, ◌∙◌}
 use Rattle.fixed_box.specs.declared.TheConstants.{SLOTS}
 use Rattle.overlap_count.proofs.TableLemmas.{raised_full, raised_table, same_sets, counts}
-use Rattle.overlap_count.proofs.counts.Counts.raise.Goals as goal
+use Rattle.overlap_count.proofs.counts.Counts.raise_apart.Goals as goal
 
 pub invariant_of-self : goal.invariant_of-self
 invariant_of-self c =

@@ -1,0 +1,15 @@
+use Rattle.std.proofs.Common.{◌≡◌, ◌<◌, ◌^◌, ◌++◌, length}
+use Rattle.box_tree.specs.Boxes.{raised}
+use Rattle.box_tree.specs.Descent.{exact_in}
+use Rattle.box_tree.specs.Group.{crossed, all_visits_in}
+use Rattle.box_tree.proofs.touched.search_each.Given as goal
+
+abbrev pub invariant-touched : goal.invariant-touched
+invariant-touched l = record {
+  found : l.found.items ++ crossed (exact_in l.bodies l.nodes) l.rest ≡ l.fn.found.items ++ crossed (exact_in l.bodies l.nodes) l.touched;
+  count : raised l.number (all_visits_in l.nodes l.rest) ≡ raised l.fn.looked (all_visits_in l.nodes l.touched);
+  fits : l.number < 2 ^ 64;
+}
+
+abbrev pub decreases-touched : goal.decreases-touched
+decreases-touched l = length l.rest

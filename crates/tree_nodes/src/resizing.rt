@@ -1,0 +1,129 @@
+ghost use Rattle.std.specs.Prelude.{◌≡◌, ◌≢◌, ℕ, ◌≤◌, true, false, option_map};
+ghost use Rattle.slab.specs.Slab.{get, ContainsKey};
+ghost use Rattle.fixed_box.specs.Bounds.{Bounds};
+ghost use Rattle.tree_nodes.specs.Resized.{with_bounds, resized, Raises, Rebounded};
+ghost use Rattle.tree_nodes.specs.Stored.{Holds, Sound, KeepsKeys};
+ghost use Rattle.tree_nodes.specs.Tree.{Tree, top, count_of};
+ghost use Rattle.tree_nodes.specs.declared.resizing.Above.TheVariants.{Stays, Changes};
+
+use crate::NodeView;
+use crate::node_slab::bounds_at;
+use fixed_box::FBox;
+use slab::Slab;
+
+// What becomes of a node where one of its children gets other bounds.
+enum Above {
+    // Its hull stays.
+    Stays,
+    // The parent gets another hull.
+    Changes { parent: usize, hull: FBox },
+    // No node is noted that has this child.
+    Unknown,
+}
+
+// Gives a node other bounds, and refits the nodes above it, up to one whose hull stays. It follows the noted parents, and
+// writes nothing before it stands at such a node or at the root: where they don't lead there, it answers false.
+pub(crate) fn resize(
+    slab: &mut Slab<NodeView>,
+    parents: &[usize],
+    root: usize,
+    at: usize,
+    bounds: &FBox,
+    levels: u8,
+) -> bool
+    requires { (t : Tree) × Sound slab.old t × (top t ≡ root) × (1 ≤ count_of t at) }
+    ensures resized { (t : Tree) → Sound slab.old t → top t ≡ root → 1 ≤ count_of t at → result ≡ true →
+        Holds slab.new (resized at bounds.now t) }
+    ensures refused { result ≡ false → slab.new ≡ slab.old }
+    ensures keys { KeepsKeys slab.old slab.new }
+{
+    if at == root {
+        write_bounds(slab, at, bounds);
+        return true;
+    }
+    match change_above(slab, parents, at, bounds) {
+        Above::Stays => {
+            write_bounds(slab, at, bounds);
+            true
+        }
+        Above::Changes { parent, hull } => {
+            if levels == 0 {
+                return false;
+            }
+            if !resize(slab, parents, root, parent, &hull, levels - 1) {
+                return false;
+            }
+            write_bounds(slab, at, bounds);
+            true
+        }
+        Above::Unknown => false,
+    }
+}
+
+// The noted parent of a node that gets other bounds, where it is one, and its hull then.
+fn change_above(slab: &Slab<NodeView>, parents: &[usize], at: usize, bounds: &FBox) -> Above
+    requires { (t : Tree) × Sound slab.now t }
+    ensures stays { (t : Tree) → Sound slab.now t → result ≡ Stays →
+        (parent : ℕ) × (hull : Bounds) × Raises t at parent bounds.now hull hull }
+    ensures changes { (t : Tree) (parent : ℕ) (raised : Bounds) → Sound slab.now t → result ≡ Changes parent raised →
+        (hull : Bounds) × Raises t at parent bounds.now hull raised }
+{
+    let Some(noted) = parents.get(at) else {
+        return Above::Unknown;
+    };
+    let parent = *noted;
+    match slab.get(parent) {
+        Some(
+            NodeView::Inner {
+                left,
+                right,
+                hull,
+                height: _,
+            },
+        ) => {
+            if *left == at {
+                let raised = bounds.union(&bounds_at(slab, *right));
+                return change_of(parent, hull, &raised);
+            }
+            if *right == at {
+                let raised = bounds_at(slab, *left).union(bounds);
+                return change_of(parent, hull, &raised);
+            }
+            Above::Unknown
+        }
+        _ => Above::Unknown,
+    }
+}
+
+// Whether the hull that a parent gets is another one.
+#[inline]
+fn change_of(parent: usize, hull: &FBox, raised: &FBox) -> Above
+    ensures stays { result ≡ Stays → raised.now ≡ hull.now }
+    ensures changes { (p : ℕ) (h : Bounds) → result ≡ Changes p h → (p ≡ parent) × (h ≡ raised.now) }
+{
+    if raised == hull {
+        return Above::Stays;
+    }
+    Above::Changes {
+        parent,
+        hull: *raised,
+    }
+}
+
+// Writes other bounds to a node.
+#[inline]
+fn write_bounds(slab: &mut Slab<NodeView>, at: usize, bounds: &FBox)
+    requires { ContainsKey slab.old at }
+    ensures written { Rebounded slab.old slab.new at bounds.now }
+    ensures keys { KeepsKeys slab.old slab.new }
+{
+    match &mut slab[at] {
+        NodeView::Leaf { slot: _, fat } => *fat = *bounds,
+        NodeView::Inner {
+            left: _,
+            right: _,
+            hull,
+            height: _,
+        } => *hull = *bounds,
+    }
+}
