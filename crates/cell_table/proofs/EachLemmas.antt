@@ -1,6 +1,6 @@
 -- What is found in a bucket, sorted.
 use Rattle.std.proofs.Common.{◌≡◌, ℕ, zero, suc, ◌+◌, ◌<◌, ◌≤◌, Bool, true, false, cond, eqb, ◌==◌, ◌&&◌, ◌||◌, List, []}
-use Rattle.std.proofs.Common.{◌∷◌, ◌++◌, length, get_or, take, drop, map, Option, None, Some, refl, sym, ap, ◌∙◌, subst, arith, ⊎_elim, ◌⊎◌}
+use Rattle.std.proofs.Common.{◌∷◌, ◌++◌, length, get_or, take, drop, map, Option, None, Some, is_some, refl, sym, ap, ◌∙◌, subst, arith, ⊎_elim, ◌⊎◌}
 use Rattle.std.specs.List.{filter, Contains}
 use Rattle.std.specs.List.Sorted.{IsPermutation, IsSorted, IsStrictlyIncreasing}
 use Rattle.std.specs.Ordering.{nat_cmp, int_eq}
@@ -16,10 +16,10 @@ use Rattle.fixed_box.specs.declared.TheConstants.{SLOTS}
 use Rattle.cell_table.specs.declared.TheConstants.{BUCKETS}
 use Rattle.cell_table.specs.declared.cell_key.CellKey.{CellKey}
 use Rattle.fixed_box.specs.SlotMap.{entries_from, map_of}
-use Rattle.cell_table.specs.Cells.{IsDistinct as DistinctSlots, is_cell, Visits, has, same_cell, slots_in}
+use Rattle.cell_table.specs.Cells.{IsDistinct as DistinctSlots, is_cell, IsBucket, Visits, VisitsRow, has, same_cell, slots_in}
 use Rattle.fixed_box.specs.Links.{Fresh, Distinct}
 use Rattle.fixed_box.specs.LinkLaws.{distinct_is}
-use Rattle.cell_table.specs.Kept.{IsKept, picked, at, meets_test, bucket_of, walk}
+use Rattle.cell_table.specs.Kept.{IsKept, Rings, picked, at, meets_test, bucket_of, ring_of, walk}
 use Rattle.fixed_box.specs.SlotMapLaws.{entries_of_map, get_map}
 use Rattle.cell_table.proofs.RingLemmas.{fresh_not, walk_ring}
 
@@ -282,3 +282,30 @@ visited keys N P L old new key k bl put =
           ∙ is_cell_is key (get_or keys s None) ∙ ap (is_cell key) (sym (get_map keys s));
       once = distinct_has slots (subst Distinct (sym e) (distinct_filter (at q keys) r.slots r.distinct));
     }
+
+-- ---- a whole bucket
+some_passes : (p : CellKey → Bool) (o : Option CellKey) → meets_test p o ≡ true → is_some o ≡ true
+some_passes p None h = h
+some_passes p (Some k) h = refl
+
+pub bucketed : (keys : List (Option CellKey)) (N P L : List ℕ) (key : CellKey) → IsKept keys N P L → bucket_of key < BUCKETS
+    → IsBucket (map_of keys) key (ring_of N key)
+bucketed keys N P L key k bl =
+    let r = k.rings (bucket_of key) bl in
+    let e : ring_of N key ≡ r.slots = walk_ring keys N P (bucket_of key) r k.keys_len in
+    record {
+      members = λ s h. ap (λ l. has l s) e ∙ r.members s ∙ ap (meets_test (λ c. bucket_of c == bucket_of key)) (sym (get_map keys s) ∙ h)
+          ∙ eqb_same (bucket_of key);
+      present = λ s h. ap is_some (get_map keys s)
+          ∙ some_passes (λ c. bucket_of c == bucket_of key) (get_or keys s None) (sym (ap (λ l. has l s) e ∙ r.members s) ∙ h);
+      once = distinct_has (ring_of N key) (subst Distinct (sym e) r.distinct);
+    }
+
+pub row_visited : (keys : List (Option CellKey)) (N P L old new : List ℕ) (key : CellKey) (end : ℤ) → IsKept keys N P L
+    → ((c : CellKey) → bucket_of c < BUCKETS) → Rings N key end old new → VisitsRow (map_of keys) key end old new
+row_visited keys N P L old new key end k below r = record {
+  slots = r.slots;
+  appended = r.appended;
+  members = λ z s lo lt h. r.whole z s lo lt ((bucketed keys N P L (record key { z = z }) k (below (record key { z = z }))).members s h);
+  present = λ s h. let l = r.linked s h in (bucketed keys N P L l.key k (below l.key)).present s l.here;
+}

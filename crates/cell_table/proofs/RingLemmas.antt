@@ -2,11 +2,10 @@
 use Rattle.std.proofs.Common.{◌≡◌, ◌≢◌, ℕ, zero, suc, ◌+◌, ◌<◌, ◌≤◌, Bool, List, [], ◌∷◌, ◌++◌, length, get_or, set, Option}
 use Rattle.std.proofs.Common.{None, Some, cond, ◌||◌, ◌==◌, refl, sym, ap, ◌∙◌, arith, subst, append-nil, append_assoc, false, true, inl, inr, nat_lt}
 use Rattle.std.proofs.lemmas.List.{get_or-set_same, get_or-set_other, length-set}
-use Rattle.std.proofs.lemmas.Map.Steps.{length-le_from_distinct_below}
-use Rattle.std.specs.List.{IsDistinct, AllByRecursion, list_any, filter}
+use Rattle.std.specs.List.{filter}
 use lib.Dec.{eqb}
 use Rattle.std.proofs.lemmas.Bool.{cases_eq, false≢true, true≢false}
-use Rattle.std.proofs.lemmas.Bool.Decides.{eqb_tells, nat_tests}
+use Rattle.std.proofs.lemmas.Bool.Decides.{nat_tests}
 use Rattle.fixed_box.specs.declared.TheConstants.{SLOTS}
 use Rattle.cell_table.specs.declared.TheConstants.{BUCKETS}
 use Rattle.cell_table.specs.declared.rings.TheConstants.{NODES}
@@ -341,3 +340,25 @@ pick_done p N n u out goal le h = sym (append-nil out) ∙ ap (λ l. out ++ l) (
 
 pub pick_out : (p : ℕ → Bool) (N : List ℕ) (n u : ℕ) (out goal : List ℕ) → n ≡ 0 → out ++ filter p (walk N n u) ≡ goal → out ≡ goal
 pick_out p N n u out goal e h = sym (append-nil out) ∙ ap (λ l. out ++ l) (sym (ap (λ z. filter p (walk N z u)) e ∙ ap (filter p) (walk_none N u))) ∙ h
+
+-- one step of a walk
+pub meet_more : (N : List ℕ) (n m u : ℕ) (out goal : List ℕ) → u < SLOTS → n ≡ suc m → out ++ walk N n u ≡ goal
+    → (out ++ u ∷ []) ++ walk N m (get_or N u 0) ≡ goal
+meet_more N n m u out goal lt e h = append_assoc out (u ∷ []) (walk N m (get_or N u 0)) ∙ ap (λ l. out ++ l) (sym (walk_more N n m u lt e)) ∙ h
+
+pub meet_done : (N : List ℕ) (n u : ℕ) (out goal : List ℕ) → SLOTS ≤ u → out ++ walk N n u ≡ goal → out ≡ goal
+meet_done N n u out goal le h = sym (append-nil out) ∙ ap (λ l. out ++ l) (sym (walk_end N n u le)) ∙ h
+
+pub meet_out : (N : List ℕ) (n u : ℕ) (out goal : List ℕ) → n ≡ 0 → out ++ walk N n u ≡ goal → out ≡ goal
+meet_out N n u out goal e h = sym (append-nil out) ∙ ap (λ l. out ++ l) (sym (ap (λ z. walk N z u) e ∙ walk_none N u)) ∙ h
+
+-- what either of two lists has
+pub has_left : (xs ys : List ℕ) (k : ℕ) → has xs k ≡ true → has (xs ++ ys) k ≡ true
+has_left xs ys k h = has_append xs ys k ∙ ap (λ b. b || has ys k) h
+
+pub has_right : (xs ys : List ℕ) (k : ℕ) → has ys k ≡ true → has (xs ++ ys) k ≡ true
+has_right xs ys k h = has_append xs ys k ∙ ap (λ b. has xs k || b) h ∙ or_true (has xs k)
+  where
+    or_true : (b : Bool) → (b || true) ≡ true
+    or_true true = refl
+    or_true false = refl

@@ -1,8 +1,8 @@
 -- What a table of cells means: the slots of a cell and of a level, of a map from slot to key.
-use Rattle.std.specs.Prelude.{◌≡◌, ℕ, ℤ, Bool, false, ◌&&◌, ◌||◌, ◌==◌, List, [], ◌∷◌, ◌++◌, map, filter, Option, None, Some, refl}
+use Rattle.std.specs.Prelude.{◌≡◌, ℕ, ℤ, ◌≤ℤ◌, ◌<ℤ◌, Bool, true, false, ◌&&◌, ◌||◌, ◌==◌, List, [], ◌∷◌, ◌++◌, map, filter, Option, None, Some, refl}
 use Rattle.std.specs.Coded.{Coded, code_by, coded×, coded_ℤ, coded_ℕ}
 use Rattle.std.specs.Ordering.{nat_cmp, int_eq}
-use Rattle.std.specs.FinMap.{FinMap, entries, get}
+use Rattle.std.specs.FinMap.{FinMap, entries, get, contains_key}
 use Rattle.cell_table.specs.declared.cell_key.CellKey.{CellKey}
 
 -- a key is stored as the tuple of its fields
@@ -44,3 +44,22 @@ pub record Visits (cells : FinMap nat_cmp CellKey) (key : CellKey) (old new : Li
   pub appended : new ≡ old ++ slots
   pub members : (slot : ℕ) → has slots slot ≡ is_cell key (get cells slot)
   pub once : IsDistinct slots
+
+-- a list of slots that have keys, among them all with this key, and each once
+pub record IsBucket (cells : FinMap nat_cmp CellKey) (key : CellKey) (slots : List ℕ) : Type 0 where
+  pub members : (slot : ℕ) → get cells slot ≡ Some key → has slots slot ≡ true
+  pub present : (slot : ℕ) → has slots slot ≡ true → contains_key cells slot ≡ true
+  pub once : IsDistinct slots
+
+-- such a list is appended
+pub record VisitsBucket (cells : FinMap nat_cmp CellKey) (key : CellKey) (old new : List ℕ) : Type 0 where
+  pub slots : List ℕ
+  pub appended : new ≡ old ++ slots
+  pub bucket : IsBucket cells key slots
+
+-- Slots that have keys are appended, among them all with keys in a row of cells, from that of a key on and below an end of z.
+pub record VisitsRow (cells : FinMap nat_cmp CellKey) (key : CellKey) (end : ℤ) (old new : List ℕ) : Type 0 where
+  pub slots : List ℕ
+  pub appended : new ≡ old ++ slots
+  pub members : (z : ℤ) (slot : ℕ) → key.z ≤ℤ z → z <ℤ end → get cells slot ≡ Some (record key { z = z }) → has slots slot ≡ true
+  pub present : (slot : ℕ) → has slots slot ≡ true → contains_key cells slot ≡ true

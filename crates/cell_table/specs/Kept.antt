@@ -1,6 +1,6 @@
 -- This file only serves proofs: the rings of links that keep the slots of each bucket, and the numbers of each level.
-use Rattle.std.specs.Prelude.{◌≡◌, ◌≢◌, ℕ, zero, suc, ◌+◌, ◌*◌, ◌/◌, ◌%◌, ◌<◌, Bool, false, ◌==◌, nat_lt}
-use Rattle.std.specs.Prelude.{List, [], ◌∷◌, length, slice_index, slice_index_or, slice_set, map, filter, count_by, Option, None, Some, if◌then◌else◌}
+use Rattle.std.specs.Prelude.{◌≡◌, ℕ, zero, suc, ◌+◌, ◌*◌, ◌%◌, ◌<◌, Bool, true, false, ◌==◌, nat_lt, ℤ, ◌≤ℤ◌, ◌<ℤ◌}
+use Rattle.std.specs.Prelude.{List, [], ◌∷◌, ◌++◌, length, slice_index, slice_index_or, slice_set, map, filter, count_by, Option, None, Some, if◌then◌else◌}
 use Rattle.std.specs.Int.{cast_unsigned, w32}
 use Rattle.fixed_box.specs.declared.TheConstants.{SLOTS}
 use Rattle.cell_table.specs.declared.TheConstants.{BUCKETS, LEVELS}
@@ -12,7 +12,7 @@ use Rattle.fixed_box.specs.Links.{Distinct, Links}
 
 -- the bucket that a key is hashed into
 abbrev pub bucket_of : CellKey → ℕ
-bucket_of k = (cast_unsigned w32 k.x * 461845907 + cast_unsigned w32 k.y * 334214467 + cast_unsigned w32 k.z * 295559667 + k.level * 97531) / 65536 % BUCKETS
+bucket_of k = (cast_unsigned w32 k.x * 7539 + cast_unsigned w32 k.y * 2395 + cast_unsigned w32 k.z + k.level * 5003) % BUCKETS
 
 -- the slots of a list, counted from n, whose keys pass a test
 abbrev pub slots_from : (CellKey → Bool) → ℕ → List (Option CellKey) → List ℕ
@@ -56,6 +56,22 @@ walk next (suc n) u = if nat_lt u SLOTS then u ∷ walk next n (slice_index next
 -- those of the slots that have this key
 abbrev pub picked : CellKey → List (Option CellKey) → List ℕ → List ℕ
 picked key keys slots = filter (at (λ k. same_cell k key) keys) slots
+
+-- the slots in the ring of a key's bucket
+abbrev pub ring_of : List ℕ → CellKey → List ℕ
+ring_of next key = walk next SLOTS (slice_index next (SLOTS + bucket_of key))
+
+-- a slot that stands in some ring
+pub record IsLinked (next : List ℕ) (s : ℕ) : Type 0 where
+  pub key : CellKey
+  pub here : has (ring_of next key) s ≡ true
+
+-- the rings of a row of cells are appended
+pub record Rings (next : List ℕ) (key : CellKey) (end : ℤ) (old new : List ℕ) : Type 0 where
+  pub slots : List ℕ
+  pub appended : new ≡ old ++ slots
+  pub whole : (z : ℤ) (s : ℕ) → key.z ≤ℤ z → z <ℤ end → has (ring_of next (record key { z = z })) s ≡ true → has slots s ≡ true
+  pub linked : (s : ℕ) → has slots s ≡ true → IsLinked next s
 
 -- the links after slot s is put behind node u
 abbrev pub put_next : List ℕ → ℕ → ℕ → List ℕ

@@ -2,7 +2,7 @@ ghost use Rattle.std.specs.Prelude.{◌≡◌, ℕ, ◌+◌, ◌<◌, ◌≤◌,
 ghost use Rattle.std.specs.Ordering.{nat_cmp};
 ghost use Rattle.std.specs.List.Sorted.{IsPermutation, IsSorted};
 ghost use Rattle.cell_table.specs.Cells.{same_cell};
-ghost use Rattle.cell_table.specs.Kept.{bucket_of, walk, picked, at, meets_test, slots_from};
+ghost use Rattle.cell_table.specs.Kept.{bucket_of, walk, picked, at, meets_test, slots_from, ring_of, Rings};
 
 use crate::buckets::{bucket_of, is_same};
 use crate::rings::NODES;
@@ -105,6 +105,56 @@ fn push_chain(
             out.push(at)?;
         }
         at = next[at as usize];
+    }
+    Ok(())
+}
+
+// Appends the slots in the buckets of a row of cells: from a cell on, below an end of z. What was there stays, after an
+// `Err` too.
+pub(crate) fn push_row(
+    next: &[u32],
+    key: &CellKey,
+    end: i32,
+    out: &mut Vec<u32>,
+) -> Result<(), NoMemory>
+    requires { length next.now ≡ NODES }
+    ensures ok { OnOk result (Rings next.now key.now end out.old.items out.new.items) }
+    ensures kept { take (vec_len out.old) out.new.items ≡ out.old.items }
+{
+    'row: for z in key.z..end {
+        push_bucket(next, &with_z(key, z), out)?;
+    }
+    Ok(())
+}
+
+fn with_z(key: &CellKey, z: i32) -> CellKey
+    ensures { result ≡ record key.now { z = z } }
+{
+    CellKey { z, ..*key }
+}
+
+// Appends the slots in the bucket of a key. What was there stays, after an `Err` too.
+pub(crate) fn push_bucket(next: &[u32], key: &CellKey, out: &mut Vec<u32>) -> Result<(), NoMemory>
+    requires { length next.now ≡ NODES }
+    ensures ok { OnOk result (out.new.items ≡ out.old.items ++ ring_of next.now key.now) }
+    ensures kept { take (vec_len out.old) out.new.items ≡ out.old.items }
+{
+    push_ring(next, next[(SLOTS + bucket_of(key)) as usize], out)
+}
+
+// Appends the slots that a walk meets. What was there stays, after an `Err` too.
+fn push_ring(next: &[u32], first: u32, out: &mut Vec<u32>) -> Result<(), NoMemory>
+    requires { length next.now ≡ NODES }
+    ensures ok { OnOk result (out.new.items ≡ out.old.items ++ walk next.now SLOTS first) }
+    ensures kept { take (vec_len out.old) out.new.items ≡ out.old.items }
+{
+    let mut node = first;
+    'ring: for _step in 0..SLOTS {
+        if node >= SLOTS {
+            break;
+        }
+        out.push(node)?;
+        node = next[node as usize];
     }
     Ok(())
 }

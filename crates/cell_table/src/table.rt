@@ -1,9 +1,9 @@
 ghost use Rattle.std.specs.Prelude.{◌≡◌, ◌<◌, ◌++◌, true, false, IfOk, OnOk, OnErr, length};
 ghost use Rattle.std.specs.FinMap as map;
-ghost use Rattle.cell_table.specs.Cells.{slots_in, slots_at, Visits};
+ghost use Rattle.cell_table.specs.Cells.{slots_in, slots_at, Visits, VisitsBucket, VisitsRow};
 
 use crate::buckets::bucket_of;
-use crate::cells::{no_counts, no_keys, push_cell, push_level, sort_from};
+use crate::cells::{no_counts, no_keys, push_bucket, push_cell, push_level, push_row, sort_from};
 use crate::rings::{link, nodes, unlink};
 use crate::{CellKey, LEVELS};
 use fixed_box::{NoMemory, SLOTS};
@@ -122,6 +122,34 @@ impl CellTable {
         ensures err { OnErr result (out.new.items ≡ out.old.items) }
     {
         push_cell(&self.keys, &self.next, key, out)
+    }
+
+    /// Appends the slots that share the bucket of this key, among them all with this key, in whichever order they stand
+    /// there. A search that tests what it finds needs no look at their keys. After `NoMemory` `out` is as before.
+    pub fn visit_bucket(&self, key: &CellKey, out: &mut Vec<u32>) -> Result<(), NoMemory>
+        ensures ok { OnOk result (VisitsBucket self.now key.now out.old.items out.new.items) }
+        ensures err { OnErr result (out.new.items ≡ out.old.items) }
+    {
+        let before = out.len();
+        let pushed = push_bucket(&self.next, key, out);
+        if pushed.is_err() {
+            out.truncate(before);
+        }
+        pushed
+    }
+
+    /// Appends the slots in the buckets of a row of cells, one bucket after the other: from the cell of a key on, below an
+    /// end of z. A slot comes again where buckets of the row are one. After `NoMemory` `out` is as before.
+    pub fn visit_row(&self, key: &CellKey, end: i32, out: &mut Vec<u32>) -> Result<(), NoMemory>
+        ensures ok { OnOk result (VisitsRow self.now key.now end out.old.items out.new.items) }
+        ensures err { OnErr result (out.new.items ≡ out.old.items) }
+    {
+        let before = out.len();
+        let pushed = push_row(&self.next, key, end, out);
+        if pushed.is_err() {
+            out.truncate(before);
+        }
+        pushed
     }
 
     /// Appends the slots whose keys have a level, rising, by a walk over all slots. After `NoMemory` `out` is as before.

@@ -60,3 +60,20 @@ fn slots_of_one_cell_are_found_in_order(rt: HostRuntime) -> Result<(), Fail> {
     assert_eq!(rt; (table.level_len(0), table.key_of(7)), (1, None));
     Ok(())
 }
+
+#[test]
+fn slots_of_a_row_are_found_by_their_buckets(rt: HostRuntime) -> Result<(), Fail> {
+    let mut table = CellTable::new(rt.alloc())?;
+    let key = cell_at(-1);
+    put(&mut table, 7, key);
+    put(&mut table, 3, CellKey { z: 2, ..key });
+    put(&mut table, 5, CellKey { z: 3, ..key });
+    let mut slots = Vec::new(rt.alloc());
+    table.visit_bucket(&key, &mut slots)?;
+    assert_eq!(rt; slots.as_slice(), [7].as_slice());
+    table.visit_row(&key, 3, &mut slots)?;
+    assert_eq!(rt; slots.as_slice(), [7, 7, 3].as_slice());
+    table.visit_row(&key, 1, &mut slots)?;
+    assert_eq!(rt; slots.len(), 3);
+    Ok(())
+}

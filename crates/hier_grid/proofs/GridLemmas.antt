@@ -1,6 +1,6 @@
 -- The cells of the boxes through changes, and that cells beside a region have all boxes of their level that meet it.
 use Rattle.std.proofs.Common.{◌≡◌, ℕ, zero, suc, ◌+◌, ◌<◌, ◌≤◌, Bool, true, false, cond, Option, None, Some, is_some, refl, sym, ap, ◌∙◌, arith}
-use Rattle.std.proofs.Common.{subst, option_map, List, [], ◌∷◌, ◌||◌, ◌==◌, length, map}
+use Rattle.std.proofs.Common.{subst, option_map, inl, inr, List, [], ◌∷◌, ◌||◌, ◌==◌, length, map}
 use Rattle.std.specs.Prelude.{find, unwrap_or, nat_lt}
 use Rattle.std.specs.List.{range_with_len, filter}
 use Rattle.std.proofs.lemmas.Cmp.{nat_cmp_total}
@@ -16,8 +16,9 @@ use Rattle.cell_table.specs.declared.cell_key.CellKey.{CellKey}
 use Rattle.cell_table.specs.Cells.{has, slots_at}
 use Rattle.hier_grid.specs.Cells.{cell_of, cell_on, IsAfter, IsBeside}
 use Rattle.hier_grid.specs.Grid.{IsGrid, IsSized}
-use Rattle.hier_grid.specs.Search.{HasAfter, HasCell, HasMet}
+use Rattle.hier_grid.specs.Search.{HasAfter, HasCell, HasMet, IsAbove}
 use Rattle.hier_grid.proofs.CellLemmas.{beside}
+use Rattle.hier_grid.proofs.SlotLemmas.{nat_next}
 
 low_find : (p : ℕ → Bool) (n m : ℕ) → n + m ≤ 11 → unwrap_or (find p (range_with_len n m)) 10 < 11
 low_find p n zero h = omega arith
@@ -135,3 +136,11 @@ pub none_met : (bodies : FinMap nat_cmp Bounds) (cells : FinMap nat_cmp CellKey)
     → length (slots_at cells level) ≡ 0 → HasMet bodies level region slots
 none_met bodies cells level region slots g none q b e l m =
     absurd (none_in (slots_at cells level) q none (has_level cells q (cell_of b) level l (g.keyed q ∙ ap (option_map cell_of) e)))
+
+-- What is above all boxes, where a level has no slot, is above them by one less.
+pub above_less : (bodies : FinMap nat_cmp Bounds) (cells : FinMap nat_cmp CellKey) (end : ℕ) → IsGrid bodies cells → IsAbove bodies (end + 1)
+    → length (slots_at cells end) ≡ 0 → IsAbove bodies end
+above_less bodies cells end g above none q b e = elim (nat_next (level_of b) end (above q b e)) as (λ _. level_of b < end) [
+  | inl below ↦ below
+  | inr at ↦ absurd (none_in (slots_at cells end) q none (has_level cells q (cell_of b) end at (g.keyed q ∙ ap (option_map cell_of) e)))
+]

@@ -1,14 +1,17 @@
 -- A slot's partners among candidates.
-use Rattle.std.proofs.Common.{◌≡◌, ℕ, ◌<◌, Bool, true, false, not, ◌&&◌, ◌||◌, ◌==◌, nat_lt, List, ◌++◌, Some, refl, sym, ap, ◌∙◌, arith, inl, inr}
+use Rattle.std.proofs.Common.{◌≡◌, ℕ, ◌<◌, Bool, true, false, not, ◌&&◌, ◌||◌, ◌==◌, nat_lt, List, [], ◌++◌, Some, refl, sym, ap, ◌∙◌, arith, inl, inr}
 use Rattle.std.specs.List.{filter}
-use Rattle.std.proofs.lemmas.Bool.{and_parts, and_from, or_cases}
+use Rattle.std.proofs.lemmas.Bool.{and_parts, and_from, or_cases, false≢true}
 use Rattle.std.proofs.lemmas.Bool.Decides.{nat_tests}
 use Rattle.std.proofs.lemmas.List.Folds.{list_any-append}
 use Rattle.std.specs.Ordering.{nat_cmp}
 use Rattle.std.specs.FinMap.{FinMap, get}
 use Rattle.fixed_box.specs.Bounds.{Bounds, meets}
-use Rattle.broad_index.specs.Members.{has_slot, both_meet}
-use Rattle.hier_grid.specs.Search.{meets_at, is_partner, AreReached}
+use Rattle.broad_index.specs.declared.pair.Pair.{Pair}
+use Rattle.broad_index.specs.Members.{has_pair, has_slot, both_meet}
+use Rattle.broad_index.specs.Touched.{ordered, ordered_pairs}
+use Rattle.hier_grid.specs.Search.{meets_at, is_partner, AreReached, IsSound}
+use Rattle.hier_grid.proofs.PairLemmas.{sound_more, found_more}
 use Rattle.hier_grid.proofs.SlotLemmas.{has_filtered, more_right}
 
 any_partner : (bodies : FinMap nat_cmp Bounds) (slot : ℕ) (body : Bounds) (any : Bool) (q : ℕ) → is_partner bodies slot body any q ≡ true
@@ -41,3 +44,19 @@ partner_in bodies slot body any slots old q b e m other due h =
 
 pub higher : (s q : ℕ) → s < q → (false || nat_lt s q) ≡ true
 higher s q lt = grind (arith, nat_tests)
+
+-- ---- a slot's pairs with its partners among candidates
+abbrev pub found_pairs : FinMap nat_cmp Bounds → ℕ → Bounds → Bool → List ℕ → List Pair
+found_pairs bodies slot body any slots = ordered_pairs slot (filter (is_partner bodies slot body any) slots)
+
+pub sound_pairs : (bodies : FinMap nat_cmp Bounds) (slot : ℕ) (body : Bounds) (any : Bool) (slots : List ℕ) (old : List Pair) → get bodies slot ≡ Some body
+    → IsSound bodies old → IsSound bodies (old ++ found_pairs bodies slot body any slots)
+sound_pairs bodies slot body any slots old own s =
+    sound_more bodies slot body (filter (is_partner bodies slot body any) slots) old own
+    (reached_more bodies slot body any slots [] (λ q h. absurd (false≢true h))) s
+
+pub pair_in : (bodies : FinMap nat_cmp Bounds) (slot : ℕ) (body : Bounds) (any : Bool) (slots : List ℕ) (old : List Pair) (q : ℕ) (b : Bounds)
+    → get bodies q ≡ Some b → meets body b ≡ true → not (q == slot) ≡ true → (any || nat_lt slot q) ≡ true → has_slot slots q ≡ true
+    → has_pair (old ++ found_pairs bodies slot body any slots) (ordered slot q) ≡ true
+pair_in bodies slot body any slots old q b e m other due h =
+    found_more slot q (filter (is_partner bodies slot body any) slots) old (partner_in bodies slot body any slots [] q b e m other due h)

@@ -1,16 +1,16 @@
 -- Slots in lists: what joining, filtering and visits of cells put into a list of slots.
 use Rattle.std.proofs.Common.{◌≡◌, ℕ, ◌+◌, ◌<◌, Bool, true, false, cond, ◌&&◌, ◌||◌, ◌==◌, List, [], ◌∷◌, ◌++◌, refl, sym, ap}
 use Rattle.std.proofs.Common.{◌∙◌, arith, ◌⊎◌}
-use Rattle.std.specs.Prelude.{ℤ, pos, ◌+ℤ◌, ◌<ℤ◌}
+use Rattle.std.specs.Prelude.{ℤ, pos, ◌+ℤ◌, ◌≤ℤ◌, ◌<ℤ◌}
 use Rattle.std.specs.List.{filter}
 use Rattle.std.proofs.lemmas.Bool.Decides.{nat_tests}
 use Rattle.std.proofs.lemmas.Int.{ints}
 use Rattle.std.proofs.lemmas.List.Folds.{list_any-append}
-use Rattle.std.specs.Ordering.{nat_cmp, int_eq}
+use Rattle.std.specs.Ordering.{nat_cmp}
 use Rattle.std.specs.FinMap.{FinMap}
 use Rattle.broad_index.specs.Members.{has_slot}
 use Rattle.cell_table.specs.declared.cell_key.CellKey.{CellKey}
-use Rattle.cell_table.specs.Cells.{has, is_cell, same_cell, Visits}
+use Rattle.cell_table.specs.Cells.{has, VisitsBucket, VisitsRow}
 use Rattle.hier_grid.specs.Search.{HasMore, HasCell}
 
 pub more_left : (old more : List ℕ) → HasMore old (old ++ more)
@@ -60,20 +60,20 @@ pub has_slot_is : (xs : List ℕ) (q : ℕ) → has xs q ≡ has_slot xs q
 has_slot_is [] q = refl
 has_slot_is (x ∷ xs) q = let t : (x == q) ≡ (q == x) = grind (arith, nat_tests) in ap (λ b. b || has xs q) t ∙ ap (λ b. (q == x) || b) (has_slot_is xs q)
 
-own_cell : (k : CellKey) → same_cell k k ≡ true
-own_cell k =
-    let l : (k.level == k.level) ≡ true = grind (arith, nat_tests) in
-    let x : int_eq k.x k.x ≡ true = grind (arith, ints) in
-    let y : int_eq k.y k.y ≡ true = grind (arith, ints) in
-    let z : int_eq k.z k.z ≡ true = grind (arith, ints) in
-    rw (l, x, y, z) refl
+pub bucket_visited : (cells : FinMap nat_cmp CellKey) (key : CellKey) (old new : List ℕ) → VisitsBucket cells key old new → HasCell cells key new
+bucket_visited cells key old new v q h =
+    ap (λ l. has_slot l q) v.appended ∙ more_right old v.slots q (sym (has_slot_is v.slots q) ∙ v.bucket.members q h)
 
-pub visited : (cells : FinMap nat_cmp CellKey) (key : CellKey) (old new : List ℕ) → Visits cells key old new → HasCell cells key new
-visited cells key old new v q h =
-    ap (λ l. has_slot l q) v.appended ∙ more_right old v.slots q (sym (has_slot_is v.slots q) ∙ v.members q ∙ ap (is_cell key) h ∙ own_cell key)
+pub bucket_more : (cells : FinMap nat_cmp CellKey) (key : CellKey) (old new : List ℕ) → VisitsBucket cells key old new → HasMore old new
+bucket_more cells key old new v q h = ap (λ l. has_slot l q) v.appended ∙ more_left old v.slots q h
 
-pub visited_more : (cells : FinMap nat_cmp CellKey) (key : CellKey) (old new : List ℕ) → Visits cells key old new → HasMore old new
-visited_more cells key old new v q h = ap (λ l. has_slot l q) v.appended ∙ more_left old v.slots q h
+pub row_visited : (cells : FinMap nat_cmp CellKey) (key : CellKey) (end : ℤ) (old new : List ℕ) → VisitsRow cells key end old new
+    → (z : ℤ) → key.z ≤ℤ z → z <ℤ end → HasCell cells (record key { z = z }) new
+row_visited cells key end old new v z lo lt q h =
+    ap (λ l. has_slot l q) v.appended ∙ more_right old v.slots q (sym (has_slot_is v.slots q) ∙ v.members z q lo lt h)
+
+pub row_more : (cells : FinMap nat_cmp CellKey) (key : CellKey) (end : ℤ) (old new : List ℕ) → VisitsRow cells key end old new → HasMore old new
+row_more cells key end old new v q h = ap (λ l. has_slot l q) v.appended ∙ more_left old v.slots q h
 
 -- a number below the next one is below this one or is it
 pub below_next : (z y n : ℤ) → n ≡ (y +ℤ pos 1) → z <ℤ n → (z <ℤ y) ⊎ (z ≡ y)

@@ -61,16 +61,6 @@ IsOther body b = (level_of body < level_of b) ⊎ ((level_of b ≡ level_of body
 abbrev pub IsDue : ℕ → Bounds → ℕ → Bounds → Type 0
 IsDue slot body q b = ((cell_of b ≡ cell_of body) × (slot < q)) ⊎ IsOther body b
 
--- the partners of a slot with higher levels or in later cells are in a list
-abbrev pub HasOthers : FinMap nat_cmp Bounds → ℕ → Bounds → List ℕ → Type 0
-HasOthers bodies slot body slots =
-    (q : ℕ) (b : Bounds) → get bodies q ≡ Some b → meets body b ≡ true → not (q == slot) ≡ true → IsOther body b → has_slot slots q ≡ true
-
--- the partners of a slot whose pairs with it are to be found from it are in a list
-abbrev pub HasDue : FinMap nat_cmp Bounds → ℕ → Bounds → List ℕ → Type 0
-HasDue bodies slot body slots =
-    (q : ℕ) (b : Bounds) → get bodies q ≡ Some b → meets body b ≡ true → not (q == slot) ≡ true → IsDue slot body q b → has_slot slots q ≡ true
-
 -- what was found is right
 abbrev pub IsSound : FinMap nat_cmp Bounds → List Pair → Type 0
 IsSound bodies pairs = (p : Pair) → has_pair pairs p ≡ true → is_near bodies p ≡ true
@@ -78,6 +68,21 @@ IsSound bodies pairs = (p : Pair) → has_pair pairs p ≡ true → is_near bodi
 -- what was found is still there
 abbrev pub HasPairs : List Pair → List Pair → Type 0
 HasPairs old new = (p : Pair) → has_pair old p ≡ true → has_pair new p ≡ true
+
+-- the pairs of a slot with higher slots of its cell were found
+abbrev pub FindsOwn : FinMap nat_cmp Bounds → ℕ → Bounds → List Pair → Type 0
+FindsOwn bodies slot body found =
+    (q : ℕ) (b : Bounds) → get bodies q ≡ Some b → meets body b ≡ true → not (q == slot) ≡ true → (cell_of b ≡ cell_of body) × (slot < q)
+    → has_pair found (ordered slot q) ≡ true
+
+-- its pairs with boxes of higher levels or in later cells were found
+abbrev pub FindsOthers : FinMap nat_cmp Bounds → ℕ → Bounds → List Pair → Type 0
+FindsOthers bodies slot body found =
+    (q : ℕ) (b : Bounds) → get bodies q ≡ Some b → meets body b ≡ true → not (q == slot) ≡ true → IsOther body b → has_pair found (ordered slot q) ≡ true
+
+-- a level above those of all boxes
+abbrev pub IsAbove : FinMap nat_cmp Bounds → ℕ → Type 0
+IsAbove bodies end = (q : ℕ) (b : Bounds) → get bodies q ≡ Some b → level_of b < end
 
 -- the pairs that are to be found from a slot were found
 abbrev pub FindsFrom : FinMap nat_cmp Bounds → ℕ → Bounds → List Pair → Type 0

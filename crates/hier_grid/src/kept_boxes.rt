@@ -1,8 +1,8 @@
-ghost use Rattle.std.specs.Prelude.{◌≡◌, ℕ, ◌<◌, true, false, Some, IsTrue, IfOk, OnOk};
+ghost use Rattle.std.specs.Prelude.{◌≡◌, ℕ, ◌<◌, ◌≤◌, true, false, Some, IsTrue, IfOk, OnOk};
 ghost use Rattle.std.specs.FinMap as map;
 ghost use Rattle.fixed_box.specs.Bounds.{Bounds, meets};
 ghost use Rattle.hier_grid.specs.Grid.{AreKeyed};
-ghost use Rattle.hier_grid.specs.Search.{HasAfter, HasKeyed, HasMet, HasMetIn, HasMore};
+ghost use Rattle.hier_grid.specs.Search.{HasAfter, HasKeyed, HasMet, HasMetIn, HasMore, IsAbove};
 ghost use Rattle.hier_grid.specs.Space.{space};
 
 use crate::cell::cell_of;
@@ -136,19 +136,36 @@ impl KeptBoxes {
         Ok(())
     }
 
-    /// Appends slots, and among them all whose boxes meet a region and have a level from one on.
+    /// A level above those of all boxes.
+    pub(crate) fn levels_end(&self) -> u8
+        ensures bound { result ≤ LEVELS }
+        ensures above { IsAbove self.now result }
+    {
+        let mut end = LEVELS;
+        'end: while end > 0 {
+            if self.cells.level_len(end - 1) > 0 {
+                break;
+            }
+            end -= 1;
+        }
+        end
+    }
+
+    /// Appends slots, and among them all whose boxes meet a region and have a level from one on and below an end.
     pub(crate) fn push_from(
         &self,
         first: u8,
+        end: u8,
         region: &FBox,
         looked: &mut u64,
         places: &mut Vec<u32>,
         out: &mut Vec<u32>,
     ) -> Result<(), NoMemory>
+        requires { end ≤ LEVELS }
         ensures more { OnOk result (HasMore out.old.items out.new.items) }
-        ensures found { OnOk result (HasMetIn self.now first LEVELS region.now out.new.items) }
+        ensures found { OnOk result (HasMetIn self.now first end region.now out.new.items) }
     {
-        'levels: for level in first..LEVELS {
+        'levels: for level in first..end {
             self.push_candidates(level, region, looked, places, out)?;
         }
         Ok(())

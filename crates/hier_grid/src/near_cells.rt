@@ -59,7 +59,7 @@ pub(crate) fn count_beside(level: u8, region: &FBox) -> u64
     x.saturating_mul(y).saturating_mul(z)
 }
 
-// Appends the slots in the cells from one corner on, below another.
+// Appends the slots in the cells from one corner on, below another, and others that share their buckets.
 fn push_block(
     cells: &CellTable,
     from: &CellKey,
@@ -103,13 +103,11 @@ fn push_row(
     ensures more { OnOk result (HasMore out.old.items out.new.items) }
     ensures found { OnOk result ((z : ℤ) → from.now.z ≤ℤ z → z <ℤ end.now.z → HasCell cells.now (record from.now { z = z }) out.new.items) }
 {
-    'row: for z in from.z..end.z {
-        push_cell(cells, &with_z(from, z), out)?;
-    }
+    cells.visit_row(from, end.z, out)?;
     Ok(())
 }
 
-/// Appends the slots in a cell.
+/// Appends the slots in a cell, and those that share its bucket.
 pub(crate) fn push_cell(
     cells: &CellTable,
     key: &CellKey,
@@ -118,7 +116,7 @@ pub(crate) fn push_cell(
     ensures more { OnOk result (HasMore out.old.items out.new.items) }
     ensures found { OnOk result (HasCell cells.now key.now out.new.items) }
 {
-    cells.visit_in(key, out)?;
+    cells.visit_bucket(key, out)?;
     Ok(())
 }
 
@@ -132,12 +130,6 @@ fn with_y(key: &CellKey, y: i32) -> CellKey
     ensures { result ≡ record key.now { y = y } }
 {
     CellKey { y, ..*key }
-}
-
-fn with_z(key: &CellKey, z: i32) -> CellKey
-    ensures { result ≡ record key.now { z = z } }
-{
-    CellKey { z, ..*key }
 }
 
 // The first cell beside a region, on each axis.

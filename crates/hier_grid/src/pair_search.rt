@@ -1,16 +1,16 @@
-ghost use Rattle.std.specs.Prelude.{◌≡◌, ◌<◌, Some, OnOk};
+ghost use Rattle.std.specs.Prelude.{◌≡◌, ◌<◌, ◌≤◌, Some, OnOk};
 ghost use Rattle.std.specs.FinMap as map;
 ghost use Rattle.broad_index.specs.Members.{has_pair, is_near};
 ghost use Rattle.broad_index.specs.declared.pair.Pair as pair;
 ghost use Rattle.fixed_box.specs.Bounds.{level_of};
-ghost use Rattle.hier_grid.specs.Search.{AreReached, HasMore, HasDue, HasOthers};
-ghost use Rattle.hier_grid.specs.Search.{IsSound, HasPairs, FindsFrom, FindsFor};
+ghost use Rattle.hier_grid.specs.Cells.{cell_of};
+ghost use Rattle.hier_grid.specs.Search.{IsSound, HasPairs, IsAbove, FindsFrom, FindsFor, FindsOwn, FindsOthers};
 
 use crate::cell::cell_of;
 use crate::kept_boxes::KeptBoxes;
-use crate::partners::push_partners;
-use broad_index::{Pair, push_ordered_pairs};
-use cell_table::LEVELS;
+use crate::partners::push_pairs;
+use broad_index::Pair;
+use cell_table::{CellKey, LEVELS};
 use fixed_box::{FBox, NoMemory};
 use std::alloc::Global;
 
@@ -20,7 +20,6 @@ pub(crate) struct Findings {
     pub(crate) pairs: Vec<Pair>,
     candidates: Vec<u32>,
     places: Vec<u32>,
-    partners: Vec<u32>,
 }
 
 impl Findings {
@@ -30,7 +29,6 @@ impl Findings {
             pairs: Vec::new(alloc),
             candidates: Vec::new(alloc),
             places: Vec::new(alloc),
-            partners: Vec::new(alloc),
         }
     }
 }
@@ -44,8 +42,9 @@ pub(crate) fn find_pairs(
     ensures { OnOk result ((p : pair.Pair) → has_pair found.new.pairs.items p ≡ is_near kept.now p) }
 {
     found.pairs.clear();
+    let end = kept.levels_end();
     'slots: for slot in 0..kept.boxes().end() {
-        find_for(kept, slot, looked, found)?;
+        find_for(kept, slot, end, looked, found)?;
     }
     Ok(())
 }
@@ -54,9 +53,12 @@ pub(crate) fn find_pairs(
 fn find_for(
     kept: &KeptBoxes,
     slot: u32,
+    end: u8,
     looked: &mut u64,
     found: &mut Findings,
 ) -> Result<(), NoMemory>
+    requires bound { end ≤ LEVELS }
+    requires above { IsAbove kept.now end }
     requires sound { IsSound kept.now found.old.pairs.items }
     ensures sound { OnOk result (IsSound kept.now found.new.pairs.items) }
     ensures more { OnOk result (HasPairs found.old.pairs.items found.new.pairs.items) }
@@ -65,7 +67,7 @@ fn find_for(
     let Some(body) = kept.boxes().box_of(slot) else {
         return Ok(());
     };
-    find_from(kept, slot, &body, looked, found)?;
+    find_from(kept, slot, &body, end, looked, found)?;
     Ok(())
 }
 
@@ -74,65 +76,73 @@ fn find_from(
     kept: &KeptBoxes,
     slot: u32,
     body: &FBox,
+    end: u8,
     looked: &mut u64,
     found: &mut Findings,
 ) -> Result<(), NoMemory>
     requires own { map.get kept.now slot ≡ Some body.now }
+    requires bound { end ≤ LEVELS }
+    requires above { IsAbove kept.now end }
     requires sound { IsSound kept.now found.old.pairs.items }
     ensures sound { OnOk result (IsSound kept.now found.new.pairs.items) }
     ensures more { OnOk result (HasPairs found.old.pairs.items found.new.pairs.items) }
     ensures found { OnOk result (FindsFrom kept.now slot body.now found.new.pairs.items) }
 {
-    find_partners(kept, slot, body, looked, found)?;
-    push_ordered_pairs(slot, &found.partners, &mut found.pairs)?;
+    let cell = cell_of(body);
+    find_own(kept, slot, body, &cell, looked, found)?;
+    find_others(kept, slot, body, cell.level, end, looked, found)?;
     Ok(())
 }
 
-// Finds those partners of a slot whose pairs with it are found from it.
-fn find_partners(
+// Finds the pairs of a slot with higher slots of its cell.
+fn find_own(
     kept: &KeptBoxes,
     slot: u32,
     body: &FBox,
+    cell: &CellKey,
     looked: &mut u64,
     found: &mut Findings,
 ) -> Result<(), NoMemory>
-    ensures pairs { found.new.pairs.items ≡ found.old.pairs.items }
-    ensures right { OnOk result (AreReached kept.now slot body.now found.new.partners.items) }
-    ensures found { OnOk result (HasDue kept.now slot body.now found.new.partners.items) }
+    requires own { map.get kept.now slot ≡ Some body.now }
+    requires cell { cell.now ≡ cell_of body.now }
+    requires sound { IsSound kept.now found.old.pairs.items }
+    ensures sound { OnOk result (IsSound kept.now found.new.pairs.items) }
+    ensures more { OnOk result (HasPairs found.old.pairs.items found.new.pairs.items) }
+    ensures found { OnOk result (FindsOwn kept.now slot body.now found.new.pairs.items) }
 {
-    let own = cell_of(body);
     found.candidates.clear();
-    kept.push_in(&own, &mut found.candidates)?;
-    found.partners.clear();
-    push_partners(
+    kept.push_in(cell, &mut found.candidates)?;
+    push_pairs(
         kept.boxes(),
         slot,
         body,
         false,
         &found.candidates,
         looked,
-        &mut found.partners,
+        &mut found.pairs,
     )?;
-    push_others(kept, slot, body, own.level, looked, found)?;
     Ok(())
 }
 
-// Appends a slot's partners in later cells of its level and at the levels above it.
-fn push_others(
+// Finds the pairs of a slot with its partners in later cells of its level and at the levels above it.
+fn find_others(
     kept: &KeptBoxes,
     slot: u32,
     body: &FBox,
     level: u8,
+    end: u8,
     looked: &mut u64,
     found: &mut Findings,
 ) -> Result<(), NoMemory>
+    requires own { map.get kept.now slot ≡ Some body.now }
     requires low { level < LEVELS }
     requires level { level ≡ level_of body.now }
-    requires right { AreReached kept.now slot body.now found.old.partners.items }
-    ensures pairs { found.new.pairs.items ≡ found.old.pairs.items }
-    ensures right { OnOk result (AreReached kept.now slot body.now found.new.partners.items) }
-    ensures more { OnOk result (HasMore found.old.partners.items found.new.partners.items) }
-    ensures found { OnOk result (HasOthers kept.now slot body.now found.new.partners.items) }
+    requires bound { end ≤ LEVELS }
+    requires above { IsAbove kept.now end }
+    requires sound { IsSound kept.now found.old.pairs.items }
+    ensures sound { OnOk result (IsSound kept.now found.new.pairs.items) }
+    ensures more { OnOk result (HasPairs found.old.pairs.items found.new.pairs.items) }
+    ensures found { OnOk result (FindsOthers kept.now slot body.now found.new.pairs.items) }
 {
     found.candidates.clear();
     kept.push_after(
@@ -144,19 +154,20 @@ fn push_others(
     )?;
     kept.push_from(
         level + 1,
+        end,
         body,
         looked,
         &mut found.places,
         &mut found.candidates,
     )?;
-    push_partners(
+    push_pairs(
         kept.boxes(),
         slot,
         body,
         true,
         &found.candidates,
         looked,
-        &mut found.partners,
+        &mut found.pairs,
     )?;
     Ok(())
 }

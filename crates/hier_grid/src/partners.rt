@@ -1,7 +1,9 @@
-ghost use Rattle.std.specs.Prelude.{◌≡◌, ◌++◌, filter, OnOk};
+ghost use Rattle.std.specs.Prelude.{◌≡◌, ◌++◌, ◌==◌, ◌&&◌, ◌||◌, not, nat_lt, filter, OnOk};
+ghost use Rattle.broad_index.specs.Touched.{ordered, ordered_pairs};
 ghost use Rattle.hier_grid.specs.Search.{is_partner};
 
 use crate::slot_boxes::SlotBoxes;
+use broad_index::Pair;
 use fixed_box::{FBox, NoMemory};
 
 /// Appends a slot's partners among others, either any or those with higher slots alone. Each one that may be a partner is
@@ -27,7 +29,42 @@ pub(crate) fn push_partners(
     Ok(())
 }
 
-// Whether another slot is a partner.
+/// Appends a slot's pairs with its partners among others.
+pub(crate) fn push_pairs(
+    boxes: &SlotBoxes,
+    slot: u32,
+    body: &FBox,
+    any: bool,
+    slots: &[u32],
+    looked: &mut u64,
+    out: &mut Vec<Pair>,
+) -> Result<(), NoMemory>
+    ensures { OnOk result (out.new.items
+        ≡ out.old.items ++ ordered_pairs slot (filter (is_partner boxes.now slot body.now any) slots.now)) }
+{
+    let mut rest = slots;
+    'slots: while let [other, more @ ..] = rest {
+        if is_partner(boxes, slot, body, any, *other, looked) {
+            out.push(ordered(slot, *other))?;
+        }
+        rest = more;
+    }
+    Ok(())
+}
+
+// Two slots, the lower one first.
+fn ordered(slot: u32, other: u32) -> Pair
+    ensures { result ≡ ordered slot other }
+{
+    if slot < other {
+        Pair { a: slot, b: other }
+    } else {
+        Pair { a: other, b: slot }
+    }
+}
+
+// Whether another slot is a partner. No branch is taken on which slots may be partners, since that is past telling
+// beforehand.
 fn is_partner(
     boxes: &SlotBoxes,
     slot: u32,
@@ -38,9 +75,14 @@ fn is_partner(
 ) -> bool
     ensures { result ≡ is_partner boxes.now slot body.now any other }
 {
-    if other == slot || (!any && other < slot) {
-        return false;
-    }
-    *looked = looked.saturating_add(1);
-    boxes.meets(other, body)
+    let sought = is_sought(slot, any, other);
+    *looked = looked.saturating_add(u64::from(sought));
+    sought & boxes.meets(other, body)
+}
+
+// Whether another slot may be a partner.
+fn is_sought(slot: u32, any: bool, other: u32) -> bool
+    ensures { result ≡ (not (other == slot) && (any || nat_lt slot other)) }
+{
+    (other != slot) & (any | (slot < other))
 }

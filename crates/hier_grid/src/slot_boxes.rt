@@ -1,7 +1,7 @@
-ghost use Rattle.std.specs.Prelude.{◌≡◌, ℕ, ◌<◌, ◌≤◌, true, false, None, IfOk, length};
+ghost use Rattle.std.specs.Prelude.{◌≡◌, ℕ, ◌<◌, ◌≤◌, true, false, None, Some, IfOk, length};
 ghost use Rattle.std.specs.Prelude.{All, map as mapped, slice_index_or};
 ghost use Rattle.std.specs.FinMap as map;
-ghost use Rattle.broad_index.specs.Members.{is_found};
+ghost use Rattle.broad_index.specs.Members.{both_meet, is_found};
 ghost use Rattle.fixed_box.specs.SlotMap.{entries_from};
 ghost use Rattle.hier_grid.specs.Search.{meets_at, present};
 
@@ -67,9 +67,11 @@ impl SlotBoxes {
     pub(crate) fn meets(&self, slot: u32, body: &FBox) -> bool
         ensures { result ≡ meets_at self.now body.now slot }
     {
-        match self.box_of(slot) {
-            Some(other) => body.overlaps(&other),
-            None => false,
+        let slot = slot as usize;
+        if slot < self.boxes.len() {
+            meets_one(&self.boxes[slot], body)
+        } else {
+            false
         }
     }
 
@@ -116,6 +118,16 @@ impl SlotBoxes {
     {
         let slots = present_slots(alloc, &self.boxes)?;
         Ok(slots)
+    }
+}
+
+// Whether a box that is there meets another.
+fn meets_one(own: &Option<FBox>, body: &FBox) -> bool
+    ensures { result ≡ both_meet (Some body.now) own.now }
+{
+    match own {
+        Some(own) => body.overlaps(own),
+        None => false,
     }
 }
 
