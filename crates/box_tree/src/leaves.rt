@@ -11,7 +11,7 @@ const FEWEST_CHANGES: usize = 16;
 
 // How many changes there are between two rebuilds for each leaf. A rebuild costs as much as some changes of each leaf,
 // and the nodes that a search looks at grow slowly with the changes.
-const CHANGES_PER_LEAF: usize = 4;
+const CHANGES_PER_LEAF: usize = 1;
 
 // Gives a slot that has none a leaf.
 pub(crate) fn add_leaf(
