@@ -9,8 +9,7 @@ use tree_nodes::{Nodes, tree_laws};
 // The fewest changes of a tree between two rebuilds.
 const FEWEST_CHANGES: usize = 16;
 
-// How many changes there are between two rebuilds for each leaf. A rebuild costs as much as some changes of each leaf,
-// and the nodes that a search looks at grow slowly with the changes.
+// How many changes there are between two rebuilds for each leaf. With more of them searches cost more than rebuilds do.
 const CHANGES_PER_LEAF: usize = 1;
 
 // Gives a slot that has none a leaf.
