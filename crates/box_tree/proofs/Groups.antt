@@ -17,7 +17,7 @@ use Rattle.broad_index.specs.Touched.{ordered_pairs}
 use Rattle.lane_boxes.specs.Places.{next_eight}
 use Rattle.tree_nodes.specs.declared.node_view.NodeView.{NodeView}
 use Rattle.tree_nodes.specs.declared.node_view.NodeView.TheVariants.{Leaf as LeafNode, Inner}
-use Rattle.tree_nodes.specs.Exchange.{height_shown}
+use Rattle.tree_nodes.specs.Parts.{height_shown}
 use Rattle.tree_nodes.specs.Tree.{Tree, tip, fork, top, leaves, height, bounds, view_of, view_in, visits, count_of, Balanced, IsRefitted, IsTreeIn, Within}
 use Rattle.box_tree.specs.Boxes.{raised}
 use Rattle.box_tree.specs.Descent.{entry_of, exact, exact_in, IsInside, IsInsideIn, IsLeafInside}

@@ -1,7 +1,7 @@
 -- Those that meet the hull look at both children.
 use Rattle.std.proofs.Common.{◌<◌, ◌*◌, ◌++◌, ◌∙◌, ap, sym, subst, append_assoc, Some}
 use Rattle.std.proofs.lemmas.List.{append-nil}
-use Rattle.tree_nodes.specs.Exchange.{height_shown}
+use Rattle.tree_nodes.specs.Parts.{height_shown}
 use Rattle.tree_nodes.specs.Tree.{view_in, leaves}
 use Rattle.box_tree.specs.Boxes.{raised}
 use Rattle.box_tree.specs.Descent.{exact}

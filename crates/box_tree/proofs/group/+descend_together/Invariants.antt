@@ -1,4 +1,4 @@
-use Rattle.tree_nodes.specs.Exchange.{height_shown}
+use Rattle.tree_nodes.specs.Parts.{height_shown}
 use Rattle.tree_nodes.specs.Tree.{view_in}
 use Rattle.box_tree.proofs.group.+descend_together.Given as goal
 

@@ -1,6 +1,6 @@
 -- The leaves of the first child come before those of the second.
 use Rattle.std.proofs.Common.{◌<◌, ◌++◌, ◌∙◌, ap, sym, subst, append_assoc, Some}
-use Rattle.tree_nodes.specs.Exchange.{height_shown}
+use Rattle.tree_nodes.specs.Parts.{height_shown}
 use Rattle.tree_nodes.specs.Tree.{view_in, leaves}
 use Rattle.box_tree.specs.Descent.{exact}
 use Rattle.box_tree.specs.Group.{touched_of}
