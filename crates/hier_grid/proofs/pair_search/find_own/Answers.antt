@@ -1,7 +1,7 @@
 -- The slots of the own cell are candidates.
 use Rattle.std.proofs.Common.{◌≡◌, ap, sym, ◌∙◌, ◌++◌, subst, false}
 use Rattle.broad_index.specs.Members.{has_pair}
-use Rattle.broad_index.specs.Touched.{ordered, ordered_pairs}
+use Rattle.broad_index.specs.Touched.{ordered}
 use Rattle.hier_grid.specs.Search.{HasKeyed, HasPairs, IsSound}
 use Rattle.hier_grid.proofs.PairLemmas.{more_pairs}
 use Rattle.hier_grid.proofs.PartnerLemmas.{found_pairs, sound_pairs, pair_in, higher}
