@@ -34,6 +34,44 @@ fn lower(counts: &mut Counts, pair: Pair)
     }
 }
 
+// One axis more, where it `rises` and there is one.
+fn raise_if(counts: &mut Counts, pair: Pair, rises: bool) -> Result<(), NoMemory>
+    requires order { pair.a < pair.b }
+    requires small { pair.b < SLOTS }
+{
+    if counts.count(pair) < 3 {
+        counts.raise_if(pair, rises)?;
+    }
+    Ok(())
+}
+
+// One axis less, where it `lowers` and there is one.
+fn lower_if(counts: &mut Counts, pair: Pair, lowers: bool)
+    requires order { pair.a < pair.b }
+    requires small { pair.b < SLOTS }
+{
+    if counts.count(pair) > 0 {
+        counts.lower_if(pair, lowers);
+    }
+}
+
+#[test]
+fn a_flag_tells_whether_a_count_changes(rt: HostRuntime) -> Result<(), Fail> {
+    let pair = Pair { a: 70, b: 8191 };
+    let mut counts = Counts::new(rt.alloc())?;
+    for (rises, count) in [(false, 0), (true, 1), (false, 1), (true, 2), (true, 3)] {
+        raise_if(&mut counts, pair, rises)?;
+        assert_eq!(rt; counts.count(pair), count);
+    }
+    assert_eq!(rt; full(rt.alloc(), &counts)?.as_slice(), [pair].as_slice());
+    for (lowers, count) in [(false, 3), (true, 2), (false, 2), (true, 1), (true, 0)] {
+        lower_if(&mut counts, pair, lowers);
+        assert_eq!(rt; counts.count(pair), count);
+    }
+    assert_eq!(rt; full(rt.alloc(), &counts)?.len(), 0);
+    Ok(())
+}
+
 #[test]
 fn a_pair_is_full_while_it_counts_3(rt: HostRuntime) -> Result<(), Fail> {
     let pair = Pair { a: 1, b: 5 };
