@@ -4,12 +4,12 @@ use Rattle.std.proofs.Common.{refl, sym, ap, ◌∙◌, subst, arith, length-app
 use Rattle.std.proofs.Math.Seq.{take-add}
 use Rattle.std.proofs.Math.Nat.{div-add-mod}
 use Rattle.std.proofs.lemmas.List.{map-append, take-append-drop, take_all, get_or_at, length_push}
-use Rattle.std.proofs.lemmas.List.Elements.{All-head, All-tail, All-cons, All-nil}
 use Rattle.std.specs.Fork.{slice_chunk, IsChunk}
 use denote.Ref.{Bor}
 use denote.Param.Members.{Shared}
 use Rattle.work_pieces.specs.Each.{Each, Accepts, AcceptsAll}
 use Rattle.work_pieces.specs.Runs.{AcceptsRuns, InRuns, put_together}
+use Rattle.work_pieces.specs.RunLaws.{All-run}
 
 pub Each-append : {X Y : Type 0} (P : X → Y → Type 0) (xs us : List X) (ys vs : List Y) → Each P xs ys → Each P us vs → Each P (xs ++ us) (ys ++ vs)
 Each-append P [] us [] vs h more = more
@@ -126,12 +126,7 @@ accepts_chunk g f xs run size start accepts is =
     accepts (take start xs) run (drop size (drop start xs)) (sym (ap (λ l. take start xs ++ (l ++ drop size (drop start xs))) is.value
       ∙ ap (λ l. take start xs ++ l) (take-append-drop size (drop start xs)) ∙ take-append-drop start xs))
 
-run_all : {X : Type 0} (P : X → Type 0) (before run after : List X) → All P (before ++ (run ++ after)) → All P run
-run_all P (x ∷ before) run after h = run_all P before run after (All-tail P x (before ++ (run ++ after)) h)
-run_all P [] [] after h = All-nil P
-run_all P [] (x ∷ run) after h = All-cons P x run (All-head P x (run ++ after) h) (run_all P [] run after (All-tail P x (run ++ after) h))
-
 -- what may be asked of each item may be asked of each item of a run
 pub accepts_run : {F X Y E : Type 0} (g : Shared F (Bor X × Unit {0}) (Result Y E)) (f : F) (xs before run after : List X)
     → AcceptsAll g f xs → xs ≡ before ++ (run ++ after) → AcceptsAll g f run
-accepts_run g f xs before run after accepts is = run_all (Accepts g f) before run after (subst (λ l. All (Accepts g f) l) is accepts)
+accepts_run g f xs before run after accepts is = All-run (Accepts g f) xs before run after is accepts
