@@ -171,11 +171,7 @@ pub trait BroadPhase {
     }
 
     /// Does what `pairs` does, where it is known what the pieces of the sought slots found, and what that cost.
-    fn merge(
-        &mut self,
-        found: Vec<(Vec<Pair>, u64)>,
-        out: &mut Vec<Pair>,
-    ) -> Result<(), NoMemory>
+    fn merge(&mut self, found: Vec<(Vec<Pair>, u64)>, out: &mut Vec<Pair>) -> Result<(), NoMemory>
         requires sound { spent self.old ≡ false }
         requires pieces { InRuns (λ run piece. seeks self.old run piece.0.items piece.1) (sought self.old) found.items }
         ensures was_sound { OnOk result (spent self.old ≡ false) }

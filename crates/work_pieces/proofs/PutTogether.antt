@@ -98,9 +98,9 @@ pub one_list : {V X : Type 0} (items : V → List X) (lists before left rest : L
     → before ++ left ≡ lists → left ≡ v ∷ rest → ys ≡ put_together (map items before) → new ≡ ys ++ items v
     → (new ≡ put_together (map items (before ++ v ∷ []))) × ((before ++ v ∷ []) ++ rest ≡ lists)
 one_list items lists before left rest v ys new split next so grows = (
-      grows ∙ ap (λ l. l ++ items v) so ∙ sym (put-push (map items before) (items v)) ∙ ap put_together (sym (map-append items before (v ∷ []))),
-      append_assoc before (v ∷ []) rest ∙ ap (λ l. before ++ l) (sym next) ∙ split,
-    )
+  grows ∙ ap (λ l. l ++ items v) so ∙ sym (put-push (map items before) (items v)) ∙ ap put_together (sym (map-append items before (v ∷ []))),
+  append_assoc before (v ∷ []) rest ∙ ap (λ l. before ++ l) (sym next) ∙ split,
+)
 
 -- all lists were put together
 pub all_lists : {V X : Type 0} (items : V → List X) (lists before left : List V) (ys : List X)
@@ -124,7 +124,7 @@ pub accepts_chunk : {F X Y E : Type 0} (g : Shared F (Bor (List X) × Unit {0}) 
     → AcceptsRuns g f xs → IsChunk xs size start run → Accepts g f run
 accepts_chunk g f xs run size start accepts is =
     accepts (take start xs) run (drop size (drop start xs)) (sym (ap (λ l. take start xs ++ (l ++ drop size (drop start xs))) is.value
-      ∙ ap (λ l. take start xs ++ l) (take-append-drop size (drop start xs)) ∙ take-append-drop start xs))
+    ∙ ap (λ l. take start xs ++ l) (take-append-drop size (drop start xs)) ∙ take-append-drop start xs))
 
 -- what may be asked of each item may be asked of each item of a run
 pub accepts_run : {F X Y E : Type 0} (g : Shared F (Bor X × Unit {0}) (Result Y E)) (f : F) (xs before run after : List X)
