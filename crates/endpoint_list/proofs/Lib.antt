@@ -2,4 +2,5 @@ mod ExchangeLemmas
 mod LinkLemmas
 mod NodeLemmas
 mod PushLemmas
+mod PutLemmas
 mod UnlinkLemmas

@@ -4,7 +4,7 @@ use Rattle.std.proofs.lemmas.List.{get_or-set_same, get_or-set_other, length-set
 use Rattle.endpoint_list.specs.declared.TheConstants.{NODES}
 use Rattle.fixed_box.specs.Links.{Fresh, Below, Links}
 use Rattle.fixed_box.specs.LinkLaws.{Fresh-left, Fresh-right, Below-weaker, frame_next, frame_prev, before_end, retarget_last, Links-append}
-use Rattle.endpoint_list.specs.Links.{IsKept, pushed_next, pushed_prev}
+use Rattle.endpoint_list.specs.Links.{IsKept, put_next, put_prev}
 use Rattle.endpoint_list.proofs.NodeLemmas.{Below-Fresh, Below-push, Distinct-push}
 use Rattle.endpoint_list.proofs.LinkLemmas.{before_end_below}
 
@@ -30,7 +30,7 @@ pub last_small : (N P xs : List ℕ) → IsKept N P xs → get_or P NODES 0 ≤ 
 last_small N P xs k =
     omega (arith, before_end_below N P NODES xs NODES (NODES + 1) k.linked (omega arith) (Below-weaker NODES (NODES + 1) xs (omega arith) k.below))
 
-pub pushed : (N P xs : List ℕ) (v : ℕ) → IsKept N P xs → v < NODES → Fresh v xs → IsKept (pushed_next N P v) (pushed_prev P v) (xs ++ v ∷ [])
+pub pushed : (N P xs : List ℕ) (v : ℕ) → IsKept N P xs → v < NODES → Fresh v xs → IsKept (put_next N P v NODES) (put_prev P v NODES) (xs ++ v ∷ [])
 pushed N P xs v k lt f =
     let last = get_or P NODES 0 in
     let N1 = set N last v in

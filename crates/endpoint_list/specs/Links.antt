@@ -25,12 +25,12 @@ pub record IsKept (next prev nodes : List ℕ) : Type 0 where
   pub below : Below NODES nodes
   pub absent : (node : ℕ) → node < NODES → Fresh node nodes → slice_index next node ≡ NODES + 1
 
--- the links after a node is put behind the last
-abbrev pub pushed_next : List ℕ → List ℕ → ℕ → List ℕ
-pushed_next N P node = slice_set (slice_set N (slice_index P NODES) node) node NODES
+-- the links after a node is put before another, or behind the last where that is the end
+abbrev pub put_next : List ℕ → List ℕ → ℕ → ℕ → List ℕ
+put_next N P node after = slice_set (slice_set N (slice_index P after) node) node after
 
-abbrev pub pushed_prev : List ℕ → ℕ → List ℕ
-pushed_prev P node = slice_set (slice_set P node (slice_index P NODES)) NODES node
+abbrev pub put_prev : List ℕ → ℕ → ℕ → List ℕ
+put_prev P node after = slice_set (slice_set P node (slice_index P after)) after node
 
 -- the links after a node is taken out
 abbrev pub unlinked_next : List ℕ → List ℕ → ℕ → List ℕ

@@ -2,7 +2,7 @@ ghost use Rattle.std.specs.Prelude.{◌≡◌, ◌<◌, ◌++◌, ◌∷◌, [],
 ghost use Rattle.endpoint_list.specs.NodeList.{has, first_of, last_of, IsNodeList};
 
 use crate::NODES;
-use crate::links::{ABSENT, END, exchange, neighbour, push, unlink};
+use crate::links::{ABSENT, END, exchange, neighbour, put, unlink};
 use fixed_box::NoMemory;
 use std::alloc::Global;
 use std::marker::Model;
@@ -92,7 +92,19 @@ impl EndList {
         ensures pushed { self.new ≡ self.old ++ node ∷ [] }
         ensures list { IsNodeList self.new }
     {
-        push(&mut self.next, &mut self.prev, node);
+        put(&mut self.next, &mut self.prev, node, END);
+    }
+
+    /// Puts an absent node before a present one.
+    pub fn put_before(&mut self, node: u32, other: u32)
+        requires small { node < NODES }
+        requires absent { has node self.old ≡ false }
+        requires present { (before : List ℕ) × (after : List ℕ) × (self.old ≡ before ++ other ∷ after) }
+        ensures put { (before after : List ℕ) → self.old ≡ before ++ other ∷ after
+            → self.new ≡ before ++ node ∷ other ∷ after }
+        ensures list { IsNodeList self.new }
+    {
+        put(&mut self.next, &mut self.prev, node, other);
     }
 
     /// Takes a present node out. The others keep their order.

@@ -1,5 +1,5 @@
 ghost use Rattle.std.specs.Prelude.{◌≡◌, ◌+◌, ◌<◌, ◌≤◌, length, slice_index, slice_set};
-ghost use Rattle.endpoint_list.specs.Links.{neighbour, pushed_next, pushed_prev, unlinked_next, unlinked_prev, exchanged_next, exchanged_prev};
+ghost use Rattle.endpoint_list.specs.Links.{neighbour, put_next, put_prev, unlinked_next, unlinked_prev, exchanged_next, exchanged_prev};
 
 use crate::NODES;
 
@@ -18,18 +18,19 @@ pub(crate) fn neighbour(links: &Vec<u32>, node: u32) -> Option<u32>
     if to == END { None } else { Some(to) }
 }
 
-// Puts a node behind the last.
-pub(crate) fn push(next: &mut Vec<u32>, prev: &mut Vec<u32>, node: u32)
+// Puts a node before another, or behind the last where that is the end.
+pub(crate) fn put(next: &mut Vec<u32>, prev: &mut Vec<u32>, node: u32, other: u32)
     requires next { length next.old.items ≡ NODES + 1 }
     requires prev { length prev.old.items ≡ NODES + 1 }
     requires node { node < NODES }
-    requires last { slice_index prev.old.items NODES ≤ NODES }
-    ensures next { next.new.items ≡ pushed_next next.old.items prev.old.items node }
-    ensures prev { prev.new.items ≡ pushed_prev prev.old.items node }
+    requires other { other ≤ NODES }
+    requires before { slice_index prev.old.items other ≤ NODES }
+    ensures next { next.new.items ≡ put_next next.old.items prev.old.items node other }
+    ensures prev { prev.new.items ≡ put_prev prev.old.items node other }
 {
-    let last = prev[END as usize];
-    join(next, prev, last, node);
-    join(next, prev, node, END);
+    let before = prev[other as usize];
+    join(next, prev, before, node);
+    join(next, prev, node, other);
 }
 
 // Takes a node out.

@@ -6,6 +6,7 @@ pub mod EnterLemmas
 pub mod QuitLemmas
 pub mod RisingLemmas
 pub mod WalkLemmas
+pub mod HeldLemmas
 pub mod RekeyLemmas
 pub mod MoveLemmas
 pub mod NumberLemmas

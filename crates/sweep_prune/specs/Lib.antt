@@ -6,5 +6,6 @@ pub mod State
 pub mod CoreKeeps
 pub mod KeyNumbers
 pub mod Walks
+pub mod HeldWalks
 pub mod Endpoints
 pub mod Sweep

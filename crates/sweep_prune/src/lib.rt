@@ -9,6 +9,7 @@ mod lists;
 mod move_axis;
 mod move_box;
 mod move_ends;
+mod recount;
 mod rekey;
 mod sap;
 pub mod walk;

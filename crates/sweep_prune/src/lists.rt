@@ -1,11 +1,11 @@
 ghost use Rattle.std.specs.Prelude.{◌≡◌, ◌<◌, ◌+◌, ◌*◌, true, false, ◌++◌, ◌∷◌, [], ℕ, List, IfOk, OnOk, take, vec_len};
-ghost use Rattle.endpoint_list.specs.NodeList.{has, IsDistinct};
+ghost use Rattle.endpoint_list.specs.NodeList.{has, first_of, IsDistinct};
 ghost use Rattle.sweep_prune.specs.Core.{appended, entered, withdrawn, left};
 ghost use Rattle.sweep_prune.specs.Places.{on, with_on};
 ghost use Rattle.sweep_prune.specs.declared.axis.Axis.{Axis};
 
 use crate::Axis;
-use endpoint_list::EndList;
+use endpoint_list::{EndList, NODES};
 use fixed_box::{NoMemory, SLOTS};
 use std::alloc::Global;
 
@@ -54,6 +54,22 @@ impl Lists {
         }
     }
 
+    // A node comes to stand before another one on an axis, or last.
+    pub(crate) fn carry(&mut self, axis: Axis, node: u32, after: Option<u32>)
+        requires small { node < NODES }
+        requires distinct { IsDistinct (on axis self.old) }
+        requires cut { (front : List ℕ) × (back : List ℕ) × (ys : List ℕ) × (zs : List ℕ)
+            × (on axis self.old ≡ front ++ node ∷ back) × (front ++ back ≡ ys ++ zs) × (after ≡ first_of zs) }
+        ensures { (front back ys zs : List ℕ) → on axis self.old ≡ front ++ node ∷ back → front ++ back ≡ ys ++ zs
+            → after ≡ first_of zs → self.new ≡ with_on axis (ys ++ node ∷ zs) self.old }
+    {
+        match axis {
+            Axis::X => carry(&mut self.x, node, after),
+            Axis::Y => carry(&mut self.y, node, after),
+            Axis::Z => carry(&mut self.z, node, after),
+        }
+    }
+
     // A slot's nodes come last on each list.
     pub(crate) fn enter(&mut self, slot: u32)
         requires small { slot < SLOTS }
@@ -77,6 +93,22 @@ impl Lists {
         withdraw(&mut self.x, slot);
         withdraw(&mut self.y, slot);
         withdraw(&mut self.z, slot);
+    }
+}
+
+// A node comes to stand before another one, or last.
+fn carry(list: &mut EndList, node: u32, after: Option<u32>)
+    requires small { node < NODES }
+    requires distinct { IsDistinct list.old }
+    requires cut { (front : List ℕ) × (back : List ℕ) × (ys : List ℕ) × (zs : List ℕ)
+        × (list.old ≡ front ++ node ∷ back) × (front ++ back ≡ ys ++ zs) × (after ≡ first_of zs) }
+    ensures { (front back ys zs : List ℕ) → list.old ≡ front ++ node ∷ back → front ++ back ≡ ys ++ zs
+        → after ≡ first_of zs → list.new ≡ ys ++ node ∷ zs }
+{
+    list.unlink(node);
+    match after {
+        Some(other) => list.put_before(node, other),
+        None => list.push_last(node),
     }
 }
 

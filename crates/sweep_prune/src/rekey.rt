@@ -4,9 +4,7 @@ ghost use Rattle.sweep_prune.specs.Places.{on, with_on};
 ghost use Rattle.sweep_prune.specs.Walks.{Rising, IsFreeKey, Rekeyed};
 
 use crate::Axis;
-use crate::walk::Core;
-use crate::walk_down::walk_down;
-use crate::walk_up::walk_up;
+use crate::walk::{Core, walk_down, walk_up};
 use endpoint_list::NODES;
 use fixed_box::NoMemory;
 
