@@ -41,7 +41,7 @@ pub fn fix_ahead(text: &[u8]) -> Option<(Fix, usize)>
 
 // Whether a minus sign comes first, and the text behind it.
 #[inline(always)]
-fn behind_sign(text: &[u8]) -> (bool, &[u8])
+pub(crate) fn behind_sign(text: &[u8]) -> (bool, &[u8])
     ensures sign { result.0 ≡ true → text.now ≡ 45 ∷ result.1.now }
     ensures none { result.0 ≡ false → text.now ≡ result.1.now }
 {
