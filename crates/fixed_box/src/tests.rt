@@ -94,8 +94,14 @@ fn numbers_as_they_are_printed_are_taken_off_the_front_of_a_text(rt: HostRuntime
 
 #[test]
 fn digits_are_taken_off_the_front_of_a_text(rt: HostRuntime) {
-    let cases: [(&[u8], (u64, usize)); 4] = [
+    let cases: [(&[u8], (u64, usize)); 10] = [
         (b"007:1", (7, 3)),
+        (b"5:678", (5, 1)),
+        (b"56:78", (56, 2)),
+        (b"5678:", (5678, 4)),
+        (b"56789", (56789, 5)),
+        (b"5678", (5678, 4)),
+        (b":5678", (0, 0)),
         (b"12345678901", (1234567890, 10)),
         (b"5", (5, 1)),
         (b"x5", (0, 0)),

@@ -1,5 +1,5 @@
 -- The word of the eight bytes behind the first digit is that of the other digits.
-use Rattle.std.proofs.Common.{◌≡◌, ◌<◌, ◌≤◌, ◌-◌, ◌*◌, ◌+◌, ℕ, true, get_or, sym, subst, arith, rules}
+use Rattle.std.proofs.Common.{◌≡◌, ◌*◌, ◌+◌, ℕ, true, get_or, sym, subst, arith, rules}
 use Rattle.std.specs.Char.{is_ascii_digit}
 use Rattle.fixed_box.specs.Fronts.{word_of, IsMagnitude, IsPrinted}
 use Rattle.fixed_box.proofs.DigitRuns.{digit_small}
