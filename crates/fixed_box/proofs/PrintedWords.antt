@@ -8,7 +8,7 @@ use Rattle.std.proofs.lemmas.Nat.{and_block, and_mask, and_le_r, same_from_place
 use Rattle.std.proofs.lemmas.Bool.Decides.{nat_tests}
 use Rattle.std.proofs.lemmas.Grind.{and_high_numeral}
 use Rattle.fixed_box.specs.Fronts.{IsMagnitude, IsPrinted, word_of}
-use Rattle.fixed_box.proofs.DigitRuns.{digit_value_is}
+use Rattle.fixed_box.proofs.DigitRuns.{digit_value_is, digit_small}
 use Rattle.fixed_box.proofs.FrontNumbers.{printed_text}
 
 -- eight bytes
@@ -211,7 +211,7 @@ drop_none (b ∷ bs) = refl
 front_bytes : (k : ℕ) (text : List ℕ) → k ≤ length text → take k text ≡ bytes_from text 0 k
 front_bytes k text inside = ap (take k) (sym (drop_none text)) ∙ take_bytes k 0 text (omega arith)
 
--- such bytes at the front of a text, behind none, a zero and another digit
+-- such bytes at the front of a text, behind none, a zero, another digit and two others
 pub two_places : (text : List ℕ) (m : ℕ) → 8 ≤ length text
     → IsPrinted (get_or text 0 0) (get_or text 1 0) (get_or text 2 0) (get_or text 3 0) (get_or text 4 0) (get_or text 5 0) (get_or text 6 0) (get_or text 7 0) m
     → IsMagnitude text m 8
@@ -228,6 +228,10 @@ one_place text m inside p =
     (front_bytes 7 text inside ∙ ap (λ c. get_or text 0 0 ∷ c ∷ bytes_from text 2 5) p.point) inside (omega arith) (omega arith) p.whole refl
     p.fraction p.value (omega (arith, p.small))
 
+-- what stands before the last two digits of the whole part
+more_worth : (d n r : ℕ) → d * 6553600 + (n * 65536 + r) ≡ (d * 100 + n) * 65536 + r
+more_worth d n r = omega arith
+
 pub three_places : (text : List ℕ) (m : ℕ) → 9 ≤ length text → is_ascii_digit (get_or text 0 0) ≡ true
     → IsPrinted (get_or text 1 0) (get_or text 2 0) (get_or text 3 0) (get_or text 4 0) (get_or text 5 0) (get_or text 6 0) (get_or text 7 0) (get_or text 8 0) m
     → IsMagnitude text ((get_or text 0 0 - 48) * 6553600 + m) 9
@@ -235,7 +239,6 @@ three_places text m inside digit p =
     let a = get_or text 0 0 in
     let b = get_or text 1 0 in
     let c = get_or text 2 0 in
-    let top : a - 48 ≤ 9 = (let d = digit in grind (arith, nat_tests)) in
     let worth : (a - 48) * 100 + digits_value 10 (b ∷ c ∷ []) ≡ digits_value 10 (a ∷ b ∷ c ∷ []) =
         (let e : (a - 48) * 100 + ((0 * 10 + digit_value b) * 10 + digit_value c) ≡ ((0 * 10 + digit_value a) * 10 + digit_value b) * 10 + digit_value c =
         omega (arith, digit_value_is a digit) in e) in
@@ -243,7 +246,24 @@ three_places text m inside digit p =
     (front_bytes 9 text inside ∙ ap (λ point. a ∷ b ∷ c ∷ point ∷ bytes_from text 4 5) p.point) inside (omega arith) (omega arith)
     (one_more a (b ∷ c ∷ []) digit p.whole) refl p.fraction
     (ap (λ n. (a - 48) * 6553600 + n) p.value ∙ more_worth (a - 48) (digits_value 10 (b ∷ c ∷ [])) _ ∙ ap (λ n. n * 65536 + (digits_value 10 (bytes_from text 4 5) * 131072 + 100000) / 200000) worth)
-    (omega (arith, p.small, top))
-  where
-    more_worth : (d n r : ℕ) → d * 6553600 + (n * 65536 + r) ≡ (d * 100 + n) * 65536 + r
-    more_worth d n r = omega arith
+    (omega (arith, p.small, digit_small a digit))
+
+pub four_places : (text : List ℕ) (m : ℕ) → 10 ≤ length text → is_ascii_digit (get_or text 0 0) ≡ true → is_ascii_digit (get_or text 1 0) ≡ true
+    → IsPrinted (get_or text 2 0) (get_or text 3 0) (get_or text 4 0) (get_or text 5 0) (get_or text 6 0) (get_or text 7 0) (get_or text 8 0) (get_or text 9 0) m
+    → IsMagnitude text (((get_or text 0 0 - 48) * 10 + (get_or text 1 0 - 48)) * 6553600 + m) 10
+four_places text m inside digit digit_b p =
+    let a = get_or text 0 0 in
+    let b = get_or text 1 0 in
+    let c = get_or text 2 0 in
+    let d = get_or text 3 0 in
+    let front = (a - 48) * 10 + (b - 48) in
+    let worth : front * 100 + digits_value 10 (c ∷ d ∷ []) ≡ digits_value 10 (a ∷ b ∷ c ∷ d ∷ []) =
+        (let e : front * 100 + ((0 * 10 + digit_value c) * 10 + digit_value d)
+            ≡ (((0 * 10 + digit_value a) * 10 + digit_value b) * 10 + digit_value c) * 10 + digit_value d =
+        omega (arith, digit_value_is a digit, digit_value_is b digit_b) in e) in
+    printed_text text (bytes_from text 0 4) (bytes_from text 5 5) (front * 6553600 + m) 10
+    (front_bytes 10 text inside ∙ ap (λ point. a ∷ b ∷ c ∷ d ∷ point ∷ bytes_from text 5 5) p.point) inside (omega arith) (omega arith)
+    (one_more a (b ∷ c ∷ d ∷ []) digit (one_more b (c ∷ d ∷ []) digit_b p.whole)) refl p.fraction
+    (ap (λ n. front * 6553600 + n) p.value ∙ more_worth front (digits_value 10 (c ∷ d ∷ [])) _
+    ∙ ap (λ n. n * 65536 + (digits_value 10 (bytes_from text 5 5) * 131072 + 100000) / 200000) worth)
+    (omega (arith, p.small, digit_small a digit, digit_small b digit_b))

@@ -21,7 +21,7 @@ const ABOVE_NINE: u64 = 0x0606_0606_0600_0606;
 const HUNDRED: u32 = 6_553_600;
 
 /// The number at the front of a text, in raw units, with the length of its text in bytes, where it has the form in which
-/// numbers are mostly printed: five digits behind the point, and up to three before it.
+/// numbers are mostly printed: five digits behind the point, and up to four before it.
 ///
 /// It is the number that `read_fix` reads from those bytes. Each of them lies from `-` to `9`. A digit may follow them,
 /// so that whoever calls looks where the number ends. `None` says nothing of the text. It looks at words of eight bytes, so
@@ -56,7 +56,10 @@ fn printed_magnitude(text: &[u8]) -> Option<(u32, usize)>
     if let Some(magnitude) = magnitude_of_word(behind_zero(word)) {
         return Some((magnitude, 7));
     }
-    hundreds(text)
+    if let Some(found) = hundreds(text) {
+        return Some(found);
+    }
+    thousands(text)
 }
 
 // The same of three digits before the point.
@@ -72,6 +75,21 @@ fn hundreds(text: &[u8]) -> Option<(u32, usize)>
     }
     let magnitude = magnitude_of_word(u64::from_le_bytes([*b, *c, *d, *e, *f, *g, *h, *i]))?;
     Some((u32::from(*a - b'0') * HUNDRED + magnitude, 9))
+}
+
+// The same of four digits before the point.
+fn thousands(text: &[u8]) -> Option<(u32, usize)>
+    ensures { IfSome result (λ found. IsMagnitude text.now found.0 found.1) }
+{
+    let [a, b, c, d, e, f, g, h, i, j, ..] = text else {
+        return None;
+    };
+    if !a.is_ascii_digit() || !b.is_ascii_digit() {
+        return None;
+    }
+    let magnitude = magnitude_of_word(u64::from_le_bytes([*c, *d, *e, *f, *g, *h, *i, *j]))?;
+    let front = u32::from(*a - b'0') * 10 + u32::from(*b - b'0');
+    Some((front * HUNDRED + magnitude, 10))
 }
 
 // The word of a zero and the first seven of eight bytes.

@@ -61,10 +61,14 @@ fn numbers_are_taken_off_the_front_of_a_text(rt: HostRuntime) {
 
 #[test]
 fn numbers_as_they_are_printed_are_taken_off_the_front_of_a_text(rt: HostRuntime) {
-    let cases: [(&[u8], Option<(Fix, usize)>); 24] = [
-        (b"12.34567 8", Some((809078, 8))),
-        (b"12.34567", Some((809078, 8))),
-        (b"-12.34567\t", Some((-809078, 9))),
+    let cases: [(&[u8], Option<(Fix, usize)>); 28] = [
+        (b"1234.56789 ", Some((80908641, 10))),
+        (b"-9999.99999", Some((-655359999, 11))),
+        (b"12345.67890", None),
+        (b"1a34.56789 ", None),
+        (b"12.34567 8", Some((809086, 8))),
+        (b"12.34567", Some((809086, 8))),
+        (b"-12.34567\t", Some((-809086, 9))),
         (b"0.00002 1", Some((1, 7))),
         (b"-0.00001 ", Some((-1, 8))),
         (b"-0.00000#", Some((0, 8))),
