@@ -17,7 +17,7 @@ use Rattle.std.proofs.lemmas.Bool.{and_parts}
 use Rattle.std.proofs.lemmas.Bool.Decides.{nat_tests}
 use Rattle.fixed_box.specs.Fix.{Digits, is_numeral, digits_of_parts, digits_of_text, within_range, fix_of_digits, fix}
 use Rattle.fixed_box.specs.Decimal.{decimal_of, magnitude_of}
-use Rattle.fixed_box.specs.Fronts.{IsWholeFront, IsFractionFront, IsMagnitudeFront}
+use Rattle.fixed_box.specs.Fronts.{IsWholeFront, IsFractionFront, IsMagnitude, IsMagnitudeFront}
 use Rattle.fixed_box.proofs.DigitRuns.{digit_value_is, digit_small, split_digits, split_alone}
 use Rattle.fixed_box.proofs.Magnitude.{signed_fix}
 use Rattle.fixed_box.proofs.RoundTrip.{digits_push, is_numeral_from, within}
@@ -102,13 +102,15 @@ pub whole_magnitude : (text : List ℕ) (whole w : ℕ) → IsWholeFront text wh
 whole_magnitude text whole w h =
     let len : length (take w text) ≡ w = omega (arith, length-take w text, h.within) in
     record {
-      within = h.within;
-      value = λ negative. found_value negative (take w text) (record { whole = take w text; fraction = [] }) (whole * 65536)
-          (alone_found (take w text) (omega (arith, len, h.some)) (omega (arith, len, h.few)) h.digits) (ap (λ n. n * 65536) h.value ∙ omega arith)
-          (omega (arith, h.small));
-      plain = unsigned_digits (take w text) h.digits;
+      is = record {
+        within = h.within;
+        value = λ negative. found_value negative (take w text) (record { whole = take w text; fraction = [] }) (whole * 65536)
+            (alone_found (take w text) (omega (arith, len, h.some)) (omega (arith, len, h.few)) h.digits) (ap (λ n. n * 65536) h.value ∙ omega arith)
+            (omega (arith, h.small));
+        plain = unsigned_digits (take w text) h.digits;
+        small = omega (arith, h.small);
+      };
       longest = h.longest;
-      small = omega (arith, h.small);
     }
 
 -- the text behind a number of bytes, where it begins with a point
@@ -139,21 +141,38 @@ fraction_magnitude text behind digits whole w raw f e some point is h g =
     ∙ both_found (take w text) (take f digits) (omega (arith, len, h.some)) (omega (arith, len, h.few)) h.digits (omega (arith, len_f, g.some))
     (omega (arith, len_f, g.few)) g.digits in
     record {
-      within = omega (arith, ap length at.2, length-drop (suc w) text, g.within, at.0);
-      value = λ negative. found_value negative (take (w + 1 + f) text) (record { whole = take w text; fraction = take f digits }) (whole * 65536 + raw) found
-          (ap (λ n. n * 65536 + raw) h.value
-          ∙ ap (λ n. digits_value 10 (take w text) * 65536 + n) (g.nearest
-          ∙ ap (λ k. (digits_value 10 (take f digits) * 131072 + 10 ^ k) / (2 * 10 ^ k)) (sym len_f)))
-          (omega (arith, h.small, g.small));
-      plain = let P : List ℕ → Type 0 = All IsUnsigned in subst P (sym front)
-          (All-append IsUnsigned (take w text) (46 ∷ take f digits) (unsigned_digits (take w text) h.digits)
-          (All-cons IsUnsigned 46 (take f digits) (omega arith, omega arith) (unsigned_digits (take f digits) g.digits)));
+      is = record {
+        within = omega (arith, ap length at.2, length-drop (suc w) text, g.within, at.0);
+        value = λ negative. found_value negative (take (w + 1 + f) text) (record { whole = take w text; fraction = take f digits }) (whole * 65536 + raw) found
+            (ap (λ n. n * 65536 + raw) h.value
+            ∙ ap (λ n. digits_value 10 (take w text) * 65536 + n) (g.nearest
+            ∙ ap (λ k. (digits_value 10 (take f digits) * 131072 + 10 ^ k) / (2 * 10 ^ k)) (sym len_f)))
+            (omega (arith, h.small, g.small));
+        plain = let P : List ℕ → Type 0 = All IsUnsigned in subst P (sym front)
+            (All-append IsUnsigned (take w text) (46 ∷ take f digits) (unsigned_digits (take w text) h.digits)
+            (All-cons IsUnsigned 46 (take f digits) (omega arith, omega arith) (unsigned_digits (take f digits) g.digits)));
+        small = omega (arith, h.small, g.small);
+      };
       longest = λ more.
           let inner : f < length digits = omega (arith, ap length at.2, length-drop (suc w) text, more) in
           let place : w + 1 + f ≡ suc w + f = omega arith in
           ap (λ k. is_ascii_digit (get_or text k 0)) place ∙ ap is_ascii_digit (sym (get_or-drop (suc w) text f 0))
           ∙ ap (λ xs. is_ascii_digit (get_or xs f 0)) (sym at.2) ∙ g.longest inner;
-      small = omega (arith, h.small, g.small);
+    }
+
+-- five digits behind a point and up to three before it
+pub printed_text : (text ws fs : List ℕ) (m len : ℕ) → take len text ≡ ws ++ 46 ∷ fs → len ≤ length text → 0 < length ws → length ws ≤ 9
+    → all_ascii_digits ws ≡ true → length fs ≡ 5 → all_ascii_digits fs ≡ true
+    → m ≡ digits_value 10 ws * 65536 + (digits_value 10 fs * 131072 + 100000) / 200000 → m < 2 ^ 31 → IsMagnitude text m len
+printed_text text ws fs m len front within some few all five all_f is small =
+    record {
+      within = within;
+      value = λ negative. found_value negative (take len text) (record { whole = ws; fraction = fs }) m
+          (ap digits_of_text front ∙ both_found ws fs some few all (omega arith) (omega arith) all_f)
+          (is ∙ ap (λ k. digits_value 10 ws * 65536 + (digits_value 10 fs * 131072 + 10 ^ k) / (2 * 10 ^ k)) (sym five)) small;
+      plain = let P : List ℕ → Type 0 = All IsUnsigned in subst P (sym front)
+          (All-append IsUnsigned ws (46 ∷ fs) (unsigned_digits ws all) (All-cons IsUnsigned 46 fs (omega arith, omega arith) (unsigned_digits fs all_f)));
+      small = small;
     }
 
 -- a text of such bytes has no sign
@@ -165,12 +184,12 @@ no_sign (b ∷ bs) r plain h =
     ap (λ t. cond t (fix_of_digits true (digits_of_text bs)) (fix_of_digits false (digits_of_text (b ∷ bs)))) other ∙ h
 
 -- a magnitude as the number that the code makes of it
-pub number_positive : (text digits : List ℕ) (m len : ℕ) → text ≡ digits → IsMagnitudeFront digits m len → fix (take len text) ≡ Ok (to_z w32 m)
+pub number_positive : (text digits : List ℕ) (m len : ℕ) → text ≡ digits → IsMagnitude digits m len → fix (take len text) ≡ Ok (to_z w32 m)
 number_positive text digits m len e h =
     let kept : to_z w32 m ≡ pos m = (let small = h.small in grind (arith, ints)) in
     ap (λ xs. fix (take len xs)) e ∙ no_sign (take len digits) (pos m) h.plain (h.value false) ∙ ap Ok (sym kept)
 
-pub number_negative : (text digits : List ℕ) (m len : ℕ) → text ≡ 45 ∷ digits → IsMagnitudeFront digits m len
+pub number_negative : (text digits : List ℕ) (m len : ℕ) → text ≡ 45 ∷ digits → IsMagnitude digits m len
     → fix (take (1 + len) text) ≡ Ok (to_z w32 (of_z w32 (pos 0 -ℤ to_z w32 m)))
 number_negative text digits m len e h =
     let kept : to_z w32 (of_z w32 (pos 0 -ℤ to_z w32 m)) ≡ neg_ℤ (pos m) = (let small = h.small in grind (arith, ints)) in

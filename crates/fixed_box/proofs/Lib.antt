@@ -4,6 +4,7 @@ mod DigitRuns
 mod FrontNumbers
 mod Levels
 mod Magnitude
+mod PrintedWords
 mod PutsThen
 mod RoundTrip
 mod Rounding

@@ -1,5 +1,5 @@
 -- Serves proofs alone: parts of a number, at the front of a text.
-use Rattle.std.specs.Prelude.{◌≡◌, ℕ, ◌≤◌, ◌<◌, ◌^◌, ◌+◌, ◌*◌, ◌/◌, Bool, true, false, List, length, take, slice_index, pos, neg_ℤ, Ok, All, if◌then◌else◌}
+use Rattle.std.specs.Prelude.{◌≡◌, ℕ, ◌≤◌, ◌<◌, ◌^◌, ◌+◌, ◌*◌, ◌/◌, Bool, true, false, List, [], ◌∷◌, length, take, slice_index, pos, neg_ℤ, Ok, All, if◌then◌else◌}
 use Rattle.std.specs.Char.{is_ascii_digit}
 use Rattle.std.specs.Str.{all_ascii_digits}
 use Rattle.std.specs.Str.Parse.{digits_value}
@@ -25,10 +25,26 @@ pub record IsFractionFront (text : List ℕ) (raw len : ℕ) : Type 0 where
   pub longest : len < length text → is_ascii_digit (slice_index text len) ≡ false
   pub small : raw ≤ 65536
 
--- the first bytes, so many, are the text of a raw magnitude, and no digit follows
-pub record IsMagnitudeFront (text : List ℕ) (magnitude len : ℕ) : Type 0 where
+-- the first bytes, so many, are the text of a raw magnitude
+pub record IsMagnitude (text : List ℕ) (magnitude len : ℕ) : Type 0 where
   pub within : len ≤ length text
   pub value : (negative : Bool) → fix_of_digits negative (digits_of_text (take len text)) ≡ Ok (if negative then neg_ℤ (pos magnitude) else pos magnitude)
   pub plain : All (λ b. (46 ≤ b) × (b ≤ 57)) (take len text)
-  pub longest : len < length text → is_ascii_digit (slice_index text len) ≡ false
   pub small : magnitude < 2 ^ 31
+
+-- the same where no digit follows
+pub record IsMagnitudeFront (text : List ℕ) (magnitude len : ℕ) : Type 0 where
+  pub is : IsMagnitude text magnitude len
+  pub longest : len < length text → is_ascii_digit (slice_index text len) ≡ false
+
+-- the word of eight bytes, the first of which is the lowest
+abbrev pub word_of : (a b c d e f g h : ℕ) → ℕ
+word_of a b c d e f g h = ((((((h * 256 + g) * 256 + f) * 256 + e) * 256 + d) * 256 + c) * 256 + b) * 256 + a
+
+-- eight bytes are two digits, a point and five digits, which form a raw magnitude
+pub record IsPrinted (a b c d e f g h magnitude : ℕ) : Type 0 where
+  pub whole : all_ascii_digits (a ∷ b ∷ []) ≡ true
+  pub point : c ≡ 46
+  pub fraction : all_ascii_digits (d ∷ e ∷ f ∷ g ∷ h ∷ []) ≡ true
+  pub value : magnitude ≡ digits_value 10 (a ∷ b ∷ []) * 65536 + (digits_value 10 (d ∷ e ∷ f ∷ g ∷ h ∷ []) * 131072 + 100000) / 200000
+  pub small : magnitude ≤ 6553600

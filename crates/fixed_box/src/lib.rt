@@ -8,6 +8,7 @@ mod no_memory;
 mod number_front;
 mod parsing;
 mod point;
+mod printed_front;
 mod printing;
 
 pub use fbox::FBox;
@@ -17,6 +18,7 @@ pub use no_memory::NoMemory;
 pub use number_front::{digits_ahead, fix_ahead};
 pub use parsing::read_fix;
 pub use point::Point;
+pub use printed_front::printed_fix_ahead;
 pub use printing::{print_fix, printed_reads_back};
 
 /// A coordinate in raw units: `raw` stands for `raw / 65,536`.

@@ -41,7 +41,7 @@ pub fn fix_ahead(text: &[u8]) -> Option<(Fix, usize)>
 
 // Whether a minus sign comes first, and the text behind it.
 #[inline(always)]
-fn behind_sign(text: &[u8]) -> (bool, &[u8])
+pub(crate) fn behind_sign(text: &[u8]) -> (bool, &[u8])
     ensures sign { result.0 ≡ true → text.now ≡ 45 ∷ result.1.now }
     ensures none { result.0 ≡ false → text.now ≡ result.1.now }
 {
@@ -67,13 +67,25 @@ fn magnitude_ahead(text: &[u8]) -> Option<(u32, usize)>
     }
 }
 
-// The whole number that the first digits form, and how many they are. Most have one to three.
+// The whole number that the first digits form, and how many they are.
 #[inline(always)]
 fn whole_ahead(text: &[u8]) -> Option<(u64, usize)>
     ensures { IfSome result (λ found. IsWholeFront text.now found.0 found.1) }
 {
-    let [a, b, c, d, ..] = text else {
-        return long_whole(text);
+    if let Some((whole, len)) = few_digits(text) {
+        return Some((whole, len));
+    }
+    long_whole(text)
+}
+
+// One to four digits, which most whole numbers have. There is a byte behind them that is none.
+#[inline(always)]
+fn few_digits(text: &[u8]) -> Option<(u64, usize)>
+    ensures front { IfSome result (λ found. IsWholeFront text.now found.0 found.1) }
+    ensures small { IfSome result (λ found. found.0 < 10 ^ found.1) }
+{
+    let [a, b, c, d, e, ..] = text else {
+        return None;
     };
     if !a.is_ascii_digit() {
         return None;
@@ -90,7 +102,11 @@ fn whole_ahead(text: &[u8]) -> Option<(u64, usize)>
     if !d.is_ascii_digit() {
         return Some((u64::from(three), 3));
     }
-    long_whole(text)
+    let four = 10 * three + u32::from(*d - b'0');
+    if !e.is_ascii_digit() {
+        return Some((u64::from(four), 4));
+    }
+    None
 }
 
 // The same of any number of digits.
@@ -98,7 +114,7 @@ fn whole_ahead(text: &[u8]) -> Option<(u64, usize)>
 fn long_whole(text: &[u8]) -> Option<(u64, usize)>
     ensures { IfSome result (λ found. IsWholeFront text.now found.0 found.1) }
 {
-    let (whole, len) = digits_ahead(text);
+    let (whole, len) = many_digits(text);
     if len == 0 || len > MOST_DIGITS || whole >= LARGE {
         return None;
     }
@@ -114,7 +130,7 @@ fn fraction_ahead(text: &[u8]) -> Option<(u64, usize)>
     if let Some(fraction) = five_digits(text) {
         return Some(((fraction * 131_072 + 100_000) / 200_000, 5));
     }
-    let (fraction, len) = digits_ahead(text);
+    let (fraction, len) = many_digits(text);
     if len == 0 || len > MOST_DIGITS {
         return None;
     }
@@ -179,7 +195,24 @@ fn missing_places(len: usize) -> u64
 
 /// The decimal digits at the front of a text, at most ten: the number that they form, and how many they are. It looks
 /// at one byte more than it takes, if at any.
+#[inline(always)]
 pub fn digits_ahead(text: &[u8]) -> (u64, usize)
+    ensures value { result.0 ≡ digits_value 10 (take result.1 text.now) }
+    ensures digits { all_ascii_digits (take result.1 text.now) ≡ true }
+    ensures within { result.1 ≤ length text.now }
+    ensures few { result.1 ≤ 10 }
+    ensures small { result.0 < 10 ^ result.1 }
+    ensures longest { result.1 < 10 → result.1 < length text.now → is_ascii_digit (slice_index text.now result.1) ≡ false }
+{
+    match few_digits(text) {
+        Some(found) => found,
+        None => many_digits(text),
+    }
+}
+
+// The same of any number of digits.
+#[inline(never)]
+fn many_digits(text: &[u8]) -> (u64, usize)
     ensures value { result.0 ≡ digits_value 10 (take result.1 text.now) }
     ensures digits { all_ascii_digits (take result.1 text.now) ≡ true }
     ensures within { result.1 ≤ length text.now }

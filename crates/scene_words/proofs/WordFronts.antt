@@ -1,7 +1,7 @@
 -- Words at the front of a line, by their bytes.
 use Rattle.std.proofs.Common.{◌≡◌, ℕ, zero, suc, ◌+◌, ◌-◌, ◌<◌, ◌≤◌, true, false, cond, ◌&&◌, nat_le, List, [], ◌∷◌, ◌++◌, length, take, drop}
 use Rattle.std.proofs.Common.{get_or, Option, Some, None, Result, Ok, Err, refl, sym, ap, subst, ◌∙◌, arith, length-take, length-drop}
-use Rattle.std.proofs.Common.{IfSome}
+use Rattle.std.proofs.Common.{IfSome, ℤ}
 use Rattle.std.specs.List.{All, prefix_len, before_first, after_first, list_all}
 use Rattle.std.specs.Char.{is_ascii_digit, is_digit}
 use Rattle.std.specs.Str.{all_ascii_digits}
@@ -16,9 +16,10 @@ use Rattle.scene_words.specs.declared.line_fault.LineFault.TheVariants as fault
 use Rattle.scene_words.specs.declared.command.Command.{Command}
 use Rattle.scene_words.specs.declared.verb.Verb.{Verb}
 use Rattle.scene_words.specs.declared.version.Version.{Version}
-use Rattle.scene_words.specs.Values.{index_of_digits, is_colon, handle_from, handle_of_word, mask_of_word}
+use Rattle.fixed_box.specs.Fix.{fix}
+use Rattle.scene_words.specs.Values.{line_number, number_of_word, index_of_digits, is_colon, handle_from, handle_of_word, mask_of_word}
 use Rattle.scene_words.specs.Verbs.{verb_of, allows}
-use Rattle.scene_words.specs.SceneWords.{words, first_as, handle_at, ◌>>=◌, by_verb, further_of, command, command_of}
+use Rattle.scene_words.specs.SceneWords.{words, first_as, number_at, handle_at, ◌>>=◌, by_verb, further_of, command, command_of}
 use Rattle.scene_words.specs.Fronts.{in_word, Leads}
 use Rattle.scene_words.proofs.FirstPlaces.{before_at, after_at}
 use Rattle.scene_words.proofs.WordSplits.{words_ahead}
@@ -54,6 +55,21 @@ first_value value line behind rest n x some inside high e ends same is =
       value = ap (first_as value) ws ∙ ap (λ r. r >>= λ y. Ok (y, words rest)) is;
       total = ap length ws ∙ omega arith;
     }
+
+-- no number is the text of no bytes
+some_bytes : (n : ℕ) (line : List ℕ) (raw : ℤ) → fix (take n line) ≡ Ok raw → 0 < n
+some_bytes zero line raw e = absurd (cc)
+some_bytes (suc n) line raw e = omega arith
+
+high_bytes : (text : List ℕ) → All (λ b. (45 ≤ b) × (b ≤ 57)) text → All IsHigh text
+high_bytes text plain = λ k d inside. (let p = plain k d inside in omega (arith, p.0))
+
+-- the bytes of a number are the first word
+pub number_front : (line behind rest : List ℕ) (n : ℕ) (raw : ℤ) → fix (take n line) ≡ Ok raw → n ≤ length line
+    → All (λ b. (45 ≤ b) × (b ≤ 57)) (take n line) → behind ≡ drop n line → prefix_len in_word behind ≡ 0 → words rest ≡ words behind
+    → Leads number_at 1 line raw rest
+number_front line behind rest n raw is inside plain e ends same =
+    first_value number_of_word line behind rest n raw (some_bytes n line raw is) inside (high_bytes (take n line) plain) e ends same (ap line_number is)
 
 -- hexadecimal digits are such bytes, and form a mask
 hex_high : (b : ℕ) → is_digit b 16 ≡ true → 36 ≤ b

@@ -7,7 +7,7 @@ ghost use Rattle.scene_words.specs.SceneWords.{words, number_at, point_at, handl
 
 use crate::line_words::{after_blanks, next_word};
 use crate::values::number_of_word;
-use fixed_box::{Fix, Point, digits_ahead, fix_ahead};
+use fixed_box::{Fix, Point, digits_ahead, fix_ahead, printed_fix_ahead};
 use live_table::Handle;
 
 // The most digits of a mask.
@@ -33,10 +33,32 @@ pub(crate) fn point_ahead(line: &[u8]) -> Option<(Point, &[u8])>
 fn number_ahead(line: &[u8]) -> Option<(Fix, &[u8])>
     ensures { IfSome result (λ found. Leads number_at 1 line.now found.0 found.1.now) }
 {
-    if let Some((number, rest)) = short_number(line) {
+    if let Some((number, rest)) = printed_number(line) {
         return Some((number, rest));
     }
-    any_number(line)
+    other_number(line)
+}
+
+// A number in the form in which most are printed.
+#[inline(always)]
+fn printed_number(line: &[u8]) -> Option<(Fix, &[u8])>
+    ensures { IfSome result (λ found. Leads number_at 1 line.now found.0 found.1.now) }
+{
+    let (number, len) = printed_fix_ahead(line)?;
+    let rest = past_space(line.split_at(len).1)?;
+    Some((number, rest))
+}
+
+// A number of another form, or behind blanks. It is less common, so that its code stays out of the way.
+#[inline(never)]
+fn other_number(line: &[u8]) -> Option<(Fix, &[u8])>
+    ensures { IfSome result (λ found. Leads number_at 1 line.now found.0 found.1.now) }
+{
+    let text = past_blanks(line);
+    if let Some((number, rest)) = short_number(text) {
+        return Some((number, rest));
+    }
+    any_number(text)
 }
 
 // A number of at most nine digits on either side of its point.
@@ -49,7 +71,7 @@ fn short_number(line: &[u8]) -> Option<(Fix, &[u8])>
     Some((number, rest))
 }
 
-// A number of any form. It is rare, so that its code stays out of the way.
+// A number of any form.
 #[inline(never)]
 fn any_number(line: &[u8]) -> Option<(Fix, &[u8])>
     ensures { IfSome result (λ found. Leads number_at 1 line.now found.0 found.1.now) }
@@ -103,7 +125,7 @@ pub(crate) fn mask_or_ahead(default: u32, line: &[u8]) -> Option<(u32, &[u8])>
     if is_done(line) {
         return Some((default, line));
     }
-    mask_ahead(line)
+    mask_ahead(past_blanks(line))
 }
 
 // The hexadecimal digits at the front, at most eight: the number that they form, and how many they are.
@@ -126,12 +148,25 @@ fn hexadecimal_ahead(line: &[u8]) -> (u32, usize)
     (value, len)
 }
 
-// Whether no word is left on a line that doesn't begin with a blank.
+// Whether no word is left on a line.
 #[inline(always)]
 pub(crate) fn is_done(line: &[u8]) -> bool
     ensures { result ≡ true → words line.now ≡ [] }
 {
-    matches!(line, [] | [b'#', ..])
+    matches!(past_blanks(line), [] | [b'#', ..])
+}
+
+// The line behind the space that ends a word at its front. Further blanks stay. Where something else ends the word, the
+// line from the next word on.
+#[inline(always)]
+fn past_space(line: &[u8]) -> Option<&[u8]>
+    ensures words { IfSome result (λ rest. words rest.now ≡ words line.now) }
+    ensures end { IfSome result (λ _. prefix_len in_word line.now ≡ 0) }
+{
+    match line {
+        [b' ', rest @ ..] => Some(rest),
+        _ => past_word(line),
+    }
 }
 
 // The line from the next word on, where a word ends at its front. Mostly one space is passed.

@@ -2,7 +2,7 @@
 use Rattle.std.proofs.Common.{◌≡◌, ◌<◌, true, length, get_or, sym, ◌∙◌, arith}
 use Rattle.std.specs.Char.{is_ascii_digit}
 use Rattle.fixed_box.proofs.FrontNumbers.{run_longer, number_longer, power_longer}
-use Rattle.fixed_box.proofs.number_front.digits_ahead.Goals as goal
+use Rattle.fixed_box.proofs.number_front.many_digits.Goals as goal
 
 pub digits-preserved : goal.digits-preserved
 digits-preserved c =

@@ -1,0 +1,118 @@
+ghost use Rattle.std.specs.Prelude.{◌≡◌, ℕ, ◌<◌, ◌≤◌, ◌*◌, ◌+◌, ◌/◌, Ok, All, length, take, IfSome};
+ghost use Rattle.fixed_box.specs.Fix.{fix};
+ghost use Rattle.fixed_box.specs.Fronts.{IsMagnitude, IsPrinted, word_of};
+
+use crate::Fix;
+use crate::number_front::behind_sign;
+
+// The bits that digits share, those of a point, and none of the digits' values.
+const FORM_BITS: u64 = 0xF0F0_F0F0_F0FF_F0F0;
+
+// What they are in two digits, a point and five digits.
+const FORM: u64 = 0x3030_3030_302E_3030;
+
+// The bits of the digits' values.
+const VALUE_BITS: u64 = 0x0F0F_0F0F_0F00_0F0F;
+
+// Added to values of four bits it carries out of those above nine.
+const ABOVE_NINE: u64 = 0x0606_0606_0600_0606;
+
+// A hundred in raw units.
+const HUNDRED: u32 = 6_553_600;
+
+/// The number at the front of a text, in raw units, with the length of its text in bytes, where it has the form in which
+/// numbers are mostly printed: five digits behind the point, and up to four before it.
+///
+/// It is the number that `read_fix` reads from those bytes. Each of them lies from `-` to `9`. A digit may follow them,
+/// so that whoever calls looks where the number ends. `None` says nothing of the text. It looks at words of eight bytes, so
+/// that a text with fewer bytes behind its sign has none.
+#[inline(always)]
+pub fn printed_fix_ahead(text: &[u8]) -> Option<(Fix, usize)>
+    ensures value { IfSome result (λ found. fix (take found.1 text.now) ≡ Ok found.0) }
+    ensures within { IfSome result (λ found. found.1 ≤ length text.now) }
+    ensures plain { IfSome result (λ found. All (λ b. (45 ≤ b) × (b ≤ 57)) (take found.1 text.now)) }
+{
+    let (negative, digits) = behind_sign(text);
+    let (magnitude, len) = printed_magnitude(digits)?;
+    if negative {
+        Some((-(magnitude as i32), 1 + len))
+    } else {
+        Some((magnitude as i32, len))
+    }
+}
+
+// The raw magnitude of such a number without a sign, and its length. Most have two digits before the point.
+#[inline(always)]
+fn printed_magnitude(text: &[u8]) -> Option<(u32, usize)>
+    ensures { IfSome result (λ found. IsMagnitude text.now found.0 found.1) }
+{
+    let [a, b, c, d, e, f, g, h, ..] = text else {
+        return None;
+    };
+    let word = u64::from_le_bytes([*a, *b, *c, *d, *e, *f, *g, *h]);
+    if let Some(magnitude) = magnitude_of_word(word) {
+        return Some((magnitude, 8));
+    }
+    if let Some(magnitude) = magnitude_of_word(behind_zero(word)) {
+        return Some((magnitude, 7));
+    }
+    if let Some(found) = hundreds(text) {
+        return Some(found);
+    }
+    thousands(text)
+}
+
+// The same of three digits before the point.
+#[inline(always)]
+fn hundreds(text: &[u8]) -> Option<(u32, usize)>
+    ensures { IfSome result (λ found. IsMagnitude text.now found.0 found.1) }
+{
+    let [a, b, c, d, e, f, g, h, i, ..] = text else {
+        return None;
+    };
+    if !a.is_ascii_digit() {
+        return None;
+    }
+    let magnitude = magnitude_of_word(u64::from_le_bytes([*b, *c, *d, *e, *f, *g, *h, *i]))?;
+    Some((u32::from(*a - b'0') * HUNDRED + magnitude, 9))
+}
+
+// The same of four digits before the point.
+fn thousands(text: &[u8]) -> Option<(u32, usize)>
+    ensures { IfSome result (λ found. IsMagnitude text.now found.0 found.1) }
+{
+    let [a, b, c, d, e, f, g, h, i, j, ..] = text else {
+        return None;
+    };
+    if !a.is_ascii_digit() || !b.is_ascii_digit() {
+        return None;
+    }
+    let magnitude = magnitude_of_word(u64::from_le_bytes([*c, *d, *e, *f, *g, *h, *i, *j]))?;
+    let front = u32::from(*a - b'0') * 10 + u32::from(*b - b'0');
+    Some((front * HUNDRED + magnitude, 10))
+}
+
+// The word of a zero and the first seven of eight bytes.
+#[inline(always)]
+fn behind_zero(word: u64) -> u64
+    ensures { (a b c d e f g h : ℕ) → (a < 256) × (b < 256) × (c < 256) × (d < 256) × (e < 256) × (f < 256) × (g < 256) × (h < 256) →
+        word ≡ word_of a b c d e f g h → result ≡ word_of 48 a b c d e f g }
+{
+    (word << 8) + u64::from(b'0')
+}
+
+// The raw magnitude of two digits, a point and five digits. Sums of neighbours make pairs of digits, at every other byte.
+#[inline(always)]
+fn magnitude_of_word(word: u64) -> Option<u32>
+    ensures { (a b c d e f g h : ℕ) → (a < 256) × (b < 256) × (c < 256) × (d < 256) × (e < 256) × (f < 256) × (g < 256) × (h < 256) →
+        word ≡ word_of a b c d e f g h → IfSome result (IsPrinted a b c d e f g h) }
+{
+    let values = word & VALUE_BITS;
+    if word & FORM_BITS != FORM || (values + ABOVE_NINE) & FORM_BITS != 0 {
+        return None;
+    }
+    let pairs = 10 * values + values / 256;
+    let fraction = pairs / 65_536 % 256 * 10_000 + pairs / 4_294_967_296 % 256 * 100 + pairs / 281_474_976_710_656 % 256;
+    let raw = pairs % 256 * 65_536 + (fraction * 131_072 + 100_000) / 200_000;
+    Some(raw as u32)
+}
