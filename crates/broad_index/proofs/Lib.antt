@@ -5,6 +5,7 @@ pub mod Holding
 pub mod MapMembers
 pub mod Merging
 pub mod OneRising
+pub mod PairKeys
 pub mod PlainEntries
 pub mod Renewing
 pub mod Seeking

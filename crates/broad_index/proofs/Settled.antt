@@ -3,7 +3,7 @@ use Rattle.std.proofs.Common.{◌≡◌, ℕ, ◌<◌, Bool, true, false, cond, 
 use lib.Dec.{eqb}
 use Rattle.std.specs.List.{list_all, list_any, dedup, dedup_from, AllByRecursion}
 use Rattle.std.specs.List.Sorted.{IsPermutation, IsSorted, IsStrictlySortedBy}
-use Rattle.std.specs.Ordering.{nat_cmp, is_eq, eq_by_cmp, on, then_cmp, ordering_then}
+use Rattle.std.specs.Ordering.{nat_cmp, is_eq, eq_by_cmp, ordering_then}
 use Rattle.std.specs.declared.cmp.Ordering.{Ordering}
 use Rattle.std.specs.declared.cmp.Ordering.TheVariants.{Less, Equal, Greater}
 use Rattle.std.specs.Cmp.{IsTotalOrder, ranked}
@@ -16,6 +16,7 @@ use Rattle.std.proofs.lemmas.List.Sorted.{list_any-IsPermutation}
 use Rattle.broad_index.specs.declared.pair.Pair.{Pair}
 use Rattle.fixed_box.specs.Rising.{rises_by}
 use Rattle.broad_index.specs.Near.{precedes, rises}
+use Rattle.broad_index.specs.PairOrder.{pair_cmp}
 use Rattle.broad_index.specs.Members.{same_pair, slots_rise}
 use Rattle.broad_index.proofs.MapMembers.{eq_cmp}
 use Rattle.broad_index.proofs.OneRising.{is_same}
@@ -62,10 +63,6 @@ nat_less x y e = let l : x < y = ranked x y Less (sym e) in grind (arith, nat_te
 
 pub slots_settled : (xs : List ℕ) → IsSorted nat_cmp xs → slots_rise (dedup eqb xs) ≡ true
 slots_settled xs sorted = rises_settled nat_cmp nat_lt nat_less nat_cmp_total eqb (λ x y. sym (eq_cmp x y)) xs sorted
-
--- by a and then by b
-abbrev pub pair_cmp : Pair → Pair → Ordering
-pair_cmp = then_cmp (on (λ p. p.a) nat_cmp) (on (λ p. p.b) nat_cmp)
 
 pair_ties : (p q : Pair) → same_pair p q ≡ eq_by_cmp pair_cmp p q
 pair_ties p q =

@@ -7,5 +7,6 @@ pub mod Index
 pub mod Members
 pub mod Near
 pub mod NearRises
+pub mod PairOrder
 pub mod Searched
 pub mod Touched
