@@ -1,7 +1,6 @@
 -- Links of a list: what single writes change, what stands at the ends, and the list that they keep.
-use Rattle.std.proofs.Common.{◌≡◌, ◌≢◌, ℕ, zero, suc, ◌+◌, ◌<◌, ◌≤◌, List, [], ◌∷◌, ◌++◌, length, get_or}
-use Rattle.std.proofs.Common.{set, not, eqb, refl, sym, ap, ◌∙◌, subst, arith, true, eq-eqb, ne_eqb, lt-ltb, inl, inr}
-use Rattle.std.proofs.lemmas.List.{get_or-set_same, get_or-set_other}
+use Rattle.std.proofs.Common.{◌≡◌, ℕ, zero, suc, ◌+◌, ◌<◌, ◌≤◌, List, [], ◌∷◌, ◌++◌, length, get_or}
+use Rattle.std.proofs.Common.{not, eqb, refl, sym, ap, ◌∙◌, subst, arith, true, eq-eqb, ne_eqb, lt-ltb, inl, inr}
 use Rattle.std.proofs.lemmas.Bool.{cases_eq, cases_Bool}
 use Rattle.endpoint_list.specs.declared.TheConstants.{NODES}
 use Rattle.endpoint_list.specs.NodeList.{has, first_of, last_of, IsNodeList}

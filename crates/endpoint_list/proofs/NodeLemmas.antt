@@ -1,9 +1,6 @@
 -- Nodes that are none of a list, distinct nodes and nodes below a number, as a list is joined, cut and changed.
-use Rattle.std.proofs.Common.{◌≡◌, ◌≢◌, ℕ, ◌<◌, ◌≤◌, List, [], ◌∷◌, ◌++◌, length, eqb, ◌||◌, ap, refl, sym, arith, false, true, eq-eqb, ne_eqb, inl, inr}
-use Rattle.std.specs.List.{IsDistinct as AreDistinct, AllByRecursion, list_any}
+use Rattle.std.proofs.Common.{◌≡◌, ℕ, ◌<◌, ◌≤◌, List, [], ◌∷◌, ◌++◌, eqb, ◌||◌, ap, refl, sym, arith, false, true, eq-eqb, ne_eqb, inl, inr}
 use Rattle.std.proofs.lemmas.Bool.{cases_eq}
-use Rattle.std.proofs.lemmas.Bool.Decides.{eqb_tells}
-use Rattle.std.proofs.lemmas.Map.Steps.{length-le_from_distinct_below}
 use Rattle.endpoint_list.specs.declared.TheConstants.{NODES}
 use Rattle.endpoint_list.specs.NodeList.{has, IsDistinct, IsNodeList}
 use Rattle.fixed_box.specs.Links.{Fresh, Distinct, Below}

@@ -12,11 +12,11 @@ const PLACES: usize = NODES as usize + 1;
 /// A list of node numbers, each at most once, as sort and sweep keeps its endpoints on an axis (Ericson, *Real-Time
 /// Collision Detection*, 2005, 7.5).
 ///
-/// The links stand in two arrays by node number, so every call but `new` takes constant time and no memory.
+/// The links stand in two arrays by node number, in 16 bits each, so every call but `new` takes constant time and no memory.
 #[derive(Drop)]
 pub struct EndList {
-    next: Vec<u32>,
-    prev: Vec<u32>,
+    next: Vec<u16>,
+    prev: Vec<u16>,
 }
 
 impl Model for EndList {
@@ -36,10 +36,10 @@ impl EndList {
         ensures { IfOk result (λ list. list ≡ []) }
     {
         let mut next = vec![in alloc; ABSENT; PLACES]?;
-        next[END as usize] = END;
+        next[END as usize] = END as u16;
         Ok(EndList {
             next,
-            prev: vec![in alloc; END; PLACES]?,
+            prev: vec![in alloc; END as u16; PLACES]?,
         })
     }
 
@@ -123,7 +123,7 @@ impl EndList {
             → self.new ≡ before ++ other ∷ node ∷ after }
         ensures list { IsNodeList self.new }
     {
-        let other = self.next[node as usize];
+        let other = u32::from(self.next[node as usize]);
         self.exchange_neighbours(node, other);
     }
 

@@ -29,8 +29,16 @@ fn take(list: &mut EndList, node: u32) {
     }
 }
 
+// Puts an absent node before a present one.
+fn put(list: &mut EndList, node: u32, other: u32) {
+    list_laws();
+    if node < NODES && !list.has(node) && list.has(other) {
+        list.put_before(node, other);
+    }
+}
+
 #[test]
-fn neighbours_change_places_and_nodes_go(rt: HostRuntime) -> Result<(), Fail> {
+fn neighbours_change_places_and_nodes_go_and_come(rt: HostRuntime) -> Result<(), Fail> {
     let mut list = EndList::new(rt.alloc())?;
     assert_eq!(rt; (list.first(), list.last()), (None, None));
     list.push_last(0);
@@ -48,6 +56,13 @@ fn neighbours_change_places_and_nodes_go(rt: HostRuntime) -> Result<(), Fail> {
     take(&mut list, 0);
     assert_eq!(rt; (list.first(), list.last()), (Some(1), Some(4)));
     assert_eq!(rt; (next_of(&list, 1), prev_of(&list, 4)), (Some(4), Some(1)));
+    put(&mut list, 16_383, 4);
+    put(&mut list, 6, 1);
+    assert_eq!(rt;
+        (prev_of(&list, 4), prev_of(&list, 1)),
+        (Some(16_383), Some(6))
+    );
+    assert_eq!(rt; (list.first(), next_of(&list, 1)), (Some(6), Some(16_383)));
     assert_eq!(rt;
         (list.has(0), list.has(1), list.has(16_384)),
         (false, true, false)

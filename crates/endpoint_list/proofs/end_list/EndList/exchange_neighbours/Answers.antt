@@ -1,5 +1,5 @@
 -- The links keep the list with the two changed.
-use Rattle.std.proofs.Common.{◌≡◌, ◌++◌, ◌∷◌, ◌∙◌, subst}
+use Rattle.std.proofs.Common.{◌++◌, ◌∷◌, ◌∙◌, subst}
 use Rattle.endpoint_list.specs.Links.{IsKept}
 use Rattle.endpoint_list.proofs.LinkLemmas.{kept, seen, seen_list}
 use Rattle.endpoint_list.proofs.ExchangeLemmas.{followed, exchanged}

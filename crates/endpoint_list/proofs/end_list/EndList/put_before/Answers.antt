@@ -1,7 +1,7 @@
 -- The links keep the list with the node before the other.
 use Rattle.std.proofs.Common.{◌++◌, ◌∷◌, ◌∙◌, ap, sym, subst, arith}
 use Rattle.fixed_box.specs.Links.{Fresh}
-use Rattle.endpoint_list.specs.Links.{listed, IsKept}
+use Rattle.endpoint_list.specs.Links.{IsKept}
 use Rattle.endpoint_list.specs.NodeList.{has}
 use Rattle.endpoint_list.proofs.NodeLemmas.{has_fresh}
 use Rattle.endpoint_list.proofs.LinkLemmas.{kept, seen, seen_list, beside}
