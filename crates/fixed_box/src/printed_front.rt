@@ -56,13 +56,21 @@ fn printed_magnitude(text: &[u8]) -> Option<(u32, usize)>
     if let Some(magnitude) = magnitude_of_word(behind_zero(word)) {
         return Some((magnitude, 7));
     }
-    if let Some(found) = hundreds(text) {
-        return Some(found);
+    longer_magnitude(text)
+}
+
+// The same of three or four digits before the point. Calls keep the words apart, so that each is one read.
+#[inline(never)]
+fn longer_magnitude(text: &[u8]) -> Option<(u32, usize)>
+    ensures { IfSome result (λ found. IsMagnitude text.now found.0 found.1) }
+{
+    if let Some((magnitude, len)) = hundreds(text) {
+        return Some((magnitude, len));
     }
     thousands(text)
 }
 
-// The same of three digits before the point.
+// The same of three digits.
 #[inline(always)]
 fn hundreds(text: &[u8]) -> Option<(u32, usize)>
     ensures { IfSome result (λ found. IsMagnitude text.now found.0 found.1) }
@@ -77,7 +85,8 @@ fn hundreds(text: &[u8]) -> Option<(u32, usize)>
     Some((u32::from(*a - b'0') * HUNDRED + magnitude, 9))
 }
 
-// The same of four digits before the point.
+// The same of four digits.
+#[inline(never)]
 fn thousands(text: &[u8]) -> Option<(u32, usize)>
     ensures { IfSome result (λ found. IsMagnitude text.now found.0 found.1) }
 {

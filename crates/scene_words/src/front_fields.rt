@@ -96,7 +96,7 @@ pub(crate) fn handle_ahead(line: &[u8]) -> Option<(Handle, &[u8])>
     if slot_len == 0 || len == 0 || slot > LARGEST || generation > LARGEST {
         return None;
     }
-    let rest = past_word(digits.split_at(len).1)?;
+    let rest = past_space(digits.split_at(len).1)?;
     let handle = Handle {
         slot: slot as u32,
         generation: generation as u32,
@@ -185,7 +185,7 @@ pub(crate) fn past_word(line: &[u8]) -> Option<&[u8]>
 
 // The line behind the blanks at its front, of which there are mostly none.
 #[inline(always)]
-fn past_blanks(line: &[u8]) -> &[u8]
+pub(crate) fn past_blanks(line: &[u8]) -> &[u8]
     ensures { words result.now ≡ words line.now }
 {
     match line {
