@@ -80,6 +80,10 @@ abbrev pub FindsOthers : FinMap nat_cmp Bounds → ℕ → Bounds → List Pair 
 FindsOthers bodies slot body found =
     (q : ℕ) (b : Bounds) → get bodies q ≡ Some b → meets body b ≡ true → not (q == slot) ≡ true → IsOther body b → has_pair found (ordered slot q) ≡ true
 
+-- a level has no box
+abbrev pub IsBare : FinMap nat_cmp Bounds → ℕ → Type 0
+IsBare bodies level = (q : ℕ) (b : Bounds) → get bodies q ≡ Some b → level_of b ≡ level → ⊥
+
 -- a level above those of all boxes
 abbrev pub IsAbove : FinMap nat_cmp Bounds → ℕ → Type 0
 IsAbove bodies end = (q : ℕ) (b : Bounds) → get bodies q ≡ Some b → level_of b < end
