@@ -16,7 +16,7 @@ use Rattle.cell_table.specs.declared.cell_key.CellKey.{CellKey}
 use Rattle.cell_table.specs.Cells.{has, slots_at}
 use Rattle.hier_grid.specs.Cells.{cell_of, cell_on, IsAfter, IsBeside}
 use Rattle.hier_grid.specs.Grid.{IsGrid, IsSized}
-use Rattle.hier_grid.specs.Search.{HasAfter, HasCell, HasMet, IsAbove}
+use Rattle.hier_grid.specs.Search.{HasAfter, HasCell, HasMet, IsAbove, IsBare}
 use Rattle.hier_grid.proofs.CellLemmas.{beside}
 use Rattle.hier_grid.proofs.SlotLemmas.{nat_next}
 
@@ -131,16 +131,15 @@ none_in : (xs : List ℕ) (q : ℕ) → length xs ≡ 0 → has xs q ≡ true �
 none_in [] q l h = false≢true h
 none_in (x ∷ xs) q l h = absurd (omega arith)
 
--- A level with no slot has none whose box meets a region.
-pub none_met : (bodies : FinMap nat_cmp Bounds) (cells : FinMap nat_cmp CellKey) (level : ℕ) (region : Bounds) (slots : List ℕ) → IsGrid bodies cells
-    → length (slots_at cells level) ≡ 0 → HasMet bodies level region slots
-none_met bodies cells level region slots g none q b e l m =
-    absurd (none_in (slots_at cells level) q none (has_level cells q (cell_of b) level l (g.keyed q ∙ ap (option_map cell_of) e)))
+-- A level with no slot has no box.
+pub bare : (bodies : FinMap nat_cmp Bounds) (cells : FinMap nat_cmp CellKey) (level : ℕ) → IsGrid bodies cells → length (slots_at cells level) ≡ 0
+    → IsBare bodies level
+bare bodies cells level g none q b e l =
+    none_in (slots_at cells level) q none (has_level cells q (cell_of b) level l (g.keyed q ∙ ap (option_map cell_of) e))
 
--- What is above all boxes, where a level has no slot, is above them by one less.
-pub above_less : (bodies : FinMap nat_cmp Bounds) (cells : FinMap nat_cmp CellKey) (end : ℕ) → IsGrid bodies cells → IsAbove bodies (end + 1)
-    → length (slots_at cells end) ≡ 0 → IsAbove bodies end
-above_less bodies cells end g above none q b e = elim (nat_next (level_of b) end (above q b e)) as (λ _. level_of b < end) [
+-- What is above all boxes, where the level below it has none, is above them by one less.
+pub above_less : (bodies : FinMap nat_cmp Bounds) (end : ℕ) → IsAbove bodies (end + 1) → IsBare bodies end → IsAbove bodies end
+above_less bodies end above none q b e = elim (nat_next (level_of b) end (above q b e)) as (λ _. level_of b < end) [
   | inl below ↦ below
-  | inr at ↦ absurd (none_in (slots_at cells end) q none (has_level cells q (cell_of b) end at (g.keyed q ∙ ap (option_map cell_of) e)))
+  | inr at ↦ absurd (none q b e at)
 ]

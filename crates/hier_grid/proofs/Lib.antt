@@ -8,4 +8,5 @@ mod PairLemmas
 mod PartnerLemmas
 mod RegionLemmas
 mod RowLemmas
+mod RunLemmas
 mod SlotLemmas

@@ -1,5 +1,5 @@
 -- Definitions: what searches find.
-use Rattle.std.specs.Prelude.{◌≡◌, ◌⊎◌, ℕ, ◌<◌, ◌≤◌, Bool, true, not, ◌&&◌, ◌||◌, ◌==◌, nat_lt, List, map, Some}
+use Rattle.std.specs.Prelude.{◌≡◌, ◌⊎◌, ℕ, ◌<◌, ◌≤◌, Bool, true, not, ◌&&◌, ◌||◌, ◌==◌, nat_lt, List, [], ◌∷◌, ◌++◌, map, Some}
 use Rattle.std.specs.Ordering.{nat_cmp}
 use Rattle.std.specs.FinMap.{FinMap, get, entries}
 use Rattle.fixed_box.specs.Bounds.{Bounds, meets, level_of}
@@ -80,6 +80,10 @@ abbrev pub FindsOthers : FinMap nat_cmp Bounds → ℕ → Bounds → List Pair 
 FindsOthers bodies slot body found =
     (q : ℕ) (b : Bounds) → get bodies q ≡ Some b → meets body b ≡ true → not (q == slot) ≡ true → IsOther body b → has_pair found (ordered slot q) ≡ true
 
+-- a level has no box
+abbrev pub IsBare : FinMap nat_cmp Bounds → ℕ → Type 0
+IsBare bodies level = (q : ℕ) (b : Bounds) → get bodies q ≡ Some b → level_of b ≡ level → ⊥
+
 -- a level above those of all boxes
 abbrev pub IsAbove : FinMap nat_cmp Bounds → ℕ → Type 0
 IsAbove bodies end = (q : ℕ) (b : Bounds) → get bodies q ≡ Some b → level_of b < end
@@ -92,3 +96,13 @@ FindsFrom bodies slot body found =
 -- the same if the slot is present
 abbrev pub FindsFor : FinMap nat_cmp Bounds → ℕ → List Pair → Type 0
 FindsFor bodies slot found = (body : Bounds) → get bodies slot ≡ Some body → FindsFrom bodies slot body found
+
+-- Pairs of boxes that meet were found, among them all that are to be found from some slots.
+pub record FindsRun (bodies : FinMap nat_cmp Bounds) (slots : List ℕ) (found : List Pair) : Type 0 where
+  pub sound : IsSound bodies found
+  pub whole : (slot : ℕ) → has_slot slots slot ≡ true → FindsFor bodies slot found
+
+-- the pairs of several searches, one after another
+abbrev pub pairs_of : List (List Pair) → List Pair
+pairs_of [] = []
+pairs_of (pairs ∷ rest) = pairs ++ pairs_of rest

@@ -3,14 +3,12 @@ ghost use Rattle.std.specs.FinMap as map;
 ghost use Rattle.std.specs.List.{All};
 ghost use Rattle.broad_index.specs.Fresh.{IsFresh};
 ghost use Rattle.hier_grid.specs.Grid.{AreKeyed};
-ghost use Rattle.hier_grid.specs.Search.{present};
+ghost use Rattle.hier_grid.specs.Search.{FindsRun, present};
 
 use crate::hits::{push_hits, push_reach};
 use crate::kept_boxes::KeptBoxes;
-use crate::pair_search::{Findings, find_pairs};
-use broad_index::{
-    BroadPhase, Pair, Query, member_laws, push_gathered, push_rising_pairs, search_laws,
-};
+use crate::pair_search::{Findings, find_run, push_lists};
+use broad_index::{BroadPhase, Pair, PairSeeker, Query, push_rising_pairs};
 use cell_table::CellTable;
 use fixed_box::{FBox, NoMemory, SLOTS};
 use slot_search::Seeker;
@@ -31,6 +29,7 @@ use std::marker::Model;
 pub struct HierGrid {
     alloc: Global,
     kept: KeptBoxes,
+    slots: Vec<u32>,
     found: Findings,
     looked: u64,
 }
@@ -56,6 +55,7 @@ impl HierGrid {
         Ok(HierGrid {
             alloc,
             kept: KeptBoxes::new(alloc)?,
+            slots: Vec::new(alloc),
             found: Findings::new(alloc),
             looked: 0,
         })
@@ -89,6 +89,20 @@ impl Seeker for HierGrid {
     }
 }
 
+impl PairSeeker for HierGrid {
+    ghost bodies = { λ grid. grid };
+
+    // What it costs is free.
+    ghost seeks = { λ grid slots pairs _. FindsRun grid slots pairs };
+
+    /// Answers the number of comparisons of two exact boxes.
+    fn seek_pairs(&self, alloc: Global, slots: &[u32]) -> Result<(Vec<Pair>, u64), NoMemory> {
+        let mut found = Findings::new(alloc);
+        let looked = find_run(&self.kept, slots, &mut found)?;
+        Ok((found.pairs, looked))
+    }
+}
+
 impl BroadPhase for HierGrid {
     const COUNTS: bool = false;
 
@@ -106,7 +120,7 @@ impl BroadPhase for HierGrid {
 
     ghost sought = { λ grid. present grid };
 
-    ghost costs = { λ _. None };
+    ghost seeks = { λ grid slots pairs _. FindsRun grid slots pairs };
 
     type Shared = HierGrid;
 
@@ -142,8 +156,11 @@ impl BroadPhase for HierGrid {
     }
 
     fn pairs(&mut self, out: &mut Vec<Pair>) -> Result<(), NoMemory> {
-        find_pairs(&self.kept, &mut self.looked, &mut self.found)?;
-        push_rising_pairs(&mut self.found.pairs, out)
+        self.kept.boxes().list(&mut self.slots)?;
+        let looked = find_run(&self.kept, &self.slots, &mut self.found)?;
+        push_rising_pairs(&mut self.found.pairs, out)?;
+        self.looked = self.looked.saturating_add(looked);
+        Ok(())
     }
 
     fn hits(&self, query: &Query, out: &mut Vec<u32>) -> Result<(), NoMemory> {
@@ -168,17 +185,11 @@ impl BroadPhase for HierGrid {
         Ok(Some((self, slots)))
     }
 
-    fn merge(
-        &mut self,
-        slots: &[u32],
-        lists: &[Vec<u32>],
-        cost: u64,
-        out: &mut Vec<Pair>,
-    ) -> Result<(), NoMemory> {
-        member_laws();
-        search_laws();
-        push_gathered(slots, lists, out)?;
-        self.looked = self.looked.saturating_add(cost);
+    fn merge(&mut self, found: Vec<(Vec<Pair>, u64)>, out: &mut Vec<Pair>) -> Result<(), NoMemory> {
+        self.found.pairs.clear();
+        let looked = push_lists(&found, &mut self.found.pairs)?;
+        push_rising_pairs(&mut self.found.pairs, out)?;
+        self.looked = self.looked.saturating_add(looked);
         Ok(())
     }
 }

@@ -11,7 +11,6 @@ use crate::partners::push_partners;
 use crate::regions::{flat_box, ray_box, seg_box};
 use crate::slot_boxes::SlotBoxes;
 use broad_index::{Query, push_rising_slots};
-use cell_table::LEVELS;
 use fixed_box::{FBox, NoMemory};
 use std::alloc::Global;
 
@@ -49,7 +48,8 @@ fn push_near(
     kept.space_law();
     let mut places = Vec::new(alloc);
     let mut candidates = Vec::new(alloc);
-    kept.push_from(0, LEVELS, region, &mut 0, &mut places, &mut candidates)?;
+    let end = kept.levels_end();
+    kept.push_from(0, end, region, &mut 0, &mut places, &mut candidates)?;
     let mut hits = Vec::new(alloc);
     push_found(kept.boxes(), query, &candidates, &mut hits)?;
     push_rising_slots(&mut hits, out)
@@ -90,7 +90,8 @@ pub(crate) fn push_reach(
     let mut looked = 0;
     let mut places = Vec::new(alloc);
     let mut candidates = Vec::new(alloc);
-    kept.push_from(0, LEVELS, body, &mut looked, &mut places, &mut candidates)?;
+    let end = kept.levels_end();
+    kept.push_from(0, end, body, &mut looked, &mut places, &mut candidates)?;
     let mut partners = Vec::new(alloc);
     push_partners(
         kept.boxes(),

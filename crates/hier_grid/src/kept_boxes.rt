@@ -2,7 +2,7 @@ ghost use Rattle.std.specs.Prelude.{◌≡◌, ℕ, ◌<◌, ◌≤◌, true, fa
 ghost use Rattle.std.specs.FinMap as map;
 ghost use Rattle.fixed_box.specs.Bounds.{Bounds, meets};
 ghost use Rattle.hier_grid.specs.Grid.{AreKeyed};
-ghost use Rattle.hier_grid.specs.Search.{HasAfter, HasKeyed, HasMet, HasMetIn, HasMore, IsAbove};
+ghost use Rattle.hier_grid.specs.Search.{HasAfter, HasKeyed, HasMet, HasMetIn, HasMore, IsAbove, IsBare};
 ghost use Rattle.hier_grid.specs.Space.{space};
 
 use crate::cell::cell_of;
@@ -143,7 +143,7 @@ impl KeptBoxes {
     {
         let mut end = LEVELS;
         'end: while end > 0 {
-            if self.cells.level_len(end - 1) > 0 {
+            if self.has_some(end - 1) {
                 break;
             }
             end -= 1;
@@ -184,8 +184,7 @@ impl KeptBoxes {
         ensures more { OnOk result (HasMore out.old.items out.new.items) }
         ensures found { OnOk result (HasMet self.now level region.now out.new.items) }
     {
-        let some = self.cells.level_len(level);
-        if some == 0 {
+        if !self.has_some(level) {
             return Ok(());
         }
         if self.has_few(level, region) {
@@ -193,6 +192,14 @@ impl KeptBoxes {
         } else {
             self.push_from_cells(level, region, out)
         }
+    }
+
+    // Whether a level has boxes.
+    fn has_some(&self, level: u8) -> bool
+        requires { level < LEVELS }
+        ensures { result ≡ false → IsBare self.now level }
+    {
+        self.cells.level_len(level) > 0
     }
 
     // Whether a region has more cells of a level beside it than the level has boxes.

@@ -1,10 +1,8 @@
-ghost use Rattle.std.specs.Prelude.{◌≡◌, ◌<◌, ◌≤◌, Some, OnOk};
+ghost use Rattle.std.specs.Prelude.{◌≡◌, ◌++◌, ◌<◌, ◌≤◌, Some, OnOk, map as mapped};
 ghost use Rattle.std.specs.FinMap as map;
-ghost use Rattle.broad_index.specs.Members.{has_pair, is_near};
-ghost use Rattle.broad_index.specs.declared.pair.Pair as pair;
 ghost use Rattle.fixed_box.specs.Bounds.{level_of};
 ghost use Rattle.hier_grid.specs.Cells.{cell_of};
-ghost use Rattle.hier_grid.specs.Search.{IsSound, HasPairs, IsAbove, FindsFrom, FindsFor, FindsOwn, FindsOthers};
+ghost use Rattle.hier_grid.specs.Search.{IsSound, HasPairs, IsAbove, FindsFrom, FindsFor, FindsOwn, FindsOthers, FindsRun, pairs_of};
 
 use crate::cell::cell_of;
 use crate::kept_boxes::KeptBoxes;
@@ -33,20 +31,38 @@ impl Findings {
     }
 }
 
-/// Finds the pairs of present slots whose boxes meet, each at least once.
-pub(crate) fn find_pairs(
+/// Finds the pairs that some slots are to find, each at least once, and answers how many boxes were compared.
+pub(crate) fn find_run(
     kept: &KeptBoxes,
-    looked: &mut u64,
+    slots: &[u32],
     found: &mut Findings,
-) -> Result<(), NoMemory>
-    ensures { OnOk result ((p : pair.Pair) → has_pair found.new.pairs.items p ≡ is_near kept.now p) }
+) -> Result<u64, NoMemory>
+    ensures { OnOk result (FindsRun kept.now slots.now found.new.pairs.items) }
 {
     found.pairs.clear();
     let end = kept.levels_end();
-    'slots: for slot in 0..kept.boxes().end() {
-        find_for(kept, slot, end, looked, found)?;
+    let mut looked = 0;
+    let mut rest = slots;
+    'slots: while let [slot, more @ ..] = rest {
+        find_for(kept, *slot, end, &mut looked, found)?;
+        rest = more;
     }
-    Ok(())
+    Ok(looked)
+}
+
+/// Appends the pairs that several searches found, one after another, and answers the sum of what they cost, as far as 64
+/// bits go.
+pub(crate) fn push_lists(lists: &[(Vec<Pair>, u64)], out: &mut Vec<Pair>) -> Result<u64, NoMemory>
+    ensures { OnOk result (out.new.items ≡ out.old.items ++ pairs_of (mapped (λ f. f.0.items) lists.now)) }
+{
+    let mut looked = 0u64;
+    let mut rest = lists;
+    'lists: while let [(pairs, cost), more @ ..] = rest {
+        out.extend_from_slice(pairs)?;
+        looked = looked.saturating_add(*cost);
+        rest = more;
+    }
+    Ok(looked)
 }
 
 // Finds the pairs of a slot with its partners, if it is present.

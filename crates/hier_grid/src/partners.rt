@@ -6,8 +6,8 @@ use crate::slot_boxes::SlotBoxes;
 use broad_index::Pair;
 use fixed_box::{FBox, NoMemory};
 
-/// Appends a slot's partners among others, either any or those with higher slots alone. Each one that may be a partner is
-/// compared, and counted.
+/// Appends a slot's partners among others, either any or those with higher slots alone. Each is compared, and
+/// counted.
 pub(crate) fn push_partners(
     boxes: &SlotBoxes,
     slot: u32,
@@ -19,9 +19,10 @@ pub(crate) fn push_partners(
 ) -> Result<(), NoMemory>
     ensures { OnOk result (out.new.items ≡ out.old.items ++ filter (is_partner boxes.now slot body.now any) slots.now) }
 {
+    *looked = looked.saturating_add(slots.len() as u64);
     let mut rest = slots;
     'slots: while let [other, more @ ..] = rest {
-        if is_partner(boxes, slot, body, any, *other, looked) {
+        if is_partner(boxes, slot, body, any, *other) {
             out.push(*other)?;
         }
         rest = more;
@@ -42,9 +43,10 @@ pub(crate) fn push_pairs(
     ensures { OnOk result (out.new.items
         ≡ out.old.items ++ ordered_pairs slot (filter (is_partner boxes.now slot body.now any) slots.now)) }
 {
+    *looked = looked.saturating_add(slots.len() as u64);
     let mut rest = slots;
     'slots: while let [other, more @ ..] = rest {
-        if is_partner(boxes, slot, body, any, *other, looked) {
+        if is_partner(boxes, slot, body, any, *other) {
             out.push(ordered(slot, *other))?;
         }
         rest = more;
@@ -65,19 +67,10 @@ fn ordered(slot: u32, other: u32) -> Pair
 
 // Whether another slot is a partner. No branch is taken on which slots may be partners, since that is past telling
 // beforehand.
-fn is_partner(
-    boxes: &SlotBoxes,
-    slot: u32,
-    body: &FBox,
-    any: bool,
-    other: u32,
-    looked: &mut u64,
-) -> bool
+fn is_partner(boxes: &SlotBoxes, slot: u32, body: &FBox, any: bool, other: u32) -> bool
     ensures { result ≡ is_partner boxes.now slot body.now any other }
 {
-    let sought = is_sought(slot, any, other);
-    *looked = looked.saturating_add(u64::from(sought));
-    sought & boxes.meets(other, body)
+    is_sought(slot, any, other) & boxes.meets(other, body)
 }
 
 // Whether another slot may be a partner.

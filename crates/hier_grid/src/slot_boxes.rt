@@ -1,4 +1,4 @@
-ghost use Rattle.std.specs.Prelude.{◌≡◌, ℕ, ◌<◌, ◌≤◌, true, false, None, Some, IfOk, length};
+ghost use Rattle.std.specs.Prelude.{◌≡◌, ℕ, ◌<◌, ◌≤◌, true, false, None, Some, IfOk, OnOk, length};
 ghost use Rattle.std.specs.Prelude.{All, map as mapped, slice_index_or};
 ghost use Rattle.std.specs.FinMap as map;
 ghost use Rattle.broad_index.specs.Members.{both_meet, is_found};
@@ -42,13 +42,6 @@ impl SlotBoxes {
         Ok(SlotBoxes {
             boxes: no_boxes(alloc)?,
         })
-    }
-
-    /// A number above all present slots.
-    pub(crate) fn end(&self) -> u32
-        ensures { (slot : ℕ) → map.contains_key self.now slot ≡ true → slot < result }
-    {
-        self.boxes.len() as u32
     }
 
     /// The box of a slot.
@@ -116,8 +109,19 @@ impl SlotBoxes {
         ensures few { IfOk result (λ slots. length slots.items ≤ SLOTS) }
         ensures present { IfOk result (λ slots. All (λ slot. map.contains_key self.now slot ≡ true) slots.items) }
     {
-        let slots = present_slots(alloc, &self.boxes)?;
+        let mut slots = Vec::with_capacity(alloc, SLOTS as usize)?;
+        self.list(&mut slots)?;
         Ok(slots)
+    }
+
+    /// Replaces a list by the present slots, rising.
+    pub(crate) fn list(&self, slots: &mut Vec<u32>) -> Result<(), NoMemory>
+        ensures slots { OnOk result (slots.new.items ≡ present self.now) }
+        ensures few { OnOk result (length slots.new.items ≤ SLOTS) }
+        ensures present { OnOk result (All (λ slot. map.contains_key self.now slot ≡ true) slots.new.items) }
+    {
+        list_present(&self.boxes, slots)?;
+        Ok(())
     }
 }
 
@@ -143,13 +147,13 @@ fn no_boxes(alloc: Global) -> Result<Vec<Option<FBox>>, NoMemory>
     Ok(boxes)
 }
 
-// The slots that have boxes.
-fn present_slots(alloc: Global, boxes: &[Option<FBox>]) -> Result<Vec<u32>, NoMemory>
+// Replaces a list by the slots that have boxes.
+fn list_present(boxes: &[Option<FBox>], slots: &mut Vec<u32>) -> Result<(), NoMemory>
     requires { length boxes.now ≡ SLOTS }
-    ensures slots { IfOk result (λ slots. slots.items ≡ mapped (λ e. e.0) (entries_from 0 boxes.now)) }
-    ensures few { IfOk result (λ slots. length slots.items ≤ SLOTS) }
+    ensures slots { OnOk result (slots.new.items ≡ mapped (λ e. e.0) (entries_from 0 boxes.now)) }
+    ensures few { OnOk result (length slots.new.items ≤ SLOTS) }
 {
-    let mut slots = Vec::with_capacity(alloc, SLOTS as usize)?;
+    slots.clear();
     let mut rest = boxes;
     let mut slot = 0;
     'slots: while let [body, more @ ..] = rest {
@@ -159,5 +163,5 @@ fn present_slots(alloc: Global, boxes: &[Option<FBox>]) -> Result<Vec<u32>, NoMe
         slot += 1;
         rest = more;
     }
-    Ok(slots)
+    Ok(())
 }

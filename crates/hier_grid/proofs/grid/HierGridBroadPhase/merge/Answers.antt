@@ -1,16 +1,18 @@
--- Searches of all slots in their order give each pair once, in order.
-use Rattle.std.proofs.Common.{ap, ◌∙◌, ◌++◌, map}
-use Rattle.std.specs.List.{zip}
-use Rattle.broad_index.specs.Searched.{gathered}
-use Rattle.slot_search.specs.Reach.{reach}
-use Rattle.hier_grid.specs.Search.{present}
-use Rattle.hier_grid.proofs.HitLemmas.{all_present, present_rises}
+-- The pieces are searches of all present slots.
+use Rattle.std.proofs.Common.{◌≡◌, ◌++◌, subst, map, sym, ◌∙◌, ap}
+use Rattle.hier_grid.specs.Search.{FindsRun, pairs_of, present}
+use Rattle.hier_grid.proofs.RunLemmas.{present_found, runs_found}
 use Rattle.hier_grid.proofs.grid.HierGridBroadPhase.merge.Goals as goal
 
 pub returns-clause-ok : goal.returns-clause-ok
 returns-clause-ok c =
     let bodies = c.args.self.now in
-    c.in_ok-push_gathered.ensures.ok
-    ∙ ap (λ l. c.args.out.now.items ++ gathered (zip c.args.slots.now l)) c.requires.lists
-    ∙ ap (λ l. c.args.out.now.items ++ gathered (zip l (map (reach bodies) l))) c.requires.slots
-    ∙ ap (λ l. c.args.out.now.items ++ l) (c.search_laws.ensures.all_sought bodies (present bodies) (present_rises bodies) (all_present bodies))
+    let pieces = c.requires.pieces in
+    let whole : FindsRun bodies (present bodies) (pairs_of (map (λ f. f.0.items) c.args.found.items)) =
+    subst (λ slots. FindsRun bodies slots (pairs_of (map (λ f. f.0.items) c.args.found.items))) pieces.whole
+    (runs_found (λ f. f.0.items) bodies pieces.runs c.args.found.items pieces.each) in
+    let is : c.push_lists.new.out.items ≡ pairs_of (map (λ f. f.0.items) c.args.found.items) =
+    c.in_ok-looked.ensures ∙ ap (λ l. l ++ pairs_of (map (λ f. f.0.items) c.deref.result.now)) c.clear.ensures.items
+    ∙ ap (λ l. pairs_of (map (λ f. f.0.items) l)) c.deref.ensures.value in
+    c.in_ok-push_rising_pairs.ensures.near bodies
+    (present_found bodies c.push_lists.new.out.items (subst (FindsRun bodies (present bodies)) (sym is) whole))

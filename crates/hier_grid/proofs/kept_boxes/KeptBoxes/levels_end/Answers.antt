@@ -1,5 +1,5 @@
--- A level with no slot has no box.
-use Rattle.std.proofs.Common.{◌+◌, ◌-◌, ◌≡◌, sym, subst, arith}
+-- A level with no box is passed by.
+use Rattle.std.proofs.Common.{◌+◌, ◌-◌, ◌≡◌, subst, arith}
 use Rattle.hier_grid.specs.Search.{IsAbove}
 use Rattle.hier_grid.proofs.GridLemmas.{above_less, low_level}
 use Rattle.hier_grid.proofs.kept_boxes.KeptBoxes.levels_end.Goals as goal
@@ -13,8 +13,5 @@ end-preserved c =
     let is : c.end.end ≡ below + 1 = omega (arith, c.end-test.true) in
     record {
       bound = omega (arith, c.end.invariant.bound);
-      above = subst (λ m. IsAbove m below) c.self.view_is
-          (above_less c.self.inside.boxes c.self.inside.cells below c.self.invariant
-          (subst (λ n. IsAbove c.self.inside.boxes n) is (subst (λ m. IsAbove m c.end.end) (sym c.self.view_is) c.end.invariant.above))
-          (omega (arith, c.level_len.ensures, c.if-level_len-gt0.false)));
+      above = above_less c.args.self.now below (subst (IsAbove c.args.self.now) is c.end.invariant.above) (c.has_some.ensures c.if-has_some.false);
     }

@@ -2,7 +2,7 @@
 use Rattle.std.proofs.Common.{◌≡◌, ◌≤◌, ◌++◌, ◌+◌, length, map}
 use Rattle.fixed_box.specs.declared.TheConstants.{SLOTS}
 use Rattle.fixed_box.specs.SlotMap.{entries_from}
-use Rattle.hier_grid.proofs.slot_boxes.present_slots.Given as goal
+use Rattle.hier_grid.proofs.slot_boxes.list_present.Given as goal
 
 abbrev pub invariant-slots : goal.invariant-slots
 invariant-slots l = record {

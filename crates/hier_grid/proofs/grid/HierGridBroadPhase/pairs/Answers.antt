@@ -1,0 +1,14 @@
+-- All present slots are searched.
+use Rattle.std.proofs.Common.{◌≡◌, ◌++◌, subst, sym, ◌∙◌, ap}
+use Rattle.broad_index.specs.Near.{near}
+use Rattle.hier_grid.specs.Search.{FindsRun, present}
+use Rattle.hier_grid.proofs.RunLemmas.{present_found}
+use Rattle.hier_grid.proofs.grid.HierGridBroadPhase.pairs.Goals as goal
+
+pub returns-clause-ok : goal.returns-clause-ok
+returns-clause-ok c =
+    let kept = c.self.inside.kept in
+    let slots : c.deref.result.now ≡ present kept = c.deref.ensures.value ∙ c.in_ok-list.ensures.slots ∙ ap present c.boxes.ensures in
+    c.in_ok-push_rising_pairs.ensures.near kept
+    (present_found kept c.find_run.new.found.pairs.items (subst (λ l. FindsRun kept l c.find_run.new.found.pairs.items) slots c.in_ok-looked.ensures))
+    ∙ ap (λ m. c.args.out.now.items ++ near m) c.self.view_is

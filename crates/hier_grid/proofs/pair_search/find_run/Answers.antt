@@ -1,0 +1,22 @@
+-- The slot at hand is done, and those that were done stay so.
+use Rattle.std.proofs.Common.{◌≡◌, ◌⊎◌, true, inl, inr, subst, sym}
+use Rattle.broad_index.specs.Members.{has_slot}
+use Rattle.hier_grid.specs.Search.{FindsFor}
+use Rattle.hier_grid.proofs.RunLemmas.{finds_more, first_or_rest, rest_of}
+use Rattle.hier_grid.proofs.pair_search.find_run.Goals as goal
+
+pub slots-preserved : goal.slots-preserved
+slots-preserved c =
+    let kept = c.args.kept.now in
+    let new = c.find_for.new.found.pairs.items in
+    record {
+      sound = c.in_ok-find_for.ensures.sound;
+      whole = λ s h. elim (c.slots.invariant.whole s h) as (λ _. (has_slot (rest_of c.slots.rest.now) s ≡ true) ⊎ FindsFor kept s new) [
+        | inl r ↦ elim (first_or_rest c.slots.rest.now c.in-len1-up.len_at_least s r) as
+            (λ _. (has_slot (rest_of c.slots.rest.now) s ≡ true) ⊎ FindsFor kept s new) [
+              | inl e ↦ inr (subst (λ n. FindsFor kept n new) (sym e) c.in_ok-find_for.ensures.found)
+              | inr t ↦ inl t
+            ]
+        | inr f ↦ inr (finds_more kept s c.slots.found.pairs.items new c.in_ok-find_for.ensures.more f)
+      ];
+    }
