@@ -1,5 +1,5 @@
 ghost use Rattle.std.specs.Prelude.{◌≡◌, ℕ, ◌+◌, ◌<◌, ◌≤◌, ◌^◌, ◌++◌, Bool, true, false, List};
-ghost use Rattle.std.specs.Prelude.{[], length, map as mapped, sum, All, Option, None, OnOk, OnErr, IfOk, IfSome};
+ghost use Rattle.std.specs.Prelude.{[], length, All, OnOk, OnErr, IfOk, IfSome};
 ghost use Rattle.std.specs.Ordering.{nat_cmp};
 ghost use Rattle.std.specs.FinMap as map;
 ghost use Rattle.fixed_box.specs.Bounds.{Bounds};
@@ -7,11 +7,12 @@ ghost use Rattle.broad_index.specs.Exchanges.{passed_by_add, passed_by_shift};
 ghost use Rattle.broad_index.specs.Found.{found};
 ghost use Rattle.broad_index.specs.Near.{near, rises};
 ghost use Rattle.broad_index.specs.NearRises.{near_rises};
-ghost use Rattle.slot_search.specs.Reach.{reach};
+ghost use Rattle.broad_index.specs.declared.pair.Pair.{Pair};
+ghost use Rattle.work_pieces.specs.Runs.{InRuns};
 
+use crate::pair_seeker::{PairSeeker, seek_by_pieces};
 use crate::{Pair, Query};
 use fixed_box::{FBox, NoMemory, SLOTS};
-use slot_search::{Seeker, seek_many};
 use std::alloc::Global;
 use std::thread::Threads;
 use work_pieces::Gate;
@@ -35,8 +36,8 @@ use work_pieces::Gate;
 /// Where memory runs out in `add` or `shift`, the index is spent, and nothing is said of its map from then on but that
 /// the other calls leave it. A spent index answers want of memory wherever a call may.
 ///
-/// `pairs_with` searches on several threads where the structure shares a [`Seeker`] with them, and else it is `pairs`. A
-/// structure that shares none has `NoSeeker` for its `Shared`, seeks no slot, and keeps the bodies of `share` and `merge`.
+/// `pairs_with` searches on several threads where the structure shares a [`PairSeeker`] with them, and else it is `pairs`.
+/// A structure that shares none has `NoSeeker` for its `Shared`, seeks no slot, and keeps the bodies of `share` and `merge`.
 pub trait BroadPhase {
     /// Whether exchanges of endpoints are counted.
     const COUNTS: bool;
@@ -58,11 +59,11 @@ pub trait BroadPhase {
     /// The slots that are sought on several threads, in this order.
     ghost sought: { Self → List ℕ } = { λ _. [] };
 
-    /// What the search of each slot costs, where that is told.
-    ghost costs: { Self → Option (ℕ → ℕ) } = { λ _. None };
+    /// What a search of some slots may give: pairs, in any order and some perhaps twice, and what the search cost.
+    ghost seeks: { Self → List ℕ → List Pair → ℕ → Type 0 } = { λ _ _ _ _. Unit {0} };
 
     /// What several threads search while nobody changes the index.
-    type Shared: Seeker + Sync;
+    type Shared: PairSeeker + Sync;
 
     /// Puts a box under a slot that is absent. After an `Err` the index is spent.
     fn add(&mut self, slot: u32, body: FBox) -> Result<(), NoMemory>
@@ -107,8 +108,8 @@ pub trait BroadPhase {
         ensures kept { OnErr result (self.new ≡ self.old) };
 
     /// The same, where several threads search at once. The slots that are sought are cut into pieces of
-    /// `ceil(n / workers)`, and each piece enters the gate once, as [`seek_many`] says. With one worker it is `pairs`, and
-    /// no gate is entered.
+    /// `ceil(n / workers)`, numbered from 0. Each piece is searched by one thread, which enters the gate once before it.
+    /// With one worker it is `pairs`, and no gate is entered.
     final fn pairs_with<R: Threads + Sync, G: Gate + Sync>(
         &mut self,
         rt: &R,
@@ -135,8 +136,8 @@ pub trait BroadPhase {
         let Some((index, slots)) = self.share(alloc)? else {
             return self.pairs(out);
         };
-        let (lists, cost) = seek_many(rt, alloc, index, &slots, workers, gate)?;
-        self.merge(&slots, &lists, cost, out)
+        let found = seek_by_pieces(rt, alloc, index, &slots, workers, gate)?;
+        self.merge(found, out)
     }
 
     /// Appends the present slots whose boxes meet a query, in rising order. After an `Err` `out` is as before.
@@ -160,7 +161,8 @@ pub trait BroadPhase {
     fn share(&self, alloc: Global) -> Result<Option<(&Self::Shared, Vec<u32>)>, NoMemory>
         ensures sound { IfOk result (λ shared. IfSome shared (λ s. spent self.now ≡ false)) }
         ensures bodies { IfOk result (λ shared. IfSome shared (λ s. Self.Shared.bodies s.0.now ≡ bodies self.now)) }
-        ensures costs { IfOk result (λ shared. IfSome shared (λ s. Self.Shared.costs s.0.now ≡ costs self.now)) }
+        ensures seeks { IfOk result (λ shared. IfSome shared (λ s. (slots : List ℕ) (pairs : List Pair) (cost : ℕ)
+            → Self.Shared.seeks s.0.now slots pairs cost → seeks self.now slots pairs cost)) }
         ensures slots { IfOk result (λ shared. IfSome shared (λ s. s.1.items ≡ sought self.now)) }
         ensures present { IfOk result (λ shared. IfSome shared (λ s. All (λ slot. map.contains_key (bodies self.now) slot ≡ true) s.1.items)) }
         ensures few { IfOk result (λ shared. IfSome shared (λ s. length s.1.items < 2 ^ 32)) }
@@ -168,18 +170,10 @@ pub trait BroadPhase {
         Ok(None)
     }
 
-    /// Does what `pairs` does, where it is known what each slot reaches that was sought, and what the searches cost.
-    fn merge(
-        &mut self,
-        slots: &[u32],
-        lists: &[Vec<u32>],
-        cost: u64,
-        out: &mut Vec<Pair>,
-    ) -> Result<(), NoMemory>
+    /// Does what `pairs` does, where it is known what the pieces of the sought slots found, and what that cost.
+    fn merge(&mut self, found: Vec<(Vec<Pair>, u64)>, out: &mut Vec<Pair>) -> Result<(), NoMemory>
         requires sound { spent self.old ≡ false }
-        requires slots { slots.now ≡ sought self.old }
-        requires lists { mapped (λ list. list.items) lists.now ≡ mapped (reach (bodies self.old)) slots.now }
-        requires cost { IfSome (costs self.old) (λ each. cost ≡ sum (mapped each slots.now)) }
+        requires pieces { InRuns (λ run piece. seeks self.old run piece.0.items piece.1) (sought self.old) found.items }
         ensures was_sound { OnOk result (spent self.old ≡ false) }
         ensures ok { OnOk result (out.new.items ≡ out.old.items ++ near (bodies self.old)) }
         ensures err { OnErr result (out.new.items ≡ out.old.items) }
@@ -189,9 +183,7 @@ pub trait BroadPhase {
         ensures paired { OnOk result (paired self.old self.new) }
         ensures kept { OnErr result (self.new ≡ self.old) }
     {
-        let _ = slots;
-        let _ = lists;
-        let _ = cost;
+        let _ = found;
         self.pairs(out)
     }
 

@@ -81,12 +81,7 @@ pub fn push_ordered_pairs(slot: u32, slots: &[u32], out: &mut Vec<Pair>) -> Resu
 {
     let mut rest = slots;
     'slots: while let [other, more @ ..] = rest {
-        let pair = if slot < *other {
-            Pair { a: slot, b: *other }
-        } else {
-            Pair { a: *other, b: slot }
-        };
-        out.push(pair)?;
+        out.push(Pair::ordered(slot, *other))?;
         rest = more;
     }
     Ok(())

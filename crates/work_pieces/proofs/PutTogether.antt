@@ -1,11 +1,15 @@
 -- Lists cut into pieces, and their answers put together again.
-use Rattle.std.proofs.Common.{◌≡◌, ℕ, zero, suc, take, ◌+◌, ◌*◌, ◌/◌, ◌%◌, min, ◌<◌, ◌≤◌, List, [], ◌∷◌, ◌++◌, length, get_or, All, Result, Ok, IfOk}
+use Rattle.std.proofs.Common.{◌≡◌, ℕ, zero, suc, take, drop, ◌+◌, ◌*◌, ◌/◌, ◌%◌, min, ◌<◌, ◌≤◌, List, [], ◌∷◌, ◌++◌, length, get_or, All, map, Result, Ok, IfOk}
 use Rattle.std.proofs.Common.{refl, sym, ap, ◌∙◌, subst, arith, length-append, append-nil, append_assoc, mul_comm, mul-add, mul-one}
 use Rattle.std.proofs.Math.Seq.{take-add}
 use Rattle.std.proofs.Math.Nat.{div-add-mod}
-use Rattle.std.proofs.lemmas.List.{take_all, get_or_at, length_push}
-use Rattle.std.specs.Fork.{slice_chunk}
-use Rattle.work_pieces.specs.Each.{Each}
+use Rattle.std.proofs.lemmas.List.{map-append, take-append-drop, take_all, get_or_at, length_push}
+use Rattle.std.specs.Fork.{slice_chunk, IsChunk}
+use denote.Ref.{Bor}
+use denote.Param.Members.{Shared}
+use Rattle.work_pieces.specs.Each.{Each, Accepts, AcceptsAll}
+use Rattle.work_pieces.specs.Runs.{AcceptsRuns, InRuns, put_together}
+use Rattle.work_pieces.specs.RunLaws.{All-run}
 
 pub Each-append : {X Y : Type 0} (P : X → Y → Type 0) (xs us : List X) (ys vs : List Y) → Each P xs ys → Each P us vs → Each P (xs ++ us) (ys ++ vs)
 Each-append P [] us [] vs h more = more
@@ -33,13 +37,22 @@ pub all_done : {X Y : Type 0} (P : X → Y → Type 0) (all rest : List X) (ys :
 all_done P all [] ys none so = subst (λ l. Each P all l) (append-nil ys) (so [] tt)
 all_done P all (x ∷ rest) ys none so = absurd (omega (arith, none))
 
-pub one_more : {X Y : Type 0} (P : X → Y → Type 0) (size k m : ℕ) (xs : List X) (ys some : List Y)
-    → m ≡ k + 1 → Each P (take (size * k) xs) ys → Each P (slice_chunk xs size k) some → Each P (take (size * m) xs) (ys ++ some)
-one_more P size k m xs ys some e h p =
+put-push : {X : Type 0} (runs : List (List X)) (run : List X) → put_together (runs ++ run ∷ []) ≡ put_together runs ++ run
+put-push [] run = append-nil run
+put-push (first ∷ runs) run = ap (λ l. first ++ l) (put-push runs run) ∙ sym (append_assoc first (put_together runs) run)
+
+-- one more piece is answered
+one_more : {X Y : Type 0} (P : List X → Y → Type 0) (size k m : ℕ) (xs : List X) (ys : List Y) (y : Y)
+    → m ≡ k + 1 → InRuns P (take (size * k) xs) ys → P (slice_chunk xs size k) y → InRuns P (take (size * m) xs) (ys ++ y ∷ [])
+one_more P size k m xs ys y e h p =
     let e' : size * m ≡ k * size + size = rw (e, mul-add, mul-one, mul_comm size k) refl in
-    let h' : Each P (take (k * size) xs) ys = subst (λ n. Each P (take n xs) ys) (mul_comm size k) h in
     let cut : take (size * m) xs ≡ take (k * size) xs ++ slice_chunk xs size k = rw e' (take-add (k * size) size xs) in
-    subst (λ l. Each P l (ys ++ some)) (sym cut) (Each-append P (take (k * size) xs) (slice_chunk xs size k) ys some h' p)
+    let before : take (size * k) xs ≡ take (k * size) xs = ap (λ n. take n xs) (mul_comm size k) in
+    record {
+      runs = h.runs ++ slice_chunk xs size k ∷ [];
+      whole = put-push h.runs (slice_chunk xs size k) ∙ ap (λ l. l ++ slice_chunk xs size k) (h.whole ∙ before) ∙ sym cut;
+      each = Each-append P h.runs (slice_chunk xs size k ∷ []) ys (y ∷ []) h.each (p, tt);
+    }
 
 covers_case : (q size r n : ℕ) → size * q + r ≡ n → r < size → n ≤ size * (q + min 1 r)
 covers_case q size zero n h l = let w : size * (q + min 1 zero) ≡ size * q + size * min 1 zero = mul-add size q (min 1 zero) in omega arith
@@ -54,28 +67,66 @@ covers n size pos =
     let l : n % size < size = omega arith in
     covers_case (n / size) size (n % size) n (div-add-mod n size) l
 
--- a piece is taken, and its answers are put behind
-pub step : {X Y V E : Type 0} (items : V → List Y) (P : X → Y → Type 0) (size : ℕ) (xs : List X)
-    (ps before left rest : List (Result V E)) (r : Result V E) (p : V) (ys new : List Y)
+-- a piece is taken, and its answer is put behind
+pub step : {X Y E : Type 0} (P : List X → Y → Type 0) (size : ℕ) (xs : List X)
+    (ps before left rest : List (Result Y E)) (r : Result Y E) (p : Y) (ys new : List Y)
     → before ++ left ≡ ps → left ≡ r ∷ rest → r ≡ Ok p
-    → ((n : ℕ) (d : Result V E) → n < length ps → IfOk (get_or ps n d) (λ v. Each P (slice_chunk xs size n) (items v)))
-    → Each P (take (size * length before) xs) ys
-    → new ≡ ys ++ items p
-    → Each P (take (size * length (before ++ r ∷ [])) xs) new × ((before ++ r ∷ []) ++ rest ≡ ps)
-step {X} {Y} {V} {E} items P size xs ps before left rest r p ys new split next ok each so grows =
+    → ((n : ℕ) (d : Result Y E) → n < length ps → IfOk (get_or ps n d) (λ y. P (slice_chunk xs size n) y))
+    → InRuns P (take (size * length before) xs) ys
+    → new ≡ ys ++ p ∷ []
+    → InRuns P (take (size * length (before ++ r ∷ [])) xs) new × ((before ++ r ∷ []) ++ rest ≡ ps)
+step {X} {Y} {E} P size xs ps before left rest r p ys new split next ok each so grows =
     let whole : before ++ r ∷ rest ≡ ps = rw (← next) split in
     let short : length before < length ps = omega (arith, ap length whole, length-append before (r ∷ rest)) in
     let at : get_or ps (length before) r ≡ r = rw (← whole) (get_or_at before r rest r (length before) refl) in
-    let here : IfOk {T = V} {E = E} (Ok p) (λ v. Each P (slice_chunk xs size (length before)) (items v)) =
-    subst (λ q. IfOk q (λ v. Each P (slice_chunk xs size (length before)) (items v))) (at ∙ ok) (each (length before) r short) in
-    let longer = one_more P size (length before) (length (before ++ r ∷ [])) xs ys (items p) (length_push before r) so here in
-    (subst (λ l. Each P (take (size * length (before ++ r ∷ [])) xs) l) (sym grows) longer, rw append_assoc whole)
+    let here : IfOk {T = Y} {E = E} (Ok p) (λ y. P (slice_chunk xs size (length before)) y) =
+    subst (λ q. IfOk q (λ y. P (slice_chunk xs size (length before)) y)) (at ∙ ok) (each (length before) r short) in
+    let longer = one_more P size (length before) (length (before ++ r ∷ [])) xs ys p (length_push before r) so here in
+    (subst (λ l. InRuns P (take (size * length (before ++ r ∷ [])) xs) l) (sym grows) longer, rw append_assoc whole)
 
 -- all pieces were taken
-pub done : {X Y V E : Type 0} (P : X → Y → Type 0) (size : ℕ) (xs : List X) (ps before left : List (Result V E)) (ys : List Y)
+pub done : {X Y E : Type 0} (P : List X → Y → Type 0) (size : ℕ) (xs : List X) (ps before left : List (Result Y E)) (ys : List Y)
     → 0 < size → before ++ left ≡ ps → length left ≡ 0 → length ps ≡ length xs / size + min 1 (length xs % size)
-    → Each P (take (size * length before) xs) ys → Each P xs ys
+    → InRuns P (take (size * length before) xs) ys → InRuns P xs ys
 done P size xs ps before left ys pos split none count so =
     let same : length before ≡ length xs / size + min 1 (length xs % size) = omega (arith, ap length split, length-append before left) in
     let all : length xs ≤ size * length before = subst (λ n. length xs ≤ size * n) (sym same) (covers (length xs) size pos) in
-    subst (λ l. Each P l ys) (take_all (size * length before) xs all) so
+    subst (λ l. InRuns P l ys) (take_all (size * length before) xs all) so
+
+-- one more list is put behind
+pub one_list : {V X : Type 0} (items : V → List X) (lists before left rest : List V) (v : V) (ys new : List X)
+    → before ++ left ≡ lists → left ≡ v ∷ rest → ys ≡ put_together (map items before) → new ≡ ys ++ items v
+    → (new ≡ put_together (map items (before ++ v ∷ []))) × ((before ++ v ∷ []) ++ rest ≡ lists)
+one_list items lists before left rest v ys new split next so grows = (
+  grows ∙ ap (λ l. l ++ items v) so ∙ sym (put-push (map items before) (items v)) ∙ ap put_together (sym (map-append items before (v ∷ []))),
+  append_assoc before (v ∷ []) rest ∙ ap (λ l. before ++ l) (sym next) ∙ split,
+)
+
+-- all lists were put together
+pub all_lists : {V X : Type 0} (items : V → List X) (lists before left : List V) (ys : List X)
+    → before ++ left ≡ lists → length left ≡ 0 → ys ≡ put_together (map items before) → ys ≡ put_together (map items lists)
+all_lists items lists before [] ys split none so = so ∙ ap (λ l. put_together (map items l)) (sym (append-nil before) ∙ split)
+all_lists items lists before (v ∷ left) ys split none so = absurd (omega (arith, none))
+
+-- runs whose items are answered one by one make a list of which each is
+pub each_of_runs : {V X Y : Type 0} (P : X → Y → Type 0) (Q : List X → V → Type 0) (items : V → List Y) (xs : List X) (vs : List V) (ys : List Y)
+    → ((run : List X) (v : V) → Q run v → Each P run (items v)) → InRuns Q xs vs → ys ≡ put_together (map items vs) → Each P xs ys
+each_of_runs P Q items xs vs ys tells h is = rw (is, ← h.whole) (go h.runs vs h.each)
+  where
+    go : (runs : List _) (vs : List _) → Each Q runs vs → Each P (put_together runs) (put_together (map items vs))
+    go [] [] e = tt
+    go [] (v ∷ vs) e = absurd e
+    go (run ∷ runs) [] e = absurd e
+    go (run ∷ runs) (v ∷ vs) e = Each-append P run (put_together runs) (items v) (put_together (map items vs)) (tells run v e.0) (go runs vs e.1)
+
+-- a chunk is a run
+pub accepts_chunk : {F X Y E : Type 0} (g : Shared F (Bor (List X) × Unit {0}) (Result Y E)) (f : F) (xs run : List X) (size start : ℕ)
+    → AcceptsRuns g f xs → IsChunk xs size start run → Accepts g f run
+accepts_chunk g f xs run size start accepts is =
+    accepts (take start xs) run (drop size (drop start xs)) (sym (ap (λ l. take start xs ++ (l ++ drop size (drop start xs))) is.value
+    ∙ ap (λ l. take start xs ++ l) (take-append-drop size (drop start xs)) ∙ take-append-drop start xs))
+
+-- what may be asked of each item may be asked of each item of a run
+pub accepts_run : {F X Y E : Type 0} (g : Shared F (Bor X × Unit {0}) (Result Y E)) (f : F) (xs before run after : List X)
+    → AcceptsAll g f xs → xs ≡ before ++ (run ++ after) → AcceptsAll g f run
+accepts_run g f xs before run after accepts is = All-run (Accepts g f) xs before run after is accepts

@@ -1,2 +1,4 @@
 pub mod Each
 pub mod EachLaws
+pub mod Runs
+pub mod RunLaws

@@ -5,7 +5,7 @@ mod gate;
 mod pieces;
 
 pub use gate::{Gate, NoGate};
-pub use pieces::by_pieces;
+pub use pieces::{by_pieces, by_runs};
 
 #[cfg(test)]
 mod tests;

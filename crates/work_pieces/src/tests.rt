@@ -74,3 +74,16 @@ fn one_worker_does_one_piece(rt: HostRuntime) -> Result<(), Fail> {
     assert_eq!(rt; gate.counts(), [1, 0, 0]);
     Ok(())
 }
+
+fn count(run: &[u32]) -> Result<usize, NoMemory> {
+    Ok(run.len())
+}
+
+#[test]
+fn pieces_are_answered_as_wholes(rt: HostRuntime) -> Result<(), Fail> {
+    let gate = Entries::new();
+    let counts = by_runs(&rt, rt.alloc(), &[7, 5, 9], 2, &gate, &|run| count(run))?;
+    assert_eq!(rt; counts.as_slice(), [2, 1].as_slice());
+    assert_eq!(rt; gate.counts(), [1, 1, 0]);
+    Ok(())
+}

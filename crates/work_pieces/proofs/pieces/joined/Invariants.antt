@@ -1,10 +1,8 @@
-use Rattle.std.proofs.Common.{◌≡◌, ◌*◌, ◌++◌, length, take}
+use Rattle.std.proofs.Common.{◌≡◌, ◌++◌, map}
 use Rattle.std.specs.Vec.Iter.{into_iter_items}
-use Rattle.work_pieces.specs.Each.{Each, Gives}
+use Rattle.work_pieces.specs.Runs.{put_together}
 use Rattle.work_pieces.proofs.pieces.joined.Given as goal
 
--- the answers so far are those of the pieces that were taken
-abbrev pub invariant-pieces : goal.invariant-pieces
-invariant-pieces g l =
-    Each (Gives g.F.Fn l.answer) (take (l.size * length l.yielded) l.items) l.answers.items
-    × (l.yielded ++ into_iter_items l.piece-iterator ≡ l.fn.pieces.items)
+-- the answers so far are those of the lists that were taken
+abbrev pub invariant-lists : goal.invariant-lists
+invariant-lists g l = (l.answers.items ≡ put_together (map (λ list. list.items) l.yielded)) × (l.yielded ++ into_iter_items l.list-iterator ≡ l.fn.lists.items)
