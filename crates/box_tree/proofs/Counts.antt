@@ -32,7 +32,8 @@ raised_on f a c x xs e =
     ∙ ap (raised a) (ap (λ y. y + sum (map f xs)) e ∙ sym (sum_by-cons (λ (y : ℕ). y) (f x) (map f xs)))
 
 -- a number that is raised at a node, and below both children
-pub raised_thrice : (a x l r here more all total : ℕ) → here ≡ raised a x → more ≡ raised here l → all ≡ raised more r → total ≡ x + (l + r) → all ≡ raised a total
+pub raised_thrice : (a x l r here more all total : ℕ) → here ≡ raised a x → more ≡ raised here l → all ≡ raised more r
+    → total ≡ x + (l + r) → all ≡ raised a total
 raised_thrice a x l r here more all total eh em ea et =
     ea
     ∙ ap (λ n. raised n r) (em ∙ ap (λ n. raised n l) eh ∙ raised_again a x l)

@@ -5,6 +5,7 @@ use Rattle.std.specs.Prelude.{count_ones}
 use Rattle.std.specs.List.{filter}
 use Rattle.std.specs.Simd.Lanes.{mask_l}
 use Rattle.std.proofs.lemmas.Simd.{ones-mask_l}
+use Rattle.std.proofs.lemmas.List.{map-append}
 use Rattle.std.proofs.lemmas.List.Elements.{filter-append}
 use Rattle.std.proofs.lemmas.List.Sums.{sum_by-cons}
 use Rattle.std.specs.List.{count_by}
@@ -18,8 +19,9 @@ use Rattle.lane_boxes.specs.Places.{next_eight}
 use Rattle.tree_nodes.specs.declared.node_view.NodeView.{NodeView}
 use Rattle.tree_nodes.specs.declared.node_view.NodeView.TheVariants.{Leaf as LeafNode, Inner}
 use Rattle.tree_nodes.specs.Parts.{height_shown}
-use Rattle.tree_nodes.specs.Tree.{Tree, tip, fork, top, leaves, height, bounds, view_of, view_in, visits, count_of, Balanced, IsRefitted, IsTreeIn, Within}
-use Rattle.box_tree.specs.Boxes.{raised}
+use Rattle.tree_nodes.specs.Tree.{Tree, Leaf, tip, fork, top, leaves, height, bounds, view_of, view_in, visits, count_of}
+use Rattle.tree_nodes.specs.Tree.{Balanced, IsRefitted, IsTreeIn, Within}
+use Rattle.box_tree.specs.Boxes.{marked_slots, raised}
 use Rattle.box_tree.specs.Descent.{entry_of, exact, exact_in, IsInside, IsInsideIn, IsLeafInside}
 use Rattle.box_tree.specs.Group.{touched_of, others_met, crossed, below, all_below, all_visits_in, picked, Adds, IsShown, IsBelow, BoxLaws, OpenedAs}
 use Rattle.box_tree.proofs.Descents.{exact_append}
@@ -270,12 +272,19 @@ picked_crossed es slot mask b em =
     append_none (x ∷ xs) = ap (λ ys. x ∷ ys) (append_none xs)
 
 -- the touched ones below both children
-pub both_touched : (bodies : List (Option Bounds)) (marks : List Bool) (n k : ℕ) (h : Bounds) (l r t : Tree) → t ≡ fork n h k l r
-    → touched_of marks (exact bodies (leaves t)) ≡ touched_of marks (exact bodies (leaves l)) ++ touched_of marks (exact bodies (leaves r))
-both_touched bodies marks n k h l r t is =
-    ap (λ u. touched_of marks (exact bodies (leaves u))) is
-    ∙ ap (touched_of marks) (exact_append bodies (leaves l) (leaves r))
-    ∙ filter-append (λ (e : ℕ × Bounds). get_or marks e.0 false) (exact bodies (leaves l)) (exact bodies (leaves r))
+pub both_marked : (marks : List Bool) (n k : ℕ) (h : Bounds) (l r t : Tree) → t ≡ fork n h k l r
+    → marked_slots marks (leaves t) ≡ marked_slots marks (leaves l) ++ marked_slots marks (leaves r)
+both_marked marks n k h l r t is =
+    ap (λ u. marked_slots marks (leaves u)) is
+    ∙ ap (λ l. filter (λ s. get_or marks s false) l) (map-append (λ (x : Leaf). x.slot) (leaves l) (leaves r))
+    ∙ filter-append (λ s. get_or marks s false) (map (λ (x : Leaf). x.slot) (leaves l)) (map (λ (x : Leaf). x.slot) (leaves r))
+
+-- and the one at a leaf
+pub leaf_marked : (o : Option Tree) (bodies : List (Option Bounds)) (marks : List Bool) (at slot : ℕ) (f : Bounds) (t : Tree) → IsBelow o bodies at t
+    → view_in o at ≡ Some (LeafNode slot f) → marked_slots marks (leaves t) ≡ cond (get_or marks slot false) (slot ∷ []) []
+leaf_marked o bodies marks at slot f t b e =
+    let own : (n : ℕ) × (t ≡ tip n slot f) × IsLeafInside bodies slot f = opened o bodies at (LeafNode slot f) t b e in
+    ap (λ u. marked_slots marks (leaves u)) own.1
 
 -- each node shows, from the top on
 shown_all : (w : BoxLaws) (root : Tree) → ((k : ℕ) → count_of root k ≤ 1) → (t : Tree) → Within root t → IsShown (Some root) t

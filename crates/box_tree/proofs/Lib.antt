@@ -8,5 +8,6 @@ pub mod Changes
 pub mod Fats
 pub mod Groups
 pub mod Searching
+pub mod SharedSlots
 pub mod TouchedPairs
 pub mod TouchedSums

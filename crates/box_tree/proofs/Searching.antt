@@ -88,7 +88,7 @@ module _ (o : Option Tree) (bodies fats : List (Option Bounds)) (numbers : List 
   there_exact (y ∷ ys) x b (suc i) lt e h =
       Contains-append_right (entry_of y.slot (get_or bodies y.slot None)) (exact bodies ys) (x.slot, b) (there_exact ys x b i (omega arith) e h)
 
-  exact_in_is : (u : Option Tree) → exact_in bodies u ≡ exact bodies (leaves_in u)
+  pub exact_in_is : (u : Option Tree) → exact_in bodies u ≡ exact bodies (leaves_in u)
   exact_in_is None = refl
   exact_in_is (Some t) = refl
 
@@ -230,7 +230,7 @@ marked_present marks m =
         (sym (has_marked (λ j. get_or marks j false) (entries m) x) ∙ h) in
         sym (has_keys m x) ∙ both.1
 
-same_costs : (o : Option Tree) (bodies : List (Option Bounds)) (slots : List ℕ)
+pub same_costs : (o : Option Tree) (bodies : List (Option Bounds)) (slots : List ℕ)
     → map (λ k. visits_for o (get_or bodies k None)) slots ≡ map (λ k. visits_for o (get (map_of bodies) k)) slots
 same_costs o bodies [] = refl
 same_costs o bodies (x ∷ xs) =
@@ -271,16 +271,8 @@ abbrev pub RenewingLaw : Type 0
 RenewingLaw = (m : FinMap nat_cmp Bounds) (marks : List Bool) (kept : List Pair) (rs : List (ℕ × List ℕ)) → AreReached m rs
     → AreMarked m marks (map (λ (r : ℕ × List ℕ). r.0) rs) → AreKept m marks kept → Renewed m marks kept (gathered_with rs)
 
-abbrev pub SoughtLaw : Type 0
-SoughtLaw = (m : FinMap nat_cmp Bounds) (marks : List Bool) (kept : List Pair) (slots : List ℕ) → AreMarked m marks slots → AreKept m marks kept
-    → Renewed m marks kept (gathered_with (zip slots (map (reach m) slots)))
-
 module _ (o : Option Tree) (bodies fats : List (Option Bounds)) (numbers : List ℕ) (marks : List Bool) (kept : List Pair)
     (s : Sound o bodies fats numbers marks kept) (v : Boxes) (looked : ℕ) (view : seen o bodies fats marks looked ≡ v) where
-  pub sought_viewed : (bs : List (Option Bounds)) (ms : List Bool) (slots : List ℕ) → bs ≡ bodies → ms ≡ marks → slots ≡ sought_from ms 0 bs → slots ≡ sought v
-  sought_viewed bs ms slots eb em e =
-      e ∙ ap (λ xs. sought_from ms 0 xs) eb ∙ ap (λ xs. sought_from xs 0 bodies) em ∙ marked_is marks bodies ∙ ap sought view
-
   pub inside_of : (bs : List (Option Bounds)) → bs ≡ bodies → IsInsideIn bs o
   inside_of bs e = subst (λ xs. IsInsideIn xs o) (sym e) (all_inside o bodies fats numbers marks kept s)
 
@@ -303,18 +295,6 @@ module _ (o : Option Tree) (bodies fats : List (Option Bounds)) (numbers : List 
   pub cost_viewed : (slot n : ℕ) (bs : List (Option Bounds)) → bs ≡ bodies → n ≡ visits_for o (get_or bs slot None) → n ≡ cost v slot
   cost_viewed slot n bs eb e =
       e ∙ ap (λ xs. visits_for o (get_or xs slot None)) eb ∙ ap (visits_for o) (sym (get_map bodies slot)) ∙ ap (λ (b : Boxes). cost b slot) view
-
-  -- lists of what the touched slots reach renew the pairs
-  pub lists_renewed : SoughtLaw → (slots : List ℕ) (lists : List (List ℕ)) (before found : List Pair) → slots ≡ sought v
-      → lists ≡ map (reach v.bodies) slots → before ≡ [] → found ≡ before ++ gathered_with (zip slots lists) → Renewed (map_of bodies) marks kept found
-  lists_renewed law slots lists before found es el en e =
-      let own : slots ≡ marked_of marks (map_of bodies) = es ∙ sym (ap sought view) in
-      let all : List ℕ = marked_of marks (map_of bodies) in
-      let bodies_is : v.bodies ≡ map_of bodies = sym (ap (λ (b : Boxes). b.bodies) view) in
-      let is : found ≡ gathered_with (zip all (map (reach (map_of bodies)) all)) =
-      e ∙ ap (λ xs. xs ++ gathered_with (zip slots lists)) en ∙ ap (λ ls. gathered_with (zip slots ls)) el
-      ∙ ap (λ m. gathered_with (zip slots (map (reach m) slots))) bodies_is ∙ ap (λ xs. gathered_with (zip xs (map (reach (map_of bodies)) xs))) own in
-      subst (λ ps. Renewed (map_of bodies) marks kept ps) (sym is) (law (map_of bodies) marks kept all (are_marked marks (map_of bodies)) s.kept_are)
 
   -- after either call
   pub sound_renewed : rises (near (map_of bodies)) ≡ true → ((p : Pair) → has_pair (near (map_of bodies)) p ≡ is_near (map_of bodies) p)

@@ -1,7 +1,10 @@
 -- What is found for the touched slots renews the kept pairs.
-use Rattle.std.proofs.Common.{◌≡◌, ℕ, zero, suc, ◌<◌, Bool, true, false, cond, ◌&&◌, ◌||◌, ◌==◌, Option, None, Some, List, [], ◌∷◌, ◌++◌}
+use Rattle.std.proofs.Common.{◌≡◌, ℕ, zero, suc, ◌+◌, ◌<◌, Bool, true, false, cond, ◌&&◌, ◌||◌, ◌==◌, Option, None, Some, List, [], ◌∷◌, ◌++◌}
 use Rattle.std.proofs.Common.{length, map, get_or, refl, sym, ap, ◌∙◌, subst, arith}
 use Rattle.std.specs.FinMap.{get}
+use Rattle.std.specs.List.{sum}
+use Rattle.std.proofs.lemmas.List.Sums.{sum_by-cons}
+use Rattle.box_tree.specs.Boxes.{visits_for}
 use Rattle.std.proofs.lemmas.Bool.{eq-eqb}
 use Rattle.fixed_box.specs.Bounds.{Bounds}
 use Rattle.fixed_box.specs.SlotMap.{map_of}
@@ -10,14 +13,14 @@ use Rattle.broad_index.specs.Members.{has_pair, has_slot}
 use Rattle.broad_index.specs.Touched.{ordered_pairs, gathered_with, AreKept, AreMarked, Renewed}
 use Rattle.tree_nodes.specs.Tree.{Tree, Leaf, leaves}
 use Rattle.box_tree.specs.Descent.{entry_of, exact, exact_in}
-use Rattle.box_tree.specs.Group.{touched_of, others_met, crossed, Adds}
-use Rattle.box_tree.specs.Searches.{sought_from, reached_by, reached_in, searches}
+use Rattle.box_tree.specs.Group.{touched_of, crossed, all_visits_in}
+use Rattle.box_tree.specs.Searches.{boxed, reached_by, reached_in, searches}
 use Rattle.box_tree.specs.Ties.{Sound}
 use Rattle.box_tree.proofs.LeafTies.{some_there}
-use Rattle.box_tree.proofs.Searching.{ReachLaw, RenewingLaw, has_marked, all_reached, searched_slots, marked_is, are_marked, exact_held}
+use Rattle.box_tree.proofs.Searching.{ReachLaw, RenewingLaw, has_marked, all_reached, searched_slots, exact_held}
 
 -- each entry is the box of its slot
-abbrev AreOf : List (Option Bounds) → List (ℕ × Bounds) → Type 0
+abbrev pub AreOf : List (Option Bounds) → List (ℕ × Bounds) → Type 0
 AreOf bodies [] = Unit {0}
 AreOf bodies (e ∷ es) = (get_or bodies e.0 None ≡ Some e.1) × AreOf bodies es
 
@@ -30,11 +33,11 @@ module _ (bodies : List (Option Bounds)) where
   exact_own [] = tt
   exact_own (x ∷ xs) = entry_own x.slot (get_or bodies x.slot None) (exact bodies xs) refl (exact_own xs)
 
-  exact_in_own : (o : Option Tree) → AreOf bodies (exact_in bodies o)
+  pub exact_in_own : (o : Option Tree) → AreOf bodies (exact_in bodies o)
   exact_in_own None = tt
   exact_in_own (Some t) = exact_own (leaves t)
 
-  touched_own : (marks : List Bool) (es : List (ℕ × Bounds)) → AreOf bodies es → AreOf bodies (touched_of marks es)
+  pub touched_own : (marks : List Bool) (es : List (ℕ × Bounds)) → AreOf bodies es → AreOf bodies (touched_of marks es)
   touched_own marks [] own = tt
   touched_own marks (e ∷ es) own =
       elim (get_or marks e.0 false) as (λ m. AreOf bodies (cond m (e ∷ touched_of marks es) (touched_of marks es))) [
@@ -42,14 +45,30 @@ module _ (bodies : List (Option Bounds)) where
         | false ↦ touched_own marks es own.1
       ]
 
-  -- pairs with entries are those of searches for their slots
-  crossed_searches : (o : Option Tree) (es : List (ℕ × Bounds)) → AreOf bodies es
-      → crossed (exact_in bodies o) es ≡ gathered_with (searches bodies o (map (λ (e : ℕ × Bounds). e.0) es))
-  crossed_searches o [] own = refl
-  crossed_searches o (e ∷ es) own =
-      let here : others_met (exact_in bodies o) e ≡ reached_in bodies o e.0 = sym (ap (reached_by bodies o e.0) own.0) in
-      ap (λ ks. ordered_pairs e.0 ks ++ crossed (exact_in bodies o) es) here
-      ∙ ap (λ ps. ordered_pairs e.0 (reached_in bodies o e.0) ++ ps) (crossed_searches o es own.1)
+  crossed_entry : (o : Option Tree) (k : ℕ) (p : Option Bounds) (rest : List (ℕ × Bounds))
+      → crossed (exact_in bodies o) (entry_of k p ++ rest) ≡ ordered_pairs k (reached_by bodies o k p) ++ crossed (exact_in bodies o) rest
+  crossed_entry o k None rest = refl
+  crossed_entry o k (Some b) rest = refl
+
+  -- pairs with the boxes of slots are those of searches for the slots
+  pub crossed_boxed : (o : Option Tree) (slots : List ℕ) → crossed (exact_in bodies o) (boxed bodies slots) ≡ gathered_with (searches bodies o slots)
+  crossed_boxed o [] = refl
+  crossed_boxed o (x ∷ xs) =
+      crossed_entry o x (get_or bodies x None) (boxed bodies xs)
+      ∙ ap (λ ps. ordered_pairs x (reached_in bodies o x) ++ ps) (crossed_boxed o xs)
+
+  visits_entry : (o : Option Tree) (k : ℕ) (p : Option Bounds) (rest : List (ℕ × Bounds))
+      → all_visits_in o (entry_of k p ++ rest) ≡ visits_for o p + all_visits_in o rest
+  visits_entry o k None rest = omega arith
+  visits_entry o k (Some b) rest = refl
+
+  -- and look at as many nodes
+  pub visits_boxed : (o : Option Tree) (slots : List ℕ) → all_visits_in o (boxed bodies slots) ≡ sum (map (λ k. visits_for o (get_or bodies k None)) slots)
+  visits_boxed o [] = refl
+  visits_boxed o (x ∷ xs) =
+      visits_entry o x (get_or bodies x None) (boxed bodies xs)
+      ∙ ap (λ n. visits_for o (get_or bodies x None) + n) (visits_boxed o xs)
+      ∙ sym (sum_by-cons (λ (n : ℕ). n) (visits_for o (get_or bodies x None)) (map (λ k. visits_for o (get_or bodies k None)) xs))
 
 has_first : (es : List (ℕ × Bounds)) (k : ℕ) (b : Bounds) (i : ℕ) → i < length es → get_or es i (k, b) ≡ (k, b)
     → has_slot (map (λ (e : ℕ × Bounds). e.0) es) k ≡ true
@@ -68,7 +87,7 @@ module _ (o : Option Tree) (bodies fats : List (Option Bounds)) (numbers : List 
   abbrev touched : List (ℕ × Bounds)
   touched = touched_of marks (exact_in bodies o)
 
-  touched_marked : AreMarked (map_of bodies) marks (map (λ (e : ℕ × Bounds). e.0) touched)
+  pub touched_marked : AreMarked (map_of bodies) marks (map (λ (e : ℕ × Bounds). e.0) touched)
   touched_marked k h =
       let b = some_there (get (map_of bodies) k) h in
       let c = (exact_held o bodies fats numbers marks kept s).whole k b.0 b.1 in
@@ -79,31 +98,8 @@ module _ (o : Option Tree) (bodies fats : List (Option Bounds)) (numbers : List 
       and_yes true = refl
       and_yes false = refl
 
-  renewed_of : ReachLaw → RenewingLaw → (slots : List ℕ) → AreMarked (map_of bodies) marks slots → (old : List Pair) → AreKept (map_of bodies) marks old
+  pub renewed_of : ReachLaw → RenewingLaw → (slots : List ℕ) → AreMarked (map_of bodies) marks slots → (old : List Pair) → AreKept (map_of bodies) marks old
       → Renewed (map_of bodies) marks old (gathered_with (searches bodies o slots))
   renewed_of law renewing slots marked old are =
       renewing (map_of bodies) marks old (searches bodies o slots) (all_reached o bodies fats numbers marks kept s law slots)
       (subst (AreMarked (map_of bodies) marks) (sym (searched_slots bodies o slots)) marked) are
-
-  -- one descent for each of the rising slots
-  pub renewed_each : ReachLaw → RenewingLaw → (slots : List ℕ) (before found : List Pair) → slots ≡ sought_from marks 0 bodies → before ≡ []
-      → found ≡ before ++ gathered_with (searches bodies o slots) → (old : List Pair) → AreKept (map_of bodies) marks old
-      → Renewed (map_of bodies) marks old found
-  renewed_each law renewing slots before found es en ef old are =
-      let is : found ≡ gathered_with (searches bodies o slots) = ef ∙ ap (λ ps. ps ++ gathered_with (searches bodies o slots)) en in
-      subst (Renewed (map_of bodies) marks old) (sym is)
-      (renewed_of law renewing slots (subst (AreMarked (map_of bodies) marks) (sym (es ∙ marked_is marks bodies)) (are_marked marks (map_of bodies))) old are)
-
-  -- groups in the order of the leaves
-  pub renewed_together : ReachLaw → RenewingLaw → (before found : List Pair) → before ≡ [] → Adds before found (crossed (exact_in bodies o) touched)
-      → (old : List Pair) → AreKept (map_of bodies) marks old → Renewed (map_of bodies) marks old found
-  renewed_together law renewing before found en adds old are =
-      let slots : List ℕ = map (λ (e : ℕ × Bounds). e.0) touched in
-      let same : crossed (exact_in bodies o) touched ≡ gathered_with (searches bodies o slots) =
-      crossed_searches bodies o touched (touched_own bodies marks (exact_in bodies o) (exact_in_own bodies o)) in
-      let r = renewed_of law renewing slots touched_marked old are in
-      record {
-        kept_is = r.kept_is;
-        found_is = λ p. adds p ∙ ap (λ ps. has_pair ps p || has_pair (crossed (exact_in bodies o) touched) p) en
-            ∙ ap (λ ps. has_pair ps p) same ∙ r.found_is p;
-      }

@@ -138,7 +138,8 @@ module _ (o : Option Tree) (bodies : List (Option Bounds)) (marks : List Bool) w
       ]
   entry_due s (Some b) rest =
       elim (get_or marks s false) as
-      (λ m. all_visits_in o (cond m ((s, b) ∷ touched_of marks rest) (touched_of marks rest)) ≡ cond m (visits_in o b) 0 + all_visits_in o (touched_of marks rest)) [
+      (λ m. all_visits_in o (cond m ((s, b) ∷ touched_of marks rest) (touched_of marks rest))
+      ≡ cond m (visits_in o b) 0 + all_visits_in o (touched_of marks rest)) [
         | true ↦ refl
         | false ↦ omega arith
       ]

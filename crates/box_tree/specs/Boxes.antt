@@ -1,13 +1,17 @@
 -- Definitions: a tree of fat boxes, as clauses see it.
-use Rattle.std.specs.Prelude.{ℕ, ◌+◌, ◌-◌, ◌^◌, min, Bool, false, if◌then◌else◌, List, map, filter, sum, replicate, slice_index_or, Option, None, Some, refl}
+use Rattle.std.specs.Prelude.{◌≡◌, ◌&&◌, ◌||◌, ℕ, ◌+◌, ◌-◌, ◌^◌, min, nat_lt, Bool, false, if◌then◌else◌}
+use Rattle.std.specs.Prelude.{List, length, map, filter, sum, replicate, slice_index_or, Option, None, Some, refl}
 use Rattle.std.specs.Ordering.{nat_cmp}
 use Rattle.std.specs.FinMap.{FinMap, code, entries, empty, get, insert}
 use Rattle.std.specs.Coded.{Coded, code_by, coded×, coded_ℕ, coded_bool, coded_list}
 use Rattle.fixed_box.specs.declared.TheConstants.{SLOTS}
 use Rattle.fixed_box.specs.Bounds.{Bounds, coded_bounds, encloses, fattened}
-use Rattle.tree_nodes.specs.Tree.{Tree, Leaf, visits_in}
+use Rattle.broad_index.specs.declared.pair.Pair.{Pair}
+use Rattle.broad_index.specs.Members.{has_pair, has_slot, is_near}
+use Rattle.tree_nodes.specs.Tree.{Tree, Leaf, leaves_in, visits_in}
 use Rattle.tree_nodes.specs.TreeCode.{coded_tree}
 use Rattle.box_tree.specs.declared.TheConstants.{MARGIN}
+use Rattle.box_tree.specs.declared.touched.TheConstants.{FEWEST_GROUPED}
 use Rattle.box_tree.specs.declared.moved.Moved.{Moved}
 use Rattle.box_tree.specs.declared.moved.Moved.TheVariants.{Inside, Relinked}
 
@@ -68,6 +72,14 @@ cost b slot = visits_for b.tree (get b.bodies slot)
 abbrev pub sought : Boxes → List ℕ
 sought b = map (λ e. e.0) (filter (λ e. slice_index_or b.touched e.0 false) (entries b.bodies))
 
+-- the touched ones among the slots of leaves, in the order of these
+abbrev pub marked_slots : List Bool → List Leaf → List ℕ
+marked_slots marks xs = filter (λ s. slice_index_or marks s false) (map (λ x. x.slot) xs)
+
+-- The slots that several threads seek: many in the order of their leaves, so that those of a piece lie near one another, and few rising.
+abbrev pub shared_slots : Boxes → List ℕ
+shared_slots b = if nat_lt (length (sought b)) FEWEST_GROUPED then sought b else marked_slots b.touched (leaves_in b.tree)
+
 -- a number of 64 bits, which stops at its greatest value
 abbrev pub raised : ℕ → ℕ → ℕ
 raised looked more = min (looked + more) (2 ^ 64 - 1)
@@ -81,3 +93,8 @@ searched b = record {
   touched = untouched;
   looked = raised b.looked (sum (map (cost b) (sought b)));
 }
+
+-- What a search of some slots gives: the pairs of boxes that meet and have one of them, in any order, and what these cost.
+pub record Finds (b : Boxes) (slots : List ℕ) (pairs : List Pair) (number : ℕ) : Type 0 where
+  pub pairs_are : (p : Pair) → has_pair pairs p ≡ (is_near b.bodies p && (has_slot slots p.a || has_slot slots p.b))
+  pub number_is : number ≡ raised 0 (sum (map (cost b) slots))

@@ -1,10 +1,12 @@
 -- Serves proofs alone: the searches of touched slots.
-use Rattle.std.specs.Prelude.{ℕ, Bool, false, not, ◌==◌, List, [], map, filter, Option, None, Some, slice_index_or}
+use Rattle.std.specs.Prelude.{ℕ, Bool, false, not, ◌==◌, nat_lt, if◌then◌else◌, List, [], ◌∷◌, ◌++◌, length, map, filter, Option, None, Some, slice_index_or}
 use Rattle.fixed_box.specs.Bounds.{Bounds}
 use Rattle.broad_index.specs.declared.query.Query.TheVariants.{Region}
 use Rattle.broad_index.specs.Found.{found_of}
-use Rattle.tree_nodes.specs.Tree.{Tree}
-use Rattle.box_tree.specs.Descent.{exact_in}
+use Rattle.tree_nodes.specs.Tree.{Tree, leaves_in}
+use Rattle.box_tree.specs.declared.touched.TheConstants.{FEWEST_GROUPED}
+use Rattle.box_tree.specs.Boxes.{marked_slots}
+use Rattle.box_tree.specs.Descent.{entry_of, exact_in}
 use Rattle.fixed_box.specs.SlotMap.{entries_from}
 
 -- the marked ones of slots that have boxes, counted from n
@@ -22,3 +24,13 @@ reached_in bodies tree slot = reached_by bodies tree slot (slice_index_or bodies
 -- each slot with what it reaches
 abbrev pub searches : List (Option Bounds) → Option Tree → List ℕ → List (ℕ × List ℕ)
 searches bodies tree slots = map (λ s. (s, reached_in bodies tree s)) slots
+
+-- those of slots that have boxes, each with it
+abbrev pub boxed : List (Option Bounds) → List ℕ → List (ℕ × Bounds)
+boxed bodies [] = []
+boxed bodies (s ∷ ss) = entry_of s (slice_index_or bodies s None) ++ boxed bodies ss
+
+-- the slots that are shared among threads
+abbrev pub shared_from : Option Tree → List (Option Bounds) → List Bool → List ℕ
+shared_from tree bodies marks =
+    if nat_lt (length (sought_from marks 0 bodies)) FEWEST_GROUPED then sought_from marks 0 bodies else marked_slots marks (leaves_in tree)

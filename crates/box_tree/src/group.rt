@@ -1,5 +1,5 @@
 ghost use Rattle.std.specs.Prelude.{◌≡◌, ◌==◌, ◌<◌, ◌≤◌, ◌++◌, not, map, filter, length, None, OnOk, IfOk, slice_index_or};
-ghost use Rattle.broad_index.specs.Touched.{ordered, ordered_pairs};
+ghost use Rattle.broad_index.specs.Touched.{ordered_pairs};
 ghost use Rattle.lane_boxes.specs.Places.{next_eight};
 ghost use Rattle.tree_nodes.specs.Tree.{Tree, leaves};
 ghost use Rattle.box_tree.specs.Boxes.{raised};
@@ -163,21 +163,10 @@ fn push_picked(
             break;
         };
         if bits % 2 == 1 && *other != slot {
-            found.push(ordered_pair(slot, *other))?;
+            found.push(Pair::ordered(slot, *other))?;
         }
         bits /= 2;
         rest = more;
     }
     Ok(())
-}
-
-// Two slots, the lower one first.
-fn ordered_pair(slot: u32, other: u32) -> Pair
-    ensures { result ≡ ordered slot other }
-{
-    if slot < other {
-        Pair { a: slot, b: other }
-    } else {
-        Pair { a: other, b: slot }
-    }
 }

@@ -5,9 +5,9 @@ ghost use Rattle.fixed_box.specs.Bounds.{Bounds};
 ghost use Rattle.broad_index.specs.Near.{near, rises};
 ghost use Rattle.broad_index.specs.Touched.{Renewed};
 
+use crate::touched::SearchRoom;
 use broad_index::{Pair, renew_pairs};
-use fixed_box::{FBox, NoMemory};
-use lane_boxes::Columns;
+use fixed_box::NoMemory;
 use std::alloc::Global;
 use std::mem;
 
@@ -15,10 +15,7 @@ use std::mem;
 #[derive(Drop)]
 pub(crate) struct Room {
     pub(crate) slots: Vec<u32>,
-    pub(crate) touched: Vec<(u32, FBox)>,
-    pub(crate) boxes: Columns,
-    pub(crate) met: Vec<u32>,
-    pub(crate) reached: Vec<u32>,
+    pub(crate) search: SearchRoom,
     pub(crate) found: Vec<Pair>,
     pub(crate) staying: Vec<Pair>,
     pub(crate) near: Vec<Pair>,
@@ -28,10 +25,7 @@ impl Room {
     pub(crate) fn new(alloc: Global) -> Room {
         Room {
             slots: Vec::new(alloc),
-            touched: Vec::new(alloc),
-            boxes: Columns::new(alloc),
-            met: Vec::new(alloc),
-            reached: Vec::new(alloc),
+            search: SearchRoom::new(alloc),
             found: Vec::new(alloc),
             staying: Vec::new(alloc),
             near: Vec::new(alloc),

@@ -1,16 +1,18 @@
-ghost use Rattle.std.specs.Prelude.{◌≡◌, ◌<◌, ◌≤◌, ◌++◌, List, Option, ℕ, [], map, sum, filter, not, ◌==◌, length, None, OnOk, IfOk, slice_index_or};
+ghost use Rattle.std.specs.Prelude.{◌≡◌, ◌≤◌, ◌++◌, List, Option, ℕ, [], false, map, sum, filter, not, ◌==◌, length, None, OnOk, IfOk, slice_index_or};
 ghost use Rattle.fixed_box.specs.Bounds.{Bounds};
 ghost use Rattle.fixed_box.specs.SlotMap.{map_of};
 ghost use Rattle.broad_index.specs.declared.pair.Pair.{Pair};
 ghost use Rattle.broad_index.specs.declared.query.Query.TheVariants.{Region};
 ghost use Rattle.broad_index.specs.Found.{found_of};
-ghost use Rattle.broad_index.specs.Touched.{ordered_pairs, AreKept, Renewed};
+ghost use Rattle.broad_index.specs.Touched.{ordered_pairs, gathered_with, AreKept, Renewed};
+ghost use Rattle.fixed_box.specs.declared.TheConstants.{SLOTS};
 ghost use Rattle.tree_nodes.specs.Tree.{Tree, leaves, visits_in};
-ghost use Rattle.box_tree.specs.Boxes.{raised, visits_for};
-ghost use Rattle.box_tree.specs.Descent.{entry_of, exact, exact_in, IsInsideIn};
-ghost use Rattle.box_tree.specs.Group.{touched_of, others_met, crossed, all_visits_in, Adds, IsBelow};
-ghost use Rattle.box_tree.specs.Searches.{sought_from};
+ghost use Rattle.box_tree.specs.Boxes.{marked_slots, raised, visits_for};
+ghost use Rattle.box_tree.specs.Descent.{exact_in, IsInsideIn};
+ghost use Rattle.box_tree.specs.Group.{crossed, all_visits_in, Adds, IsBelow};
+ghost use Rattle.box_tree.specs.Searches.{boxed, searches, shared_from, sought_from};
 ghost use Rattle.box_tree.specs.Ties.{Sound};
+ghost use Rattle.work_pieces.specs.Runs.{put_together};
 
 use crate::descent::descend;
 use crate::group::{GROUP, box_law, fit_group, search_group};
@@ -19,10 +21,34 @@ use crate::search::{push_others, push_sought, search_all};
 use broad_index::{Pair, Query, holding_laws, keeping_laws, push_ordered_pairs};
 use fixed_box::{FBox, NoMemory, box_laws};
 use lane_boxes::Columns;
+use std::alloc::Global;
 use tree_nodes::{NodeView, Nodes};
 
 // From how many touched slots on they are searched for in groups. For fewer it doesn't pay to walk over the tree.
 const FEWEST_GROUPED: usize = 1_024;
+
+// The same of a piece: if there are two such pieces, their slots stand in the order of the leaves.
+pub(crate) const FEWEST_IN_PIECE: usize = 512;
+
+// Lists that a search keeps for their memory alone.
+#[derive(Drop)]
+pub(crate) struct SearchRoom {
+    touched: Vec<(u32, FBox)>,
+    boxes: Columns,
+    met: Vec<u32>,
+    reached: Vec<u32>,
+}
+
+impl SearchRoom {
+    pub(crate) fn new(alloc: Global) -> SearchRoom {
+        SearchRoom {
+            touched: Vec::new(alloc),
+            boxes: Columns::new(alloc),
+            met: Vec::new(alloc),
+            reached: Vec::new(alloc),
+        }
+    }
+}
 
 // Replaces the found pairs by those of touched slots with the boxes that theirs meet, and answers a number raised by how
 // many nodes a descent for each of them looks at.
@@ -42,48 +68,79 @@ pub(crate) fn search_touched(
 {
     holding_laws();
     keeping_laws();
-    box_laws();
     room.found.clear();
     room.slots.clear();
-    push_sought(bodies, marks, &mut room.slots)?;
-    if room.slots.len() < FEWEST_GROUPED {
-        let number = search_all(
-            nodes,
-            bodies,
-            &room.slots,
-            looked,
-            &mut room.met,
-            &mut room.reached,
-            &mut room.found,
-        )?;
-        return Ok(number);
-    }
-    let number = search_together(nodes, bodies, marks, looked, room)?;
+    push_shared(nodes, bodies, marks, &mut room.slots)?;
+    let number = search_run(
+        nodes,
+        bodies,
+        &room.slots,
+        FEWEST_GROUPED,
+        looked,
+        &mut room.search,
+        &mut room.found,
+    )?;
     Ok(number)
 }
 
-// Appends the pairs of touched slots to those that were found, and answers a number raised by how many nodes a descent for
-// each looks at. Slots whose leaves stand side by side go in groups.
-fn search_together(
+// Appends the touched slots that are present: many in the order of their leaves, so that those that lie together in space
+// mostly stand together, and few in rising order.
+pub(crate) fn push_shared(
     nodes: &Nodes,
     bodies: &[Option<FBox>],
     marks: &[bool],
-    looked: u64,
-    room: &mut Room,
-) -> Result<u64, NoMemory>
+    out: &mut Vec<u32>,
+) -> Result<(), NoMemory>
     requires inside { IsInsideIn bodies.now nodes.now }
-    requires marks { length marks.now ≡ length bodies.now }
-    ensures ok { OnOk result (Adds room.old.found.items room.new.found.items
-        (crossed (exact_in bodies.now nodes.now) (touched_of marks.now (exact_in bodies.now nodes.now)))) }
-    ensures count { IfOk result (λ n. n ≡ raised looked (all_visits_in nodes.now (touched_of marks.now (exact_in bodies.now nodes.now)))) }
+    requires bodies { length bodies.now ≡ SLOTS }
+    requires marks { length marks.now ≡ SLOTS }
+    requires empty { out.old.items ≡ [] }
+    ensures ok { OnOk result (out.new.items ≡ shared_from nodes.now bodies.now marks.now) }
+    ensures few { OnOk result (length out.new.items ≤ SLOTS) }
 {
     box_law();
+    push_sought(bodies, marks, out)?;
+    if out.len() < FEWEST_GROUPED {
+        return Ok(());
+    }
+    out.clear();
     let Some(root) = nodes.root() else {
-        return Ok(looked);
+        return Ok(());
     };
+    push_along(nodes, marks, root, out)?;
+    Ok(())
+}
+
+// Appends the pairs of some slots with the boxes that theirs meet, and answers a number raised by how many nodes a descent
+// for each of them looks at. From the fewest on that are given, slots that stand side by side go in groups.
+pub(crate) fn search_run(
+    nodes: &Nodes,
+    bodies: &[Option<FBox>],
+    slots: &[u32],
+    fewest: usize,
+    looked: u64,
+    room: &mut SearchRoom,
+    found: &mut Vec<Pair>,
+) -> Result<u64, NoMemory>
+    requires inside { IsInsideIn bodies.now nodes.now }
+    ensures ok { OnOk result (Adds found.old.items found.new.items (gathered_with (searches bodies.now nodes.now slots.now))) }
+    ensures count { IfOk result (λ n. n ≡ raised looked (sum (map (λ s. visits_for nodes.now (slice_index_or bodies.now s None)) slots.now))) }
+{
+    if slots.len() < fewest {
+        let number = search_all(
+            nodes,
+            bodies,
+            slots,
+            looked,
+            &mut room.met,
+            &mut room.reached,
+            found,
+        )?;
+        return Ok(number);
+    }
     room.touched.clear();
-    push_touched(nodes, bodies, marks, root, &mut room.touched)?;
-    fit_group(&mut room.boxes, *room.found.allocator())?;
+    push_boxes(bodies, slots, &mut room.touched)?;
+    fit_group(&mut room.boxes, *found.allocator())?;
     let number = search_groups(
         nodes,
         bodies,
@@ -92,9 +149,44 @@ fn search_together(
         &mut room.boxes,
         &mut room.met,
         &mut room.reached,
-        &mut room.found,
+        found,
     )?;
     Ok(number)
+}
+
+// Appends the pairs of all pieces, and answers a number raised by what they cost.
+pub(crate) fn join_pieces(
+    pieces: Vec<(Vec<Pair>, u64)>,
+    looked: u64,
+    found: &mut Vec<Pair>,
+) -> Result<u64, NoMemory>
+    ensures ok { OnOk result (found.new.items ≡ found.old.items ++ put_together (map (λ piece. piece.0.items) pieces.items)) }
+    ensures count { IfOk result (λ n. n ≡ raised looked (sum (map (λ piece. piece.1) pieces.items))) }
+{
+    let mut number = looked;
+    'pieces: for (mut pairs, cost) in pieces {
+        found.append(&mut pairs)?;
+        number = number.saturating_add(cost);
+    }
+    Ok(number)
+}
+
+// Appends each slot that has a box with it.
+fn push_boxes(
+    bodies: &[Option<FBox>],
+    slots: &[u32],
+    out: &mut Vec<(u32, FBox)>,
+) -> Result<(), NoMemory>
+    ensures { OnOk result (out.new.items ≡ out.old.items ++ boxed bodies.now slots.now) }
+{
+    let mut rest = slots;
+    'slots: while let [slot, more @ ..] = rest {
+        if let Some(Some(body)) = bodies.get(*slot as usize) {
+            out.push((*slot, *body))?;
+        }
+        rest = more;
+    }
+    Ok(())
 }
 
 // Searches for touched boxes group by group, and for those that are left one by one. `met` and `others` are room.
@@ -172,23 +264,17 @@ fn search_one(
     Ok(count)
 }
 
-// Appends the touched slots below a node that are present, each with its box, in the order of the leaves: what lies
-// together in space mostly stands together there.
-pub(crate) fn push_touched(
-    nodes: &Nodes,
-    bodies: &[Option<FBox>],
-    marks: &[bool],
-    at: usize,
-    out: &mut Vec<(u32, FBox)>,
-) -> Result<(), NoMemory>
-    requires below { (t : Tree) × IsBelow nodes.now bodies.now at t }
-    requires marks { length marks.now ≡ length bodies.now }
-    ensures { (t : Tree) → IsBelow nodes.now bodies.now at t →
-        OnOk result (out.new.items ≡ out.old.items ++ touched_of marks.now (exact bodies.now (leaves t))) }
+// Appends the touched slots below a node, in the order of the leaves.
+fn push_along(nodes: &Nodes, marks: &[bool], at: usize, out: &mut Vec<u32>) -> Result<(), NoMemory>
+    requires { (bodies : List (Option Bounds)) × (t : Tree) × IsBelow nodes.now bodies at t }
+    ensures { (bodies : List (Option Bounds)) (t : Tree) → IsBelow nodes.now bodies at t →
+        OnOk result (out.new.items ≡ out.old.items ++ marked_slots marks.now (leaves t)) }
 {
     match nodes.node(at) {
         NodeView::Leaf { slot, fat: _ } => {
-            push_if_touched(bodies, marks, *slot, out)?;
+            if is_marked(*slot, marks) {
+                out.push(*slot)?;
+            }
             Ok(())
         }
         NodeView::Inner {
@@ -197,29 +283,17 @@ pub(crate) fn push_touched(
             hull: _,
             height: _,
         } => {
-            push_touched(nodes, bodies, marks, *left, out)?;
-            push_touched(nodes, bodies, marks, *right, out)?;
+            push_along(nodes, marks, *left, out)?;
+            push_along(nodes, marks, *right, out)?;
             Ok(())
         }
     }
 }
 
-// Appends a slot with its box, if it is touched and has one.
-fn push_if_touched(
-    bodies: &[Option<FBox>],
-    marks: &[bool],
-    slot: u32,
-    out: &mut Vec<(u32, FBox)>,
-) -> Result<(), NoMemory>
-    requires small { slot < length bodies.now }
-    requires marks { length marks.now ≡ length bodies.now }
-    ensures { OnOk result (out.new.items ≡ out.old.items ++ touched_of marks.now (entry_of slot (slice_index_or bodies.now slot None))) }
+// Whether a slot is marked.
+fn is_marked(slot: u32, marks: &[bool]) -> bool
+    ensures { result ≡ slice_index_or marks.now slot false }
 {
-    let Some(body) = &bodies[slot as usize] else {
-        return Ok(());
-    };
-    if marks[slot as usize] {
-        out.push((slot, *body))?;
-    }
-    Ok(())
+    let slot = slot as usize;
+    slot < marks.len() && marks[slot]
 }

@@ -6,17 +6,18 @@ ghost use Rattle.fixed_box.specs.Bounds.{Bounds, encloses, fattened};
 ghost use Rattle.broad_index.specs.Fresh.{IsFresh};
 ghost use Rattle.broad_index.specs.Held.{Holds};
 ghost use Rattle.tree_nodes.specs.Tree.{height_in, leaves_in, IsTreeIn};
-ghost use Rattle.box_tree.specs.Boxes.{no_boxes as outset, shifted, told, fat_entry, is_inside, cost, sought, searched};
+ghost use Rattle.box_tree.specs.Boxes.{no_boxes as outset, shifted, told, fat_entry, is_inside, cost, searched, shared_slots, Finds};
 
 use crate::descent::descend;
 use crate::leaves::{add_leaf, drop_leaf, relink};
 use crate::renewal::{Room, renew};
-use crate::search::{push_sought, reach};
-use crate::touched::search_touched;
+use crate::search::reach;
+use crate::touched::{
+    FEWEST_IN_PIECE, SearchRoom, join_pieces, push_shared, search_run, search_touched,
+};
 use crate::{MARGIN, Moved};
 use broad_index::{
-    BroadPhase, Pair, Query, holding_laws, keeping_laws, member_laws, push_gathered_with,
-    push_rising_slots,
+    BroadPhase, Pair, PairSeeker, Query, holding_laws, keeping_laws, member_laws, push_rising_slots,
 };
 use fixed_box::{FBox, NoMemory, SLOTS};
 use slot_search::Seeker;
@@ -32,7 +33,7 @@ use tree_nodes::{MOST_HEIGHT, Nodes};
 ///
 /// A leaf whose fat box changes moves in its place, or is put where it fits best. After some such changes for each leaf the
 /// tree is rebuilt, so that a search looks at few nodes however long the boxes move. Where many slots are touched, `pairs`
-/// searches for eight at once whose leaves stand side by side.
+/// searches for eight at once whose leaves stand side by side, and so does each piece of `pairs_with`.
 ///
 /// Only `new`, `pairs`, `pairs_with` and `hits` take memory. The structure is never spent.
 #[derive(Drop)]
@@ -174,9 +175,9 @@ impl BroadPhase for BoxTree {
 
     ghost paired = { λ old new. new ≡ searched old };
 
-    ghost sought = { λ tree. sought tree };
+    ghost sought = { λ tree. shared_slots tree };
 
-    ghost costs = { λ tree. Some (cost tree) };
+    ghost seeks = { λ tree slots pairs number. Finds tree slots pairs number };
 
     type Shared = BoxTree;
 
@@ -267,29 +268,47 @@ impl BroadPhase for BoxTree {
     fn share(&self, alloc: Global) -> Result<Option<(&BoxTree, Vec<u32>)>, NoMemory>
         ensures shares { IfOk result (λ shared. is_some shared ≡ true) }
         ensures index { IfOk result (λ shared. IfSome shared (λ s. s.0.now ≡ self.now)) }
-        ensures slots { IfOk result (λ shared. IfSome shared (λ s. s.1.items ≡ sought self.now)) }
+        ensures slots { IfOk result (λ shared. IfSome shared (λ s. s.1.items ≡ shared_slots self.now)) }
         ensures present { IfOk result (λ shared. IfSome shared (λ s. All (λ slot. map.contains_key self.now.bodies slot ≡ true) s.1.items)) }
         ensures few { IfOk result (λ shared. IfSome shared (λ s. length s.1.items < 2 ^ 32)) }
     {
         let mut slots = Vec::new(alloc);
-        push_sought(&self.bodies, &self.marks, &mut slots)?;
+        push_shared(&self.nodes, &self.bodies, &self.marks, &mut slots)?;
         Ok(Some((self, slots)))
     }
 
-    fn merge(
-        &mut self,
-        slots: &[u32],
-        lists: &[Vec<u32>],
-        cost: u64,
-        out: &mut Vec<Pair>,
-    ) -> Result<(), NoMemory> {
+    fn merge(&mut self, found: Vec<(Vec<Pair>, u64)>, out: &mut Vec<Pair>) -> Result<(), NoMemory> {
+        holding_laws();
         member_laws();
         keeping_laws();
         self.room.found.clear();
-        push_gathered_with(slots, lists, &mut self.room.found)?;
+        let counted = join_pieces(found, self.looked, &mut self.room.found)?;
         renew(&mut self.kept, &mut self.marks, &mut self.room, out)?;
-        self.looked = self.looked.saturating_add(cost);
+        self.looked = counted;
         Ok(())
+    }
+}
+
+impl PairSeeker for BoxTree {
+    ghost bodies = { λ tree. tree.bodies };
+
+    ghost seeks = { λ tree slots pairs number. Finds tree slots pairs number };
+
+    fn seek_pairs(&self, alloc: Global, slots: &[u32]) -> Result<(Vec<Pair>, u64), NoMemory> {
+        holding_laws();
+        keeping_laws();
+        let mut room = SearchRoom::new(alloc);
+        let mut found = Vec::new(alloc);
+        let cost = search_run(
+            &self.nodes,
+            &self.bodies,
+            slots,
+            FEWEST_IN_PIECE,
+            0,
+            &mut room,
+            &mut found,
+        )?;
+        Ok((found, cost))
     }
 }
 

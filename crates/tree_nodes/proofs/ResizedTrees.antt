@@ -86,7 +86,8 @@ written_top old new at b (fork n hu k l r) e apart w h =
     let f : (x : ℕ) → x ≢ n → get new x ≡ get old x = subst (λ m. (x : ℕ) → x ≢ m → get new x ≡ get old x) (sym e) w.others in
     let a : one n n + (count_of l n + count_of r n) ≤ 1 = apart n in
     let o = one_same n in
-    let held : Holds new (fork n b k l r) = (q ∙ ap (option_map (with_bounds b)) h.0, frame old new n f l (omega arith) h.1, frame old new n f r (omega arith) h.2) in
+    let held : Holds new (fork n b k l r) =
+    (q ∙ ap (option_map (with_bounds b)) h.0, frame old new n f l (omega arith) h.1, frame old new n f r (omega arith) h.2) in
     subst (λ m. Holds new (resized m b (fork n hu k l r))) e (subst (Holds new) (sym (top_inner b n k hu l r)) held)
 
 -- what stands in a tree uses no number more often

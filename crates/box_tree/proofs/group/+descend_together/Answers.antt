@@ -77,7 +77,9 @@ returns-in_ok-all-in-Inner-clause-count t c u b =
     (c.node.ensures.value ∙ ap Some c.in-Inner.is) in
     let bits = group_bits c.in-Inner.hull c.args.boxes.now.boxes c.args.group.now c.overlap_mask-mask.result c.requires.boxes c.requires.few
     c.overlap_mask-mask.ensures in
-    raised_thrice c.args.looked (2 * c.from.result) (all_below o.1 c.args.group.now) (all_below o.2 c.args.group.now) c.saturating_add-here.result c.in_ok-more-in-Inner.more
+    raised_thrice c.args.looked (2 * c.from.result) (all_below o.1 c.args.group.now) (all_below o.2 c.args.group.now) c.saturating_add-here.result
+    c.in_ok-more-in-Inner.more
     c.in_ok-all-in-Inner.all (all_below u c.args.group.now) c.saturating_add-here.ensures (c.in_ok-more-in-Inner.ensures.count o.1 o.4)
     (c.in_ok-all-in-Inner.ensures.count o.2 o.5)
-    (looks_on c.requires.laws c.args.group.now o.0 c.in-Inner.height c.overlap_mask-mask.result c.from.result c.in-Inner.hull o.1 o.2 u o.3 o.6 bits c.from.ensures)
+    (looks_on c.requires.laws c.args.group.now o.0 c.in-Inner.height c.overlap_mask-mask.result c.from.result c.in-Inner.hull
+    o.1 o.2 u o.3 o.6 bits c.from.ensures)

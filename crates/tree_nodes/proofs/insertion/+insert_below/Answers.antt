@@ -43,7 +43,8 @@ adjust-requires t c =
     let p = c.requires in
     let o = opened c.args.slab.now c.args.at c.in-Inner.left c.in-Inner.right c.in-Inner.height c.in-Inner.hull p.2 c.by_distance-down.result p.3.kept
     p.3.balanced (c.index.ensures ∙ ap Some c.in-Inner.is) c.by_distance-down.ensures in
-    let r = step_down c.args.slab.now c.args.at c.by_distance-down.result.0 c.by_distance-down.result.1 c.args.leaf c.args.new_parent p.0 p.1 p.2 o.0 o.1 p.3 o.2 in
+    let r = step_down c.args.slab.now c.args.at c.by_distance-down.result.0 c.by_distance-down.result.1 c.args.leaf c.args.new_parent
+    p.0 p.1 p.2 o.0 o.1 p.3 o.2 in
     let g = c.insert_below-below.ensures.there p.0 p.1 o.0 r in (
       g.0,
       o.1,

@@ -45,7 +45,8 @@ pub returns-then-right-at-clause-changes : goal.returns-then-right-at-clause-cha
 returns-then-right-at-clause-changes c t p h s is =
     let e = sym c.get-2.ensures ∙ ap option_copied c.in-Some-Inner.is ∙ ap Some c.in-Some-Inner.field-0-is in
     let w = raises_right c.args.slab.now t c.in-Some.noted.now c.in-Some-Inner.left c.in-Some-Inner.right c.in-Some-Inner.field-0-3 c.in-Some-Inner.hull
-    c.args.bounds.now c.bounds_at-then-right-at.result c.union-raised-then-right-at.result s e c.bounds_at-then-right-at.ensures c.union-raised-then-right-at.ensures.corners in
+    c.args.bounds.now c.bounds_at-then-right-at.result c.union-raised-then-right-at.result s e
+    c.bounds_at-then-right-at.ensures c.union-raised-then-right-at.ensures.corners in
     let here = subst (λ x. Raises t x c.in-Some.noted.now c.args.bounds.now c.in-Some-Inner.hull c.union-raised-then-right-at.result) c.if-right-at.true w in
     let same = c.change_of-then-right-at.ensures.changes p h is in (
       c.in-Some-Inner.hull,
@@ -57,7 +58,8 @@ pub returns-then-right-at-clause-stays : goal.returns-then-right-at-clause-stays
 returns-then-right-at-clause-stays c t s is =
     let e = sym c.get-2.ensures ∙ ap option_copied c.in-Some-Inner.is ∙ ap Some c.in-Some-Inner.field-0-is in
     let w = raises_right c.args.slab.now t c.in-Some.noted.now c.in-Some-Inner.left c.in-Some-Inner.right c.in-Some-Inner.field-0-3 c.in-Some-Inner.hull
-    c.args.bounds.now c.bounds_at-then-right-at.result c.union-raised-then-right-at.result s e c.bounds_at-then-right-at.ensures c.union-raised-then-right-at.ensures.corners in
+    c.args.bounds.now c.bounds_at-then-right-at.result c.union-raised-then-right-at.result s e
+    c.bounds_at-then-right-at.ensures c.union-raised-then-right-at.ensures.corners in
     let here = subst (λ x. Raises t x c.in-Some.noted.now c.args.bounds.now c.in-Some-Inner.hull c.union-raised-then-right-at.result) c.if-right-at.true w in (
       c.in-Some.noted.now,
       c.in-Some-Inner.hull,

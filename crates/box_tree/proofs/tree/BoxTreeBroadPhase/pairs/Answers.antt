@@ -22,9 +22,11 @@ search_touched-requires c =
 pub invariant_of-self-2 : goal.invariant_of-self-2
 invariant_of-self-2 c =
     let s = c.self.inside in
-    let found = subst (λ bs. AreKept (map_of bs) s.marks.items s.kept.items → Renewed (map_of bs) s.marks.items s.kept.items c.search_touched.new.room.found.items)
+    let found = subst (λ bs. AreKept (map_of bs) s.marks.items s.kept.items
+    → Renewed (map_of bs) s.marks.items s.kept.items c.search_touched.new.room.found.items)
     c.deref.ensures.value
-    (subst (λ ms. AreKept (map_of c.deref.result.now) ms s.kept.items → Renewed (map_of c.deref.result.now) ms s.kept.items c.search_touched.new.room.found.items)
+    (subst (λ ms. AreKept (map_of c.deref.result.now) ms s.kept.items
+    → Renewed (map_of c.deref.result.now) ms s.kept.items c.search_touched.new.room.found.items)
     c.deref-2.ensures.value (c.in_ok-looked.ensures.ok s.kept.items)) c.self.invariant.kept_are in
     let r = c.in_ok-renew.ensures.near (map_of s.bodies.items) found in
     sound_renewed s.nodes s.bodies.items s.fats.items s.numbers.items s.marks.items s.kept.items c.self.invariant c.args.self.now s.looked
@@ -35,9 +37,11 @@ invariant_of-self-2 c =
 pub returns-clause-ok : goal.returns-clause-ok
 returns-clause-ok c =
     let s = c.self.inside in
-    let found = subst (λ bs. AreKept (map_of bs) s.marks.items s.kept.items → Renewed (map_of bs) s.marks.items s.kept.items c.search_touched.new.room.found.items)
+    let found = subst (λ bs. AreKept (map_of bs) s.marks.items s.kept.items
+    → Renewed (map_of bs) s.marks.items s.kept.items c.search_touched.new.room.found.items)
     c.deref.ensures.value
-    (subst (λ ms. AreKept (map_of c.deref.result.now) ms s.kept.items → Renewed (map_of c.deref.result.now) ms s.kept.items c.search_touched.new.room.found.items)
+    (subst (λ ms. AreKept (map_of c.deref.result.now) ms s.kept.items
+    → Renewed (map_of c.deref.result.now) ms s.kept.items c.search_touched.new.room.found.items)
     c.deref-2.ensures.value (c.in_ok-looked.ensures.ok s.kept.items)) c.self.invariant.kept_are in
     let r = c.in_ok-renew.ensures.near (map_of s.bodies.items) found in
     near_viewed s.nodes s.bodies.items s.fats.items s.numbers.items s.marks.items s.kept.items c.self.invariant c.args.self.now s.looked
@@ -51,4 +55,5 @@ returns-clause-paired c =
     (costs_viewed s.nodes s.bodies.items s.fats.items s.marks.items s.looked c.in_ok-looked.looked c.args.self.now c.self.view_is
     (c.in_ok-looked.ensures.count
     ∙ ap (λ bs. raised s.looked (sum (map (λ k. visits_for s.nodes (get_or bs k None)) (sought_from c.deref-2.result.now 0 bs)))) c.deref.ensures.value
-    ∙ ap (λ ms. raised s.looked (sum (map (λ k. visits_for s.nodes (get_or s.bodies.items k None)) (sought_from ms 0 s.bodies.items)))) c.deref-2.ensures.value))
+    ∙ ap (λ ms. raised s.looked (sum (map (λ k. visits_for s.nodes (get_or s.bodies.items k None)) (sought_from ms 0 s.bodies.items))))
+    c.deref-2.ensures.value))

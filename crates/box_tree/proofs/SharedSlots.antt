@@ -1,0 +1,275 @@
+-- The slots that threads share are the touched ones, in whichever order, and what their pieces find renews the pairs.
+use Rattle.std.proofs.Common.{◌≡◌, ℕ, suc, ◌+◌, ◌^◌, ◌≤◌, Bool, true, false, cond, ◌&&◌, ◌||◌, ◌==◌, Option, None, Some, is_some, List, [], ◌∷◌, ◌++◌}
+use Rattle.std.proofs.Common.{length, map, get_or, refl, sym, ap, ◌∙◌, subst, arith}
+use Rattle.std.specs.Prelude.{nat_lt}
+use Rattle.std.specs.List.{All, Contains, sum}
+use Rattle.std.specs.Ordering.{nat_cmp}
+use Rattle.std.specs.FinMap.{FinMap, contains_key}
+use Rattle.std.proofs.lemmas.Bool.Decides.{nat_tests}
+use Rattle.std.proofs.lemmas.List.{map-append}
+use Rattle.std.proofs.lemmas.List.Elements.{All-cons, All-nil}
+use Rattle.std.proofs.lemmas.List.Folds.{list_any-append}
+use Rattle.std.proofs.lemmas.List.Sums.{sum_by-cons, sum_by-append}
+use Rattle.fixed_box.specs.declared.TheConstants.{SLOTS}
+use Rattle.fixed_box.specs.Bounds.{Bounds}
+use Rattle.fixed_box.specs.SlotMap.{map_of}
+use Rattle.fixed_box.specs.SlotMapLaws.{get_map}
+use Rattle.broad_index.specs.declared.pair.Pair.{Pair}
+use Rattle.broad_index.specs.Members.{has_pair, has_slot, is_near}
+use Rattle.broad_index.specs.Searched.{AreReached}
+use Rattle.broad_index.specs.Touched.{gathered_with, AreKept, AreMarked, Renewed}
+use Rattle.work_pieces.specs.Each.{Each}
+use Rattle.work_pieces.specs.Runs.{InRuns, put_together}
+use Rattle.tree_nodes.specs.Tree.{Tree, Leaf, leaves, leaves_in, IsTreeIn}
+use Rattle.box_tree.specs.declared.touched.TheConstants.{FEWEST_GROUPED}
+use Rattle.box_tree.specs.Boxes.{Boxes, visits_for, cost, marked_slots, shared_slots, sought, raised, Finds}
+use Rattle.box_tree.specs.Descent.{entry_of, exact, exact_in}
+use Rattle.box_tree.specs.Group.{touched_of, all_visits_in, Adds}
+use Rattle.box_tree.specs.Searches.{searches, shared_from, sought_from}
+use Rattle.box_tree.specs.Ties.{Sound}
+use Rattle.box_tree.proofs.Counts.{raised_again}
+use Rattle.box_tree.proofs.CrossedPairs.{has_append}
+use Rattle.box_tree.proofs.LeafTies.{some_there}
+use Rattle.box_tree.proofs.Searching.{ReachLaw, RenewingLaw, seen, exact_in_is, all_reached, searched_slots, marked_is, are_marked, marked_present, same_costs}
+use Rattle.box_tree.proofs.TouchedPairs.{AreOf, exact_in_own, touched_own, touched_marked, renewed_of}
+use Rattle.box_tree.proofs.TouchedSums.{touched_total}
+
+abbrev pub TouchedLaw : Type 0
+TouchedLaw = (m : FinMap nat_cmp Bounds) (rs : List (ℕ × List ℕ)) → AreReached m rs → (p : Pair) → has_pair (gathered_with rs) p
+    ≡ (is_near m p && (has_slot (map (λ (r : ℕ × List ℕ). r.0) rs) p.a || has_slot (map (λ (r : ℕ × List ℕ). r.0) rs) p.b))
+
+pub marked_few : (marks : List Bool) (xs : List Leaf) → length (marked_slots marks xs) ≤ length xs
+marked_few marks [] = omega arith
+marked_few marks (x ∷ xs) =
+    let rest = marked_few marks xs in
+    elim (get_or marks x.slot false) as (λ m. length (cond m (x.slot ∷ marked_slots marks xs) (marked_slots marks xs)) ≤ suc (length xs)) [
+      | true ↦ omega arith
+      | false ↦ omega arith
+    ]
+
+not_few : (a b : ℕ) → b ≤ a → nat_lt a b ≡ false
+not_few a b le = grind (arith, nat_tests)
+
+-- many slots are shared in the order of their leaves
+pub shared_many : (o : Option Tree) (bodies : List (Option Bounds)) (marks : List Bool) (slots : List ℕ) → slots ≡ sought_from marks 0 bodies
+    → FEWEST_GROUPED ≤ length slots → marked_slots marks (leaves_in o) ≡ shared_from o bodies marks
+shared_many o bodies marks slots e many =
+    let few : nat_lt (length (sought_from marks 0 bodies)) FEWEST_GROUPED ≡ false =
+    ap (λ l. nat_lt (length l) FEWEST_GROUPED) (sym e) ∙ not_few (length slots) FEWEST_GROUPED many in
+    sym (ap (λ b. cond b (sought_from marks 0 bodies) (marked_slots marks (leaves_in o))) few)
+
+-- and they are no more than the leaves
+pub shared_few : (o : Option Tree) → IsTreeIn o → (t : Tree) → o ≡ Some t → (marks : List Bool) → length (marked_slots marks (leaves t)) ≤ SLOTS
+shared_few o tree t e marks =
+    let few : length (leaves t) ≤ SLOTS = (subst IsTreeIn e tree).few in
+    let less = marked_few marks (leaves t) in
+    omega arith
+
+module _ (bodies : List (Option Bounds)) (marks : List Bool) where
+  abbrev AreThere : List Leaf → Type 0
+  AreThere xs = (x : Leaf) → Contains xs x → is_some (get_or bodies x.slot None) ≡ true
+
+  marked_entries : (xs : List Leaf) → AreThere xs → marked_slots marks xs ≡ map (λ (e : ℕ × Bounds). e.0) (touched_of marks (exact bodies xs))
+  marked_entries [] there = refl
+  marked_entries (x ∷ xs) there =
+      let b = some_there (get_or bodies x.slot None) (there x (0, omega arith, refl)) in
+      let rest = marked_entries xs (λ y c. there y (suc c.0, omega arith, c.2)) in
+      let more : List (ℕ × Bounds) = touched_of marks (exact bodies xs) in
+      elim (get_or marks x.slot false) as
+      (λ m. cond m (x.slot ∷ marked_slots marks xs) (marked_slots marks xs) ≡ map (λ (e : ℕ × Bounds). e.0) (cond m ((x.slot, b.0) ∷ more) more)) [
+        | true ↦ ap (λ l. x.slot ∷ l) rest
+        | false ↦ rest
+      ] ∙ sym (ap (λ p. map (λ (e : ℕ × Bounds). e.0) (touched_of marks (entry_of x.slot p ++ exact bodies xs))) b.1)
+
+  leaves_present : (xs : List Leaf) → AreThere xs → All (λ slot. contains_key (map_of bodies) slot ≡ true) (marked_slots marks xs)
+  leaves_present [] there = All-nil (λ slot. contains_key (map_of bodies) slot ≡ true)
+  leaves_present (x ∷ xs) there =
+      let here : contains_key (map_of bodies) x.slot ≡ true = ap is_some (get_map bodies x.slot) ∙ there x (0, omega arith, refl) in
+      let rest = leaves_present xs (λ y c. there y (suc c.0, omega arith, c.2)) in
+      elim (get_or marks x.slot false) as
+      (λ m. All (λ slot. contains_key (map_of bodies) slot ≡ true) (cond m (x.slot ∷ marked_slots marks xs) (marked_slots marks xs))) [
+        | true ↦ All-cons (λ slot. contains_key (map_of bodies) slot ≡ true) x.slot (marked_slots marks xs) here rest
+        | false ↦ rest
+      ]
+
+module _ (o : Option Tree) (bodies : List (Option Bounds)) where
+  -- what a descent for a slot looks at
+  abbrev seeks : ℕ → ℕ
+  seeks k = visits_for o (get_or bodies k None)
+
+  entries_sum : (es : List (ℕ × Bounds)) → AreOf bodies es → sum (map seeks (map (λ (e : ℕ × Bounds). e.0) es)) ≡ all_visits_in o es
+  entries_sum [] own = refl
+  entries_sum (e ∷ es) own =
+      sum_by-cons (λ (y : ℕ). y) (seeks e.0) (map seeks (map (λ (x : ℕ × Bounds). x.0) es))
+      ∙ ap (λ n. n + sum (map seeks (map (λ (x : ℕ × Bounds). x.0) es))) (ap (visits_for o) own.0)
+      ∙ ap (λ n. visits_for o (Some e.1) + n) (entries_sum es own.1)
+
+module _ (o : Option Tree) (bodies fats : List (Option Bounds)) (numbers : List ℕ) (marks : List Bool) (kept : List Pair)
+    (s : Sound o bodies fats numbers marks kept) where
+  leaves_there : AreThere bodies marks (leaves_in o)
+  leaves_there x c = sym (s.fat.same x.slot) ∙ ap is_some (s.ties.fat_is x c)
+
+  abbrev entries : List (ℕ × Bounds)
+  entries = touched_of marks (exact_in bodies o)
+
+  along_is : marked_slots marks (leaves_in o) ≡ map (λ (e : ℕ × Bounds). e.0) entries
+  along_is =
+      marked_entries bodies marks (leaves_in o) leaves_there
+      ∙ sym (ap (λ es. map (λ (e : ℕ × Bounds). e.0) (touched_of marks es)) (exact_in_is o bodies fats numbers marks kept s o))
+
+  -- the shared slots are the touched ones
+  pub shared_marked : AreMarked (map_of bodies) marks (shared_from o bodies marks)
+  shared_marked =
+      elim (nat_lt (length (sought_from marks 0 bodies)) FEWEST_GROUPED) as
+      (λ b. AreMarked (map_of bodies) marks (cond b (sought_from marks 0 bodies) (marked_slots marks (leaves_in o)))) [
+        | true ↦ subst (AreMarked (map_of bodies) marks) (sym (marked_is marks bodies)) (are_marked marks (map_of bodies))
+        | false ↦ subst (AreMarked (map_of bodies) marks) (sym along_is) (touched_marked o bodies fats numbers marks kept s)
+      ]
+
+  pub shared_present : All (λ slot. contains_key (map_of bodies) slot ≡ true) (shared_from o bodies marks)
+  shared_present =
+      elim (nat_lt (length (sought_from marks 0 bodies)) FEWEST_GROUPED) as
+      (λ b. All (λ slot. contains_key (map_of bodies) slot ≡ true) (cond b (sought_from marks 0 bodies) (marked_slots marks (leaves_in o)))) [
+        | true ↦ subst (All (λ slot. contains_key (map_of bodies) slot ≡ true)) (sym (marked_is marks bodies)) (marked_present marks (map_of bodies))
+        | false ↦ leaves_present bodies marks (leaves_in o) leaves_there
+      ]
+
+  -- and cost as much
+  pub shared_sum : sum (map (seeks o bodies) (shared_from o bodies marks)) ≡ sum (map (seeks o bodies) (sought_from marks 0 bodies))
+  shared_sum =
+      elim (nat_lt (length (sought_from marks 0 bodies)) FEWEST_GROUPED) as
+      (λ b. sum (map (seeks o bodies) (cond b (sought_from marks 0 bodies) (marked_slots marks (leaves_in o))))
+      ≡ sum (map (seeks o bodies) (sought_from marks 0 bodies))) [
+        | true ↦ refl
+        | false ↦ ap (λ l. sum (map (seeks o bodies) l)) along_is
+            ∙ entries_sum o bodies entries (touched_own bodies marks (exact_in bodies o) (exact_in_own bodies o))
+            ∙ touched_total o bodies fats numbers marks kept s
+      ]
+
+  -- a search of them renews the pairs
+  pub renewed_run : ReachLaw → RenewingLaw → (slots : List ℕ) (before found : List Pair) → slots ≡ shared_from o bodies marks → before ≡ []
+      → Adds before found (gathered_with (searches bodies o slots)) → (old : List Pair) → AreKept (map_of bodies) marks old
+      → Renewed (map_of bodies) marks old found
+  renewed_run law renewing slots before found es en adds old are =
+      let r = renewed_of o bodies fats numbers marks kept s law renewing slots (subst (AreMarked (map_of bodies) marks) (sym es) shared_marked) old are in
+      record {
+        kept_is = r.kept_is;
+        found_is = λ p. adds p ∙ ap (λ ps. has_pair ps p || has_pair (gathered_with (searches bodies o slots)) p) en ∙ r.found_is p;
+      }
+
+  module _ (v : Boxes) (looked : ℕ) (view : seen o bodies fats marks looked ≡ v) where
+    own_shared : shared_from o bodies marks ≡ shared_slots (seen o bodies fats marks looked)
+    own_shared = ap (λ l. cond (nat_lt (length l) FEWEST_GROUPED) l (marked_slots marks (leaves_in o))) (marked_is marks bodies)
+
+    pub shared_viewed : shared_from o bodies marks ≡ shared_slots v
+    shared_viewed = own_shared ∙ ap shared_slots view
+
+    pub present_viewed : All (λ slot. contains_key v.bodies slot ≡ true) (shared_slots v)
+    present_viewed =
+        subst (λ (b : Boxes). All (λ slot. contains_key b.bodies slot ≡ true) (shared_slots b)) view
+        (subst (All (λ slot. contains_key (map_of bodies) slot ≡ true)) own_shared shared_present)
+
+    pub cost_shared : sum (map (cost v) (shared_slots v)) ≡ sum (map (cost v) (sought v))
+    cost_shared =
+        ap (λ (b : Boxes). sum (map (cost b) (shared_slots b))) (sym view)
+        ∙ ap (λ l. sum (map (cost (seen o bodies fats marks looked)) l)) (sym own_shared)
+        ∙ sym (ap sum (same_costs o bodies (shared_from o bodies marks)))
+        ∙ shared_sum
+        ∙ ap sum (same_costs o bodies (sought_from marks 0 bodies))
+        ∙ ap (λ l. sum (map (cost (seen o bodies fats marks looked)) l)) (marked_is marks bodies)
+        ∙ ap (λ (b : Boxes). sum (map (cost b) (sought b))) view
+
+    -- what a search of some slots finds
+    pub finds_viewed : ReachLaw → TouchedLaw → (bs : List (Option Bounds)) (slots : List ℕ) (before found : List Pair) (n : ℕ) → bs ≡ bodies → before ≡ []
+        → Adds before found (gathered_with (searches bs o slots)) → n ≡ raised 0 (sum (map (λ k. visits_for o (get_or bs k None)) slots))
+        → Finds v slots found n
+    finds_viewed law touched bs slots before found n eb en adds e = record {
+      pairs_are = λ p. adds p
+          ∙ ap (λ ps. has_pair ps p || has_pair (gathered_with (searches bs o slots)) p) en
+          ∙ ap (λ xs. has_pair (gathered_with (searches xs o slots)) p) eb
+          ∙ touched (map_of bodies) (searches bodies o slots) (all_reached o bodies fats numbers marks kept s law slots) p
+          ∙ ap (λ l. is_near (map_of bodies) p && (has_slot l p.a || has_slot l p.b)) (searched_slots bodies o slots)
+          ∙ ap (λ (b : Boxes). is_near b.bodies p && (has_slot slots p.a || has_slot slots p.b)) view;
+      number_is = e
+          ∙ ap (λ xs. raised 0 (sum (map (λ k. visits_for o (get_or xs k None)) slots))) eb
+          ∙ ap (λ l. raised 0 (sum l)) (same_costs o bodies slots)
+          ∙ ap (λ (b : Boxes). raised 0 (sum (map (cost b) slots))) view;
+    }
+
+no_near : (n : Bool) → false ≡ (n && false)
+no_near true = refl
+no_near false = refl
+
+both_near : (n a b c d : Bool) → ((n && (a || b)) || (n && (c || d))) ≡ (n && ((a || c) || (b || d)))
+both_near false a b c d = refl
+both_near true true b c d = refl
+both_near true false true true d = refl
+both_near true false true false d = refl
+both_near true false false c d = refl
+
+raised_zero : (a m t : ℕ) → raised a (raised 0 m + t) ≡ raised a (m + t)
+raised_zero a m t = grind (arith)
+
+module _ {Y : Type 0} (pairs : Y → List Pair) (number : Y → ℕ) (v : Boxes) where
+  pieces_found : (runs : List (List ℕ)) (ys : List Y) → Each (λ run y. Finds v run (pairs y) (number y)) runs ys → (p : Pair)
+      → has_pair (put_together (map pairs ys)) p ≡ (is_near v.bodies p && (has_slot (put_together runs) p.a || has_slot (put_together runs) p.b))
+  pieces_found [] [] each p = no_near (is_near v.bodies p)
+  pieces_found [] (y ∷ ys) each p = absurd each
+  pieces_found (run ∷ runs) [] each p = absurd each
+  pieces_found (run ∷ runs) (y ∷ ys) each p =
+      let n = is_near v.bodies p in
+      let rest = put_together runs in
+      has_append (pairs y) (put_together (map pairs ys)) p
+      ∙ ap (λ b. b || has_pair (put_together (map pairs ys)) p) (each.0.pairs_are p)
+      ∙ ap (λ b. (n && (has_slot run p.a || has_slot run p.b)) || b) (pieces_found runs ys each.1 p)
+      ∙ both_near n (has_slot run p.a) (has_slot run p.b) (has_slot rest p.a) (has_slot rest p.b)
+      ∙ ap (λ b. n && (b || (has_slot run p.b || has_slot rest p.b))) (sym (list_any-append (λ x. p.a == x) run rest))
+      ∙ ap (λ b. n && (has_slot (run ++ rest) p.a || b)) (sym (list_any-append (λ x. p.b == x) run rest))
+
+  pieces_cost : (runs : List (List ℕ)) (ys : List Y) → Each (λ run y. Finds v run (pairs y) (number y)) runs ys → (a : ℕ)
+      → raised a (sum (map number ys)) ≡ raised a (sum (map (cost v) (put_together runs)))
+  pieces_cost [] [] each a = refl
+  pieces_cost [] (y ∷ ys) each a = absurd each
+  pieces_cost (run ∷ runs) [] each a = absurd each
+  pieces_cost (run ∷ runs) (y ∷ ys) each a =
+      let here = sum (map (cost v) run) in
+      let rest = sum (map (cost v) (put_together runs)) in
+      ap (raised a) (sum_by-cons (λ (k : ℕ). k) (number y) (map number ys))
+      ∙ sym (raised_again a (number y) (sum (map number ys)))
+      ∙ pieces_cost runs ys each.1 (raised a (number y))
+      ∙ raised_again a (number y) rest
+      ∙ ap (λ k. raised a (k + rest)) each.0.number_is
+      ∙ raised_zero a here rest
+      ∙ ap (raised a) (sym (ap sum (map-append (cost v) run (put_together runs))
+      ∙ sum_by-append (λ (k : ℕ). k) (map (cost v) run) (map (cost v) (put_together runs))))
+
+module _ {Y : Type 0} (pairs : Y → List Pair) (number : Y → ℕ) (o : Option Tree) (bodies fats : List (Option Bounds)) (numbers : List ℕ) (marks : List Bool)
+    (kept : List Pair) (s : Sound o bodies fats numbers marks kept) (v : Boxes) (looked : ℕ) (view : seen o bodies fats marks looked ≡ v) where
+  -- what the pieces of the shared slots find renews the pairs
+  pub pieces_renewed : ReachLaw → RenewingLaw → TouchedLaw → (ys : List Y) → InRuns (λ run y. Finds v run (pairs y) (number y)) (shared_slots v) ys
+      → (before found : List Pair) → before ≡ [] → found ≡ before ++ put_together (map pairs ys) → Renewed (map_of bodies) marks kept found
+  pieces_renewed law renewing touched ys runs before found en e =
+      let slots = shared_from o bodies marks in
+      let m = map_of bodies in
+      let r = renewed_of o bodies fats numbers marks kept s law renewing slots (shared_marked o bodies fats numbers marks kept s) kept s.kept_are in
+      record {
+        kept_is = r.kept_is;
+        found_is = λ p. ap (λ ps. has_pair ps p) (e ∙ ap (λ ps. ps ++ put_together (map pairs ys)) en)
+            ∙ pieces_found pairs number v runs.runs ys runs.each p
+            ∙ ap (λ l. is_near v.bodies p && (has_slot l p.a || has_slot l p.b))
+            (runs.whole ∙ sym (shared_viewed o bodies fats numbers marks kept s v looked view) ∙ sym (searched_slots bodies o slots))
+            ∙ sym (ap (λ (b : Boxes). is_near b.bodies p && (has_slot (map (λ (r : ℕ × List ℕ). r.0) (searches bodies o slots)) p.a
+            || has_slot (map (λ (r : ℕ × List ℕ). r.0) (searches bodies o slots)) p.b)) view)
+            ∙ sym (touched m (searches bodies o slots) (all_reached o bodies fats numbers marks kept s law slots) p)
+            ∙ r.found_is p;
+      }
+
+  -- and they cost what all searches cost
+  pub pieces_counted : (ys : List Y) → InRuns (λ run y. Finds v run (pairs y) (number y)) (shared_slots v) ys → (n : ℕ)
+      → n ≡ raised looked (sum (map number ys))
+      → n ≡ raised v.looked (sum (map (cost v) (sought v)))
+  pieces_counted ys runs n e =
+      e ∙ pieces_cost pairs number v runs.runs ys runs.each looked
+      ∙ ap (λ l. raised looked (sum (map (cost v) l))) runs.whole
+      ∙ ap (raised looked) (cost_shared o bodies fats numbers marks kept s v looked view)
+      ∙ ap (λ (b : Boxes). raised b.looked (sum (map (cost v) (sought v)))) view

@@ -1,0 +1,26 @@
+-- Searches for the boxes of slots are those for the slots.
+use Rattle.std.proofs.Common.{◌≡◌, ◌++◌, ◌∙◌, List, [], ap, sym, subst}
+use Rattle.fixed_box.specs.Bounds.{Bounds}
+use Rattle.box_tree.specs.Boxes.{raised}
+use Rattle.box_tree.specs.Descent.{exact_in}
+use Rattle.box_tree.specs.Group.{crossed, all_visits_in, Adds}
+use Rattle.box_tree.specs.Searches.{boxed}
+use Rattle.box_tree.proofs.TouchedPairs.{crossed_boxed, visits_boxed}
+use Rattle.box_tree.proofs.touched.search_run.Goals as goal
+
+pub returns-clause-ok : goal.returns-clause-ok
+returns-clause-ok c =
+    let bs = c.args.bodies.now in
+    subst (Adds c.args.found.now.items c.search_groups.new.found.items)
+    (ap (crossed (exact_in bs c.args.nodes.now))
+    (c.deref.ensures.value ∙ c.in_ok-push_boxes.ensures ∙ ap (λ es. es ++ boxed bs c.args.slots.now) c.clear.ensures.items)
+    ∙ crossed_boxed bs c.args.nodes.now c.args.slots.now)
+    c.in_ok-number-2.ensures.ok
+
+pub returns-clause-count : goal.returns-clause-count
+returns-clause-count c =
+    let bs = c.args.bodies.now in
+    c.in_ok-number-2.ensures.count
+    ∙ ap (λ es. raised c.args.looked (all_visits_in c.args.nodes.now es))
+    (c.deref.ensures.value ∙ c.in_ok-push_boxes.ensures ∙ ap (λ es. es ++ boxed bs c.args.slots.now) c.clear.ensures.items)
+    ∙ ap (raised c.args.looked) (visits_boxed bs c.args.nodes.now c.args.slots.now)
