@@ -61,9 +61,16 @@ form : (a b c d e f g h word : ℕ) → AreBytes a b c d e f g h → word ≡ wo
     → (bit_and a 240 ≡ 48) × (bit_and b 240 ≡ 48) × (bit_and c 255 ≡ 46) × (bit_and d 240 ≡ 48) × (bit_and e 240 ≡ 48) × (bit_and f 240 ≡ 48)
     × (bit_and g 240 ≡ 48) × (bit_and h 240 ≡ 48)
 form a b c d e f g h word bytes is test =
-    same_bytes _ _ _ _ _ _ _ _ 48 48 46 48 48 48 48 48
-    (below_mask a 240 (omega arith), below_mask b 240 (omega arith), below_mask c 255 (omega arith), below_mask d 240 (omega arith),
-      below_mask e 240 (omega arith), below_mask f 240 (omega arith), below_mask g 240 (omega arith), below_mask h 240 (omega arith))
+    same_bytes _ _ _ _ _ _ _ _ 48 48 46 48 48 48 48 48 (
+      below_mask a 240 (omega arith),
+      below_mask b 240 (omega arith),
+      below_mask c 255 (omega arith),
+      below_mask d 240 (omega arith),
+      below_mask e 240 (omega arith),
+      below_mask f 240 (omega arith),
+      below_mask g 240 (omega arith),
+      below_mask h 240 (omega arith),
+    )
     (omega arith, omega arith, omega arith, omega arith, omega arith, omega arith, omega arith, omega arith)
     (sym (and_bytes a b c d e f g h 240 240 255 240 240 240 240 240 bytes
     (omega arith, omega arith, omega arith, omega arith, omega arith, omega arith, omega arith, omega arith))
@@ -78,9 +85,17 @@ values a b c d e f g h word bytes is test =
     ap (λ w. bit_and w 0x0F0F0F0F0F000F0F) is
     ∙ and_bytes a b c d e f g h 15 15 0 15 15 15 15 15 bytes
     (omega arith, omega arith, omega arith, omega arith, omega arith, omega arith, omega arith, omega arith)
-    ∙ omega (arith, none, (high_three a bytes.0 fs.0).2, (high_three b bytes.1 fs.1).2, (high_three d bytes.3 fs.3).2,
-      (high_three e bytes.4 fs.4).2, (high_three f bytes.5 fs.5).2,
-      (high_three g bytes.6 fs.6).2, (high_three h bytes.7 fs.7).2)
+    ∙ omega (
+      arith,
+      none,
+      (high_three a bytes.0 fs.0).2,
+      (high_three b bytes.1 fs.1).2,
+      (high_three d bytes.3 fs.3).2,
+      (high_three e bytes.4 fs.4).2,
+      (high_three f bytes.5 fs.5).2,
+      (high_three g bytes.6 fs.6).2,
+      (high_three h bytes.7 fs.7).2,
+    )
 
 -- none of them is above nine
 few : (a b d e f g h word : ℕ) → (a < 16) × (b < 16) × (d < 16) × (e < 16) × (f < 16) × (g < 16) × (h < 16) → word ≡ word_of a b 0 d e f g h
@@ -88,9 +103,16 @@ few : (a b d e f g h word : ℕ) → (a < 16) × (b < 16) × (d < 16) × (e < 16
     → (a ≤ 9) × (b ≤ 9) × (d ≤ 9) × (e ≤ 9) × (f ≤ 9) × (g ≤ 9) × (h ≤ 9)
 few a b d e f g h word small is test =
     let more : word + 0x0606060606000606 ≡ word_of (a + 6) (b + 6) 0 (d + 6) (e + 6) (f + 6) (g + 6) (h + 6) = omega arith in
-    let fs = same_bytes _ _ _ _ _ _ _ _ 0 0 0 0 0 0 0 0
-    (below_mask (a + 6) 240 (omega arith), below_mask (b + 6) 240 (omega arith), below_mask 0 255 (omega arith), below_mask (d + 6) 240 (omega arith),
-      below_mask (e + 6) 240 (omega arith), below_mask (f + 6) 240 (omega arith), below_mask (g + 6) 240 (omega arith), below_mask (h + 6) 240 (omega arith))
+    let fs = same_bytes _ _ _ _ _ _ _ _ 0 0 0 0 0 0 0 0 (
+      below_mask (a + 6) 240 (omega arith),
+      below_mask (b + 6) 240 (omega arith),
+      below_mask 0 255 (omega arith),
+      below_mask (d + 6) 240 (omega arith),
+      below_mask (e + 6) 240 (omega arith),
+      below_mask (f + 6) 240 (omega arith),
+      below_mask (g + 6) 240 (omega arith),
+      below_mask (h + 6) 240 (omega arith),
+    )
     (omega arith, omega arith, omega arith, omega arith, omega arith, omega arith, omega arith, omega arith)
     (sym (and_bytes (a + 6) (b + 6) 0 (d + 6) (e + 6) (f + 6) (g + 6) (h + 6) 240 240 255 240 240 240 240 240
     (omega arith, omega arith, omega arith, omega arith, omega arith, omega arith, omega arith, omega arith)
@@ -141,8 +163,8 @@ five_value : (d e f g h : ℕ) → is_ascii_digit d ≡ true → is_ascii_digit 
     → (d - 48) * 10000 + (10 * (e - 48) + (f - 48)) * 100 + (10 * (g - 48) + (h - 48)) ≡ digits_value 10 (d ∷ e ∷ f ∷ g ∷ h ∷ [])
 five_value d e f g h dd de df dg dh =
     let is : (d - 48) * 10000 + (10 * (e - 48) + (f - 48)) * 100 + (10 * (g - 48) + (h - 48))
-        ≡ ((((0 * 10 + digit_value d) * 10 + digit_value e) * 10 + digit_value f) * 10 + digit_value g) * 10 + digit_value h =
-        omega (arith, digit_value_is d dd, digit_value_is e de, digit_value_is f df, digit_value_is g dg, digit_value_is h dh) in is
+    ≡ ((((0 * 10 + digit_value d) * 10 + digit_value e) * 10 + digit_value f) * 10 + digit_value g) * 10 + digit_value h =
+    omega (arith, digit_value_is d dd, digit_value_is e de, digit_value_is f df, digit_value_is g dg, digit_value_is h dh) in is
 
 abbrev raw_of : ℕ → ℕ → ℕ
 raw_of whole fraction = whole * 65536 + (fraction * 131072 + 100000) / 200000
@@ -164,7 +186,7 @@ printed_word a b c d e f g h word bytes is test tested =
     let v = bit_and word 0x0F0F0F0F0F000F0F in
     let vs = values a b c d e f g h word bytes is test in
     let ns = few (a - 48) (b - 48) (d - 48) (e - 48) (f - 48) (g - 48) (h - 48) v
-        (omega (arith, ha.1), omega (arith, hb.1), omega (arith, hd.1), omega (arith, he.1), omega (arith, hf.1), omega (arith, hg.1), omega (arith, hh.1)) vs tested in
+    (omega (arith, ha.1), omega (arith, hb.1), omega (arith, hd.1), omega (arith, he.1), omega (arith, hf.1), omega (arith, hg.1), omega (arith, hh.1)) vs tested in
     let da = digit_is a ha.0 ns.0 in
     let db = digit_is b hb.0 ns.1 in
     let dd = digit_is d hd.0 ns.2 in
@@ -174,16 +196,16 @@ printed_word a b c d e f g h word bytes is test tested =
     let dh = digit_is h hh.0 ns.6 in
     let ps = pairs_are (a - 48) (b - 48) (d - 48) (e - 48) (f - 48) (g - 48) (h - 48) v ns vs in
     let bs : AreBytes (10 * (a - 48) + (b - 48)) (10 * (b - 48)) (d - 48) (10 * (d - 48) + (e - 48)) (10 * (e - 48) + (f - 48)) (10 * (f - 48) + (g - 48))
-        (10 * (g - 48) + (h - 48)) (10 * (h - 48)) =
-        (omega (arith, ns), omega (arith, ns), omega (arith, ns), omega (arith, ns), omega (arith, ns), omega (arith, ns), omega (arith, ns), omega (arith, ns)) in
+    (10 * (g - 48) + (h - 48)) (10 * (h - 48)) =
+    (omega (arith, ns), omega (arith, ns), omega (arith, ns), omega (arith, ns), omega (arith, ns), omega (arith, ns), omega (arith, ns), omega (arith, ns)) in
     let whole : pairs v % 256 ≡ digits_value 10 (a ∷ b ∷ []) = byte_zero _ _ _ _ _ _ _ _ (pairs v) bs ps ∙ two_value a b da db in
     let fraction : pairs v / 65536 % 256 * 10000 + pairs v / 4294967296 % 256 * 100 + pairs v / 281474976710656 % 256 ≡ digits_value 10 (d ∷ e ∷ f ∷ g ∷ h ∷ []) =
-        ap (λ n. n * 10000 + pairs v / 4294967296 % 256 * 100 + pairs v / 281474976710656 % 256) (byte_two _ _ _ _ _ _ _ _ (pairs v) bs ps)
-        ∙ ap (λ n. (d - 48) * 10000 + n * 100 + pairs v / 281474976710656 % 256) (byte_four _ _ _ _ _ _ _ _ (pairs v) bs ps)
-        ∙ ap (λ n. (d - 48) * 10000 + (10 * (e - 48) + (f - 48)) * 100 + n) (byte_six _ _ _ _ _ _ _ _ (pairs v) bs ps)
-        ∙ five_value d e f g h dd de df dg dh in
+    ap (λ n. n * 10000 + pairs v / 4294967296 % 256 * 100 + pairs v / 281474976710656 % 256) (byte_two _ _ _ _ _ _ _ _ (pairs v) bs ps)
+    ∙ ap (λ n. (d - 48) * 10000 + n * 100 + pairs v / 281474976710656 % 256) (byte_four _ _ _ _ _ _ _ _ (pairs v) bs ps)
+    ∙ ap (λ n. (d - 48) * 10000 + (10 * (e - 48) + (f - 48)) * 100 + n) (byte_six _ _ _ _ _ _ _ _ (pairs v) bs ps)
+    ∙ five_value d e f g h dd de df dg dh in
     let value = ap (λ n. raw_of n (pairs v / 65536 % 256 * 10000 + pairs v / 4294967296 % 256 * 100 + pairs v / 281474976710656 % 256)) whole
-        ∙ ap (raw_of (digits_value 10 (a ∷ b ∷ []))) fraction in
+    ∙ ap (raw_of (digits_value 10 (a ∷ b ∷ []))) fraction in
     let most : digits_value 10 (a ∷ b ∷ []) ≤ 99 = omega (arith, ns, two_value a b da db) in
     let most_f : digits_value 10 (d ∷ e ∷ f ∷ g ∷ h ∷ []) ≤ 99999 = omega (arith, ns, five_value d e f g h dd de df dg dh) in
     record {
@@ -240,8 +262,8 @@ three_places text m inside digit p =
     let b = get_or text 1 0 in
     let c = get_or text 2 0 in
     let worth : (a - 48) * 100 + digits_value 10 (b ∷ c ∷ []) ≡ digits_value 10 (a ∷ b ∷ c ∷ []) =
-        (let e : (a - 48) * 100 + ((0 * 10 + digit_value b) * 10 + digit_value c) ≡ ((0 * 10 + digit_value a) * 10 + digit_value b) * 10 + digit_value c =
-        omega (arith, digit_value_is a digit) in e) in
+    (let e : (a - 48) * 100 + ((0 * 10 + digit_value b) * 10 + digit_value c) ≡ ((0 * 10 + digit_value a) * 10 + digit_value b) * 10 + digit_value c =
+    omega (arith, digit_value_is a digit) in e) in
     printed_text text (bytes_from text 0 3) (bytes_from text 4 5) ((a - 48) * 6553600 + m) 9
     (front_bytes 9 text inside ∙ ap (λ point. a ∷ b ∷ c ∷ point ∷ bytes_from text 4 5) p.point) inside (omega arith) (omega arith)
     (one_more a (b ∷ c ∷ []) digit p.whole) refl p.fraction
@@ -258,9 +280,9 @@ four_places text m inside digit digit_b p =
     let d = get_or text 3 0 in
     let front = (a - 48) * 10 + (b - 48) in
     let worth : front * 100 + digits_value 10 (c ∷ d ∷ []) ≡ digits_value 10 (a ∷ b ∷ c ∷ d ∷ []) =
-        (let e : front * 100 + ((0 * 10 + digit_value c) * 10 + digit_value d)
-            ≡ (((0 * 10 + digit_value a) * 10 + digit_value b) * 10 + digit_value c) * 10 + digit_value d =
-        omega (arith, digit_value_is a digit, digit_value_is b digit_b) in e) in
+    (let e : front * 100 + ((0 * 10 + digit_value c) * 10 + digit_value d)
+    ≡ (((0 * 10 + digit_value a) * 10 + digit_value b) * 10 + digit_value c) * 10 + digit_value d =
+    omega (arith, digit_value_is a digit, digit_value_is b digit_b) in e) in
     printed_text text (bytes_from text 0 4) (bytes_from text 5 5) (front * 6553600 + m) 10
     (front_bytes 10 text inside ∙ ap (λ point. a ∷ b ∷ c ∷ d ∷ point ∷ bytes_from text 5 5) p.point) inside (omega arith) (omega arith)
     (one_more a (b ∷ c ∷ d ∷ []) digit (one_more b (c ∷ d ∷ []) digit_b p.whole)) refl p.fraction

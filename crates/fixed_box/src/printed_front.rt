@@ -1,4 +1,4 @@
-ghost use Rattle.std.specs.Prelude.{◌≡◌, ℕ, ◌<◌, ◌≤◌, ◌*◌, ◌+◌, ◌/◌, Ok, All, length, take, IfSome};
+ghost use Rattle.std.specs.Prelude.{◌≡◌, ℕ, ◌<◌, ◌≤◌, ◌*◌, ◌+◌, ◌/◌, Ok, All, length, take, slice_index, IfSome};
 ghost use Rattle.fixed_box.specs.Fix.{fix};
 ghost use Rattle.fixed_box.specs.Fronts.{IsMagnitude, IsPrinted, word_of};
 
@@ -46,10 +46,7 @@ pub fn printed_fix_ahead(text: &[u8]) -> Option<(Fix, usize)>
 fn printed_magnitude(text: &[u8]) -> Option<(u32, usize)>
     ensures { IfSome result (λ found. IsMagnitude text.now found.0 found.1) }
 {
-    let [a, b, c, d, e, f, g, h, ..] = text else {
-        return None;
-    };
-    let word = u64::from_le_bytes([*a, *b, *c, *d, *e, *f, *g, *h]);
+    let word = word_ahead(text)?;
     if let Some(magnitude) = magnitude_of_word(word) {
         return Some((magnitude, 8));
     }
@@ -101,6 +98,22 @@ fn thousands(text: &[u8]) -> Option<(u32, usize)>
     Some((front * HUNDRED + magnitude, 10))
 }
 
+// The word of the first eight bytes.
+#[inline(always)]
+fn word_ahead(text: &[u8]) -> Option<u64>
+    ensures within { IfSome result (λ _. 8 ≤ length text.now) }
+    ensures word { IfSome result (λ word. word ≡ word_of (slice_index text.now 0) (slice_index text.now 1) (slice_index text.now 2)
+        (slice_index text.now 3) (slice_index text.now 4) (slice_index text.now 5) (slice_index text.now 6) (slice_index text.now 7)) }
+{
+    if text.len() < 8 {
+        return None;
+    }
+    match <[u8; 8]>::try_from(text.split_at(8).0) {
+        Ok(bytes) => Some(u64::from_le_bytes(bytes)),
+        Err(_) => None,
+    }
+}
+
 // The word of a zero and the first seven of eight bytes.
 #[inline(always)]
 fn behind_zero(word: u64) -> u64
@@ -121,7 +134,9 @@ fn magnitude_of_word(word: u64) -> Option<u32>
         return None;
     }
     let pairs = 10 * values + values / 256;
-    let fraction = pairs / 65_536 % 256 * 10_000 + pairs / 4_294_967_296 % 256 * 100 + pairs / 281_474_976_710_656 % 256;
+    let fraction = pairs / 65_536 % 256 * 10_000
+        + pairs / 4_294_967_296 % 256 * 100
+        + pairs / 281_474_976_710_656 % 256;
     let raw = pairs % 256 * 65_536 + (fraction * 131_072 + 100_000) / 200_000;
     Some(raw as u32)
 }

@@ -10,7 +10,7 @@ ghost use Rattle.scene_words.specs.Verbs.{allows};
 
 use crate::Command;
 use crate::front_fields::{
-    handle_ahead, is_done, mask_ahead, mask_or_ahead, past_blanks, past_word, point_ahead,
+    handle_ahead, is_done, mask_ahead, mask_or_ahead, past_word, point_ahead,
 };
 use crate::line_commands::{EVERY_GROUP, FIRST_GROUP};
 use fixed_box::FBox;
@@ -122,7 +122,7 @@ fn new_masks_ahead(line: &[u8]) -> Option<Command>
 {
     let line = past_word(line)?;
     let (handle, line) = handle_ahead(line)?;
-    let (is, line) = mask_ahead(past_blanks(line))?;
+    let (is, line) = mask_ahead(line)?;
     let (sees, line) = mask_ahead(line)?;
     if !is_done(line) {
         return None;

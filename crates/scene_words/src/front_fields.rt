@@ -39,7 +39,7 @@ fn number_ahead(line: &[u8]) -> Option<(Fix, &[u8])>
     other_number(line)
 }
 
-// A number in the form in which most are printed.
+// A number in the form in which most are printed, with one space behind it or none.
 #[inline(always)]
 fn printed_number(line: &[u8]) -> Option<(Fix, &[u8])>
     ensures { IfSome result (λ found. Leads number_at 1 line.now found.0 found.1.now) }
@@ -49,7 +49,7 @@ fn printed_number(line: &[u8]) -> Option<(Fix, &[u8])>
     Some((number, rest))
 }
 
-// A number of another form, or behind blanks. It is less common, so that its code stays out of the way.
+// A number of another form, or between other blanks. It is less common, so that its code stays out of the way.
 #[inline(never)]
 fn other_number(line: &[u8]) -> Option<(Fix, &[u8])>
     ensures { IfSome result (λ found. Leads number_at 1 line.now found.0 found.1.now) }
@@ -96,7 +96,7 @@ pub(crate) fn handle_ahead(line: &[u8]) -> Option<(Handle, &[u8])>
     if slot_len == 0 || len == 0 || slot > LARGEST || generation > LARGEST {
         return None;
     }
-    let rest = past_space(digits.split_at(len).1)?;
+    let rest = past_word(digits.split_at(len).1)?;
     let handle = Handle {
         slot: slot as u32,
         generation: generation as u32,
@@ -156,16 +156,16 @@ pub(crate) fn is_done(line: &[u8]) -> bool
     matches!(past_blanks(line), [] | [b'#', ..])
 }
 
-// The line behind the space that ends a word at its front. Further blanks stay. Where something else ends the word, the
-// line from the next word on.
+// The line behind the space that ends a word at its front, or a line that ends there. Further blanks stay.
 #[inline(always)]
 fn past_space(line: &[u8]) -> Option<&[u8]>
     ensures words { IfSome result (λ rest. words rest.now ≡ words line.now) }
     ensures end { IfSome result (λ _. prefix_len in_word line.now ≡ 0) }
 {
     match line {
+        [] => Some(line),
         [b' ', rest @ ..] => Some(rest),
-        _ => past_word(line),
+        _ => None,
     }
 }
 
@@ -185,7 +185,7 @@ pub(crate) fn past_word(line: &[u8]) -> Option<&[u8]>
 
 // The line behind the blanks at its front, of which there are mostly none.
 #[inline(always)]
-pub(crate) fn past_blanks(line: &[u8]) -> &[u8]
+fn past_blanks(line: &[u8]) -> &[u8]
     ensures { words result.now ≡ words line.now }
 {
     match line {

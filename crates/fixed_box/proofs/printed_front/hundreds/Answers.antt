@@ -12,10 +12,10 @@ others : (c : goal.After-from) → let text = c.args.text.now in
 others c =
     let text = c.args.text.now in
     let bytes : AreBytes (get_or text 1 0) (get_or text 2 0) (get_or text 3 0) (get_or text 4 0) (get_or text 5 0) (get_or text 6 0) (get_or text 7 0)
-        (get_or text 8 0) = search rules in
+    (get_or text 8 0) = search rules in
     let is : c.from_le_bytes.result ≡ word_of (get_or text 1 0) (get_or text 2 0) (get_or text 3 0) (get_or text 4 0) (get_or text 5 0) (get_or text 6 0)
-        (get_or text 7 0) (get_or text 8 0) =
-        omega (arith, c.from_le_bytes.ensures) in
+    (get_or text 7 0) (get_or text 8 0) =
+    omega (arith, c.from_le_bytes.ensures) in
     c.in_ok-magnitude.ensures _ _ _ _ _ _ _ _ bytes is
 
 digit : (c : goal.After-from) → is_ascii_digit (get_or c.args.text.now 0 0) ≡ true
