@@ -1,5 +1,5 @@
 -- The node is taken out and put where it belongs.
-use Rattle.std.proofs.Common.{◌≡◌, ◌++◌, ◌∷◌, [], false, ap, ◌∙◌, sym, subst}
+use Rattle.std.proofs.Common.{ap, ◌∙◌, subst}
 use Rattle.endpoint_list.specs.NodeList.{has, IsDistinct}
 use Rattle.sweep_prune.proofs.NodeLists.{distinct_without}
 use Rattle.sweep_prune.proofs.lists.carry.Goals as goal
