@@ -23,7 +23,7 @@ use Rattle.tree_nodes.specs.Tree.{Tree, Leaf, tip, fork, top, leaves, height, bo
 use Rattle.tree_nodes.specs.Tree.{Balanced, IsRefitted, IsTreeIn, Within}
 use Rattle.box_tree.specs.Boxes.{marked_slots, raised}
 use Rattle.box_tree.specs.Descent.{entry_of, exact, exact_in, IsInside, IsInsideIn, IsLeafInside}
-use Rattle.box_tree.specs.Group.{touched_of, others_met, crossed, below, all_below, all_visits_in, picked, Adds, IsShown, IsBelow, BoxLaws, OpenedAs}
+use Rattle.box_tree.specs.Group.{others_met, crossed, below, all_below, all_visits_in, picked, Adds, IsShown, IsBelow, BoxLaws, OpenedAs}
 use Rattle.box_tree.proofs.Descents.{exact_append}
 use Rattle.box_tree.proofs.Counts.{raised_again}
 use Rattle.box_tree.proofs.CrossedPairs.{crossed_append, crossed_either, has_append}

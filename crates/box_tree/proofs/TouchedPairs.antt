@@ -9,7 +9,7 @@ use Rattle.std.proofs.lemmas.Bool.{eq-eqb}
 use Rattle.fixed_box.specs.Bounds.{Bounds}
 use Rattle.fixed_box.specs.SlotMap.{map_of}
 use Rattle.broad_index.specs.declared.pair.Pair.{Pair}
-use Rattle.broad_index.specs.Members.{has_pair, has_slot}
+use Rattle.broad_index.specs.Members.{has_slot}
 use Rattle.broad_index.specs.Touched.{ordered_pairs, gathered_with, AreKept, AreMarked, Renewed}
 use Rattle.tree_nodes.specs.Tree.{Tree, Leaf, leaves}
 use Rattle.box_tree.specs.Descent.{entry_of, exact, exact_in}

@@ -1,5 +1,5 @@
 -- Many slots come in the order of their leaves.
-use Rattle.std.proofs.Common.{◌≡◌, ◌++◌, ◌≤◌, ◌∙◌, ap, sym, subst, length, arith}
+use Rattle.std.proofs.Common.{◌++◌, ◌≤◌, ◌∙◌, ap, sym, subst, length, arith}
 use Rattle.fixed_box.specs.declared.TheConstants.{SLOTS}
 use Rattle.tree_nodes.specs.Tree.{leaves, leaves_in}
 use Rattle.box_tree.specs.Boxes.{marked_slots}

@@ -1,6 +1,5 @@
 -- Searches for the boxes of slots are those for the slots.
-use Rattle.std.proofs.Common.{◌≡◌, ◌++◌, ◌∙◌, List, [], ap, sym, subst}
-use Rattle.fixed_box.specs.Bounds.{Bounds}
+use Rattle.std.proofs.Common.{◌++◌, ◌∙◌, ap, subst}
 use Rattle.box_tree.specs.Boxes.{raised}
 use Rattle.box_tree.specs.Descent.{exact_in}
 use Rattle.box_tree.specs.Group.{crossed, all_visits_in, Adds}

@@ -1,5 +1,5 @@
 -- In whichever order the touched slots come, the same pairs are found.
-use Rattle.std.proofs.Common.{◌∙◌, ap, sym, map, None, get_or}
+use Rattle.std.proofs.Common.{◌∙◌, ap, map, None, get_or}
 use Rattle.std.specs.List.{sum}
 use Rattle.box_tree.specs.Boxes.{raised, visits_for}
 use Rattle.box_tree.proofs.Searching.{all_inside}

@@ -1,5 +1,4 @@
 -- What the pieces found renews the pairs.
-use Rattle.std.proofs.Common.{◌∙◌, ap}
 use Rattle.fixed_box.specs.SlotMap.{map_of}
 use Rattle.box_tree.proofs.Searching.{sound_renewed, near_viewed, same_searched}
 use Rattle.box_tree.proofs.SharedSlots.{pieces_renewed, pieces_counted}
