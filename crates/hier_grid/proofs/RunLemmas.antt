@@ -1,5 +1,5 @@
 -- What searches of runs of slots find together.
-use Rattle.std.proofs.Common.{◌≡◌, ℕ, Bool, true, false, ◌||◌, ◌==◌, List, [], ◌∷◌, ◌++◌, map, refl, sym, ap, ◌∙◌, subst, inl, inr, is_some}
+use Rattle.std.proofs.Common.{◌≡◌, ℕ, Bool, true, false, ◌||◌, ◌==◌, List, [], ◌∷◌, ◌++◌, map, refl, sym, ap, ◌∙◌, inl, inr, is_some}
 use Rattle.std.proofs.Common.{◌-◌, ◌≤◌, ◌⊎◌, length, take, drop, get_or, arith}
 use Rattle.std.proofs.lemmas.Bool.{or_cases, false≢true}
 use Rattle.std.proofs.lemmas.Bool.Decides.{nat_tests}
@@ -9,7 +9,7 @@ use Rattle.std.specs.Ordering.{nat_cmp}
 use Rattle.std.specs.FinMap.{FinMap}
 use Rattle.fixed_box.specs.Bounds.{Bounds}
 use Rattle.work_pieces.specs.Each.{Each}
-use Rattle.work_pieces.specs.Runs.{InRuns, put_together}
+use Rattle.work_pieces.specs.Runs.{put_together}
 use Rattle.broad_index.specs.declared.pair.Pair.{Pair}
 use Rattle.broad_index.specs.Members.{has_pair, has_slot, is_near, same_pair}
 use Rattle.broad_index.specs.Touched.{ordered}

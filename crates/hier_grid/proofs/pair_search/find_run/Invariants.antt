@@ -1,7 +1,7 @@
 -- What is found is right, and each slot is among the rest or done.
 use Rattle.std.proofs.Common.{ℕ, ◌≡◌, ◌⊎◌, true, length}
 use Rattle.broad_index.specs.Members.{has_slot}
-use Rattle.hier_grid.specs.Search.{IsAbove, IsSound, FindsFor}
+use Rattle.hier_grid.specs.Search.{IsSound, FindsFor}
 use Rattle.hier_grid.proofs.pair_search.find_run.Given as goal
 
 abbrev pub invariant-slots : goal.invariant-slots

@@ -1,5 +1,5 @@
 -- All present slots are searched.
-use Rattle.std.proofs.Common.{◌≡◌, ◌++◌, subst, sym, ◌∙◌, ap}
+use Rattle.std.proofs.Common.{◌≡◌, ◌++◌, subst, ◌∙◌, ap}
 use Rattle.broad_index.specs.Near.{near}
 use Rattle.hier_grid.specs.Search.{FindsRun, present}
 use Rattle.hier_grid.proofs.RunLemmas.{present_found}
