@@ -17,6 +17,9 @@ const VALUE_BITS: u64 = 0x0F0F_0F0F_0F00_0F0F;
 // Added to values of four bits it carries out of those above nine.
 const ABOVE_NINE: u64 = 0x0606_0606_0600_0606;
 
+// A decimal point.
+const POINT: u64 = 0x2E;
+
 // A hundred in raw units.
 const HUNDRED: u32 = 6_553_600;
 
@@ -52,6 +55,9 @@ fn printed_magnitude(text: &[u8]) -> Option<(u32, usize)>
     }
     if let Some(magnitude) = magnitude_of_word(behind_zero(word)) {
         return Some((magnitude, 7));
+    }
+    if word / 0x100_0000 % 256 != POINT && word / 0x1_0000_0000 % 256 != POINT {
+        return None;
     }
     longer_magnitude(text)
 }

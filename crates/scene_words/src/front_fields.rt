@@ -39,7 +39,7 @@ fn number_ahead(line: &[u8]) -> Option<(Fix, &[u8])>
     other_number(line)
 }
 
-// A number in the form in which most are printed, with one space behind it or none.
+// A number in the form in which most are printed, with a blank behind it or none.
 #[inline(always)]
 fn printed_number(line: &[u8]) -> Option<(Fix, &[u8])>
     ensures { IfSome result (λ found. Leads number_at 1 line.now found.0 found.1.now) }
@@ -55,6 +55,11 @@ fn other_number(line: &[u8]) -> Option<(Fix, &[u8])>
     ensures { IfSome result (λ found. Leads number_at 1 line.now found.0 found.1.now) }
 {
     let text = past_blanks(line);
+    if text.len() < line.len()
+        && let Some((number, rest)) = printed_number(text)
+    {
+        return Some((number, rest));
+    }
     if let Some((number, rest)) = short_number(text) {
         return Some((number, rest));
     }
@@ -156,7 +161,7 @@ pub(crate) fn is_done(line: &[u8]) -> bool
     matches!(past_blanks(line), [] | [b'#', ..])
 }
 
-// The line behind the space that ends a word at its front, or a line that ends there. Further blanks stay.
+// The line behind the blank that ends a word at its front, or a line that ends there. Further blanks stay.
 #[inline(always)]
 fn past_space(line: &[u8]) -> Option<&[u8]>
     ensures words { IfSome result (λ rest. words rest.now ≡ words line.now) }
@@ -165,6 +170,7 @@ fn past_space(line: &[u8]) -> Option<&[u8]>
     match line {
         [] => Some(line),
         [b' ', rest @ ..] => Some(rest),
+        [b'\t', rest @ ..] => Some(rest),
         _ => None,
     }
 }

@@ -45,7 +45,7 @@ fn lines_read_as_commands(rt: HostRuntime) -> Result<(), Fail> {
         generation: 4294967295,
     };
     let version = Version::One;
-    let cases: [(&[u8], Result<Command, LineFault>); 30] = [
+    let cases: [(&[u8], Result<Command, LineFault>); 31] = [
         (b"", Ok(Command::Blank)),
         (b" \t # scene 1", Ok(Command::Blank)),
         (b"scene 1", Ok(Command::Header { version })),
@@ -87,6 +87,15 @@ fn lines_read_as_commands(rt: HostRuntime) -> Result<(), Fail> {
         ),
         (
             b"move  7:0\t0 0.0  0.000000000 1.000000 \t2.00001 3.000000001# 4",
+            Ok(Command::Move {
+                handle: first,
+                body: FBox::new(origin, at(ONE, 2 * ONE + 1, 3 * ONE)).ok_or(
+                    "the corners are inverted",
+                )?,
+            }),
+        ),
+        (
+            b"move 7:0 0.00000  0.00000\t-0.00000 1.00000 \t2.00001 3.00000\t#",
             Ok(Command::Move {
                 handle: first,
                 body: FBox::new(origin, at(ONE, 2 * ONE + 1, 3 * ONE)).ok_or(

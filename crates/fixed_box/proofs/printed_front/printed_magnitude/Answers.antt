@@ -1,5 +1,5 @@
 -- The word of the first eight bytes is that of the magnitude, or its first seven bytes stand behind a zero.
-use Rattle.std.proofs.Common.{◌<◌, get_or, arith, rules}
+use Rattle.std.proofs.Common.{get_or, arith, rules}
 use Rattle.fixed_box.proofs.PrintedWords.{AreBytes, two_places, one_place}
 use Rattle.fixed_box.proofs.printed_front.printed_magnitude.Goals as goal
 
