@@ -1,5 +1,5 @@
 ghost use Rattle.std.specs.Prelude.{◌≡◌, ◌++◌, ◌==◌, ◌&&◌, ◌||◌, not, nat_lt, filter, OnOk};
-ghost use Rattle.broad_index.specs.Touched.{ordered, ordered_pairs};
+ghost use Rattle.broad_index.specs.Touched.{ordered_pairs};
 ghost use Rattle.hier_grid.specs.Search.{is_partner};
 
 use crate::slot_boxes::SlotBoxes;
@@ -47,22 +47,11 @@ pub(crate) fn push_pairs(
     let mut rest = slots;
     'slots: while let [other, more @ ..] = rest {
         if is_partner(boxes, slot, body, any, *other) {
-            out.push(ordered(slot, *other))?;
+            out.push(Pair::ordered(slot, *other))?;
         }
         rest = more;
     }
     Ok(())
-}
-
-// Two slots, the lower one first.
-fn ordered(slot: u32, other: u32) -> Pair
-    ensures { result ≡ ordered slot other }
-{
-    if slot < other {
-        Pair { a: slot, b: other }
-    } else {
-        Pair { a: other, b: slot }
-    }
 }
 
 // Whether another slot is a partner. No branch is taken on which slots may be partners, since that is past telling
