@@ -1,15 +1,13 @@
 -- Lists cut into pieces, and their answers put together again.
-use Rattle.std.proofs.Common.{◌≡◌, ℕ, zero, suc, take, drop, ◌+◌, ◌*◌, ◌/◌, ◌%◌, min, ◌<◌, ◌≤◌, List, [], ◌∷◌, ◌++◌, length, get_or, All, map, Result, Ok, IfOk}
-use Rattle.std.proofs.Common.{refl, sym, ap, ◌∙◌, subst, arith, length-append, append-nil, append_assoc, mul_comm, mul-add, mul-one}
-use Rattle.std.proofs.Math.Seq.{take-add}
-use Rattle.std.proofs.Math.Nat.{div-add-mod}
-use Rattle.std.proofs.lemmas.List.{map-append, take-append-drop, take_all, get_or_at, length_push}
+use Rattle.std.proofs.Common.{◌≡◌, ℕ, suc, take, drop, ◌<◌, List, [], ◌∷◌, ◌++◌, length, get_or, All, map, Result, Ok, IfOk}
+use Rattle.std.proofs.Common.{refl, sym, ap, ◌∙◌, subst, arith, length-append, append-nil, append_assoc}
+use Rattle.std.proofs.lemmas.List.{map-append, take-append-drop, get_or_at, length_push}
 use Rattle.std.specs.Fork.{slice_chunk, IsChunk}
 use denote.Ref.{Bor}
 use denote.Param.Members.{Shared}
 use Rattle.work_pieces.specs.Each.{Each, Accepts, AcceptsAll}
-use Rattle.work_pieces.specs.Runs.{AcceptsRuns, InRuns, put_together}
-use Rattle.work_pieces.specs.RunLaws.{All-run}
+use Rattle.work_pieces.specs.Runs.{AcceptsRuns, InRuns, chunks_to, put_together}
+use Rattle.work_pieces.specs.RunLaws.{All-run, put-push}
 
 pub Each-append : {X Y : Type 0} (P : X → Y → Type 0) (xs us : List X) (ys vs : List Y) → Each P xs ys → Each P us vs → Each P (xs ++ us) (ys ++ vs)
 Each-append P [] us [] vs h more = more
@@ -37,61 +35,31 @@ pub all_done : {X Y : Type 0} (P : X → Y → Type 0) (all rest : List X) (ys :
 all_done P all [] ys none so = subst (λ l. Each P all l) (append-nil ys) (so [] tt)
 all_done P all (x ∷ rest) ys none so = absurd (omega (arith, none))
 
-put-push : {X : Type 0} (runs : List (List X)) (run : List X) → put_together (runs ++ run ∷ []) ≡ put_together runs ++ run
-put-push [] run = append-nil run
-put-push (first ∷ runs) run = ap (λ l. first ++ l) (put-push runs run) ∙ sym (append_assoc first (put_together runs) run)
-
--- one more piece is answered
-one_more : {X Y : Type 0} (P : List X → Y → Type 0) (size k m : ℕ) (xs : List X) (ys : List Y) (y : Y)
-    → m ≡ k + 1 → InRuns P (take (size * k) xs) ys → P (slice_chunk xs size k) y → InRuns P (take (size * m) xs) (ys ++ y ∷ [])
-one_more P size k m xs ys y e h p =
-    let e' : size * m ≡ k * size + size = rw (e, mul-add, mul-one, mul_comm size k) refl in
-    let cut : take (size * m) xs ≡ take (k * size) xs ++ slice_chunk xs size k = rw e' (take-add (k * size) size xs) in
-    let before : take (size * k) xs ≡ take (k * size) xs = ap (λ n. take n xs) (mul_comm size k) in
-    record {
-      runs = h.runs ++ slice_chunk xs size k ∷ [];
-      whole = put-push h.runs (slice_chunk xs size k) ∙ ap (λ l. l ++ slice_chunk xs size k) (h.whole ∙ before) ∙ sym cut;
-      each = Each-append P h.runs (slice_chunk xs size k ∷ []) ys (y ∷ []) h.each (p, tt);
-    }
-
-covers_case : (q size r n : ℕ) → size * q + r ≡ n → r < size → n ≤ size * (q + min 1 r)
-covers_case q size zero n h l = let w : size * (q + min 1 zero) ≡ size * q + size * min 1 zero = mul-add size q (min 1 zero) in omega arith
-covers_case q size (suc r) n h l =
-    let o : min 1 (suc r) ≡ 1 = grind arith in
-    let w : size * (q + min 1 (suc r)) ≡ size * q + size = rw (o, mul-add, mul-one) refl in
-    omega arith
-
--- all pieces together have all
-pub covers : (n size : ℕ) → 0 < size → n ≤ size * (n / size + min 1 (n % size))
-covers n size pos =
-    let l : n % size < size = omega arith in
-    covers_case (n / size) size (n % size) n (div-add-mod n size) l
-
 -- a piece is taken, and its answer is put behind
 pub step : {X Y E : Type 0} (P : List X → Y → Type 0) (size : ℕ) (xs : List X)
     (ps before left rest : List (Result Y E)) (r : Result Y E) (p : Y) (ys new : List Y)
     → before ++ left ≡ ps → left ≡ r ∷ rest → r ≡ Ok p
     → ((n : ℕ) (d : Result Y E) → n < length ps → IfOk (get_or ps n d) (λ y. P (slice_chunk xs size n) y))
-    → InRuns P (take (size * length before) xs) ys
+    → Each P (chunks_to size xs (length before)) ys
     → new ≡ ys ++ p ∷ []
-    → InRuns P (take (size * length (before ++ r ∷ [])) xs) new × ((before ++ r ∷ []) ++ rest ≡ ps)
+    → Each P (chunks_to size xs (length (before ++ r ∷ []))) new × ((before ++ r ∷ []) ++ rest ≡ ps)
 step {X} {Y} {E} P size xs ps before left rest r p ys new split next ok each so grows =
     let whole : before ++ r ∷ rest ≡ ps = rw (← next) split in
     let short : length before < length ps = omega (arith, ap length whole, length-append before (r ∷ rest)) in
     let at : get_or ps (length before) r ≡ r = rw (← whole) (get_or_at before r rest r (length before) refl) in
     let here : IfOk {T = Y} {E = E} (Ok p) (λ y. P (slice_chunk xs size (length before)) y) =
     subst (λ q. IfOk q (λ y. P (slice_chunk xs size (length before)) y)) (at ∙ ok) (each (length before) r short) in
-    let longer = one_more P size (length before) (length (before ++ r ∷ [])) xs ys p (length_push before r) so here in
-    (subst (λ l. InRuns P (take (size * length (before ++ r ∷ [])) xs) l) (sym grows) longer, rw append_assoc whole)
+    let count : length (before ++ r ∷ []) ≡ suc (length before) = length_push before r ∙ omega arith in
+    let longer : Each P (chunks_to size xs (suc (length before))) (ys ++ p ∷ []) =
+    Each-append P (chunks_to size xs (length before)) (slice_chunk xs size (length before) ∷ []) ys (p ∷ []) so (here, tt) in
+    (subst (λ n. Each P (chunks_to size xs n) new) (sym count) (subst (λ l. Each P (chunks_to size xs (suc (length before))) l) (sym grows) longer), rw append_assoc whole)
 
 -- all pieces were taken
 pub done : {X Y E : Type 0} (P : List X → Y → Type 0) (size : ℕ) (xs : List X) (ps before left : List (Result Y E)) (ys : List Y)
-    → 0 < size → before ++ left ≡ ps → length left ≡ 0 → length ps ≡ length xs / size + min 1 (length xs % size)
-    → InRuns P (take (size * length before) xs) ys → InRuns P xs ys
-done P size xs ps before left ys pos split none count so =
-    let same : length before ≡ length xs / size + min 1 (length xs % size) = omega (arith, ap length split, length-append before left) in
-    let all : length xs ≤ size * length before = subst (λ n. length xs ≤ size * n) (sym same) (covers (length xs) size pos) in
-    subst (λ l. InRuns P l ys) (take_all (size * length before) xs all) so
+    → before ++ left ≡ ps → length left ≡ 0 → Each P (chunks_to size xs (length before)) ys → Each P (chunks_to size xs (length ps)) ys
+done P size xs ps before left ys split none so =
+    let same : length before ≡ length ps = omega (arith, ap length split, length-append before left) in
+    subst (λ n. Each P (chunks_to size xs n) ys) same so
 
 -- one more list is put behind
 pub one_list : {V X : Type 0} (items : V → List X) (lists before left rest : List V) (v : V) (ys new : List X)

@@ -1,8 +1,8 @@
-ghost use Rattle.std.specs.Prelude.{◌≡◌, ◌+◌, ◌*◌, ◌^◌, ◌<◌, ◌≤◌, ◌/◌, ◌%◌, min, map, length, IfOk, slice_index_or, ℕ, true, false};
+ghost use Rattle.std.specs.Prelude.{◌≡◌, ◌+◌, ◌*◌, ◌^◌, ◌<◌, ◌≤◌, ◌%◌, map, length, IfOk, slice_index_or, ℕ, true, false};
 ghost use Rattle.std.specs.Int.{div_ceil};
 ghost use Rattle.std.specs.Fork.{slice_chunk};
 ghost use Rattle.work_pieces.specs.Each.{Each, Accepts, AcceptsAll, Gives};
-ghost use Rattle.work_pieces.specs.Runs.{AcceptsRuns, InRuns, put_together};
+ghost use Rattle.work_pieces.specs.Runs.{AcceptsRuns, chunks_to, pieces_of, put_together};
 
 use crate::Gate;
 use fixed_box::NoMemory;
@@ -68,7 +68,7 @@ pub fn by_runs<
     requires few { length items.now < 2 ^ 32 }
     requires workers { (1 ≤ workers) × (workers ≤ 16) }
     requires accepts { AcceptsRuns F.Fn answer.now items.now }
-    ensures { IfOk result (λ answers. InRuns (Gives F.Fn answer.now) items.now answers.items) }
+    ensures { IfOk result (λ answers. Each (Gives F.Fn answer.now) (pieces_of workers items.now) answers.items) }
 {
     if items.is_empty() {
         return Ok(Vec::new(alloc));
@@ -152,11 +152,9 @@ fn all_done<T, X: Drop, F: Fn(&[T]) -> Result<X, NoMemory>>(
     answer: &F,
     pieces: Vec<Result<X, NoMemory>>,
 ) -> Result<Vec<X>, NoMemory>
-    requires size { 0 < size }
-    requires count { length pieces.items ≡ length items.now / size + min 1 (length items.now % size) }
     requires each { (n : ℕ) (d : _) → n < length pieces.items
         → IfOk (slice_index_or pieces.items n d) (λ x. Gives F.Fn answer.now (slice_chunk items.now size n) x) }
-    ensures { IfOk result (λ answers. InRuns (Gives F.Fn answer.now) items.now answers.items) }
+    ensures { IfOk result (λ answers. Each (Gives F.Fn answer.now) (chunks_to size items.now (length pieces.items)) answers.items) }
 {
     let _ = items;
     let _ = size;

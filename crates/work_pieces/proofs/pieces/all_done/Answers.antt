@@ -16,4 +16,4 @@ pub returns : goal.returns
 returns g c =
     done (Gives g.F.Fn c.args.answer.now) c.args.size c.args.items.now c.args.pieces.items
     c.pieces.yielded (into_iter_items c.pieces.piece-iterator) c.pieces.answers.items
-    c.requires.size c.pieces.invariant.1 (sym c.pieces.piece-iterator.rest.ok.0 ∙ c.in-None.ensures.steps.0) c.requires.count c.pieces.invariant.0
+    c.pieces.invariant.1 (sym c.pieces.piece-iterator.rest.ok.0 ∙ c.in-None.ensures.steps.0) c.pieces.invariant.0
