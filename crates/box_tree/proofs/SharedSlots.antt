@@ -196,6 +196,11 @@ module _ (o : Option Tree) (bodies fats : List (Option Bounds)) (numbers : List 
           ∙ ap (λ (b : Boxes). raised 0 (sum (map (cost b) slots))) view;
     }
 
+-- what was found in another order is as good
+pub finds_settled : (v : Boxes) (slots : List ℕ) (found settled : List Pair) (n : ℕ) → ((p : Pair) → has_pair settled p ≡ has_pair found p)
+    → Finds v slots found n → Finds v slots settled n
+finds_settled v slots found settled n same f = record { pairs_are = λ p. same p ∙ f.pairs_are p; number_is = f.number_is }
+
 no_near : (n : Bool) → false ≡ (n && false)
 no_near true = refl
 no_near false = refl
@@ -247,14 +252,14 @@ module _ {Y : Type 0} (pairs : Y → List Pair) (number : Y → ℕ) (o : Option
     (kept : List Pair) (s : Sound o bodies fats numbers marks kept) (v : Boxes) (looked : ℕ) (view : seen o bodies fats marks looked ≡ v) where
   -- what the pieces of the shared slots find renews the pairs
   pub pieces_renewed : ReachLaw → RenewingLaw → TouchedLaw → (ys : List Y) → InRuns (λ run y. Finds v run (pairs y) (number y)) (shared_slots v) ys
-      → (before found : List Pair) → before ≡ [] → found ≡ before ++ put_together (map pairs ys) → Renewed (map_of bodies) marks kept found
-  pieces_renewed law renewing touched ys runs before found en e =
+      → (found : List Pair) → ((p : Pair) → has_pair found p ≡ has_pair (put_together (map pairs ys)) p) → Renewed (map_of bodies) marks kept found
+  pieces_renewed law renewing touched ys runs found same =
       let slots = shared_from o bodies marks in
       let m = map_of bodies in
       let r = renewed_of o bodies fats numbers marks kept s law renewing slots (shared_marked o bodies fats numbers marks kept s) kept s.kept_are in
       record {
         kept_is = r.kept_is;
-        found_is = λ p. ap (λ ps. has_pair ps p) (e ∙ ap (λ ps. ps ++ put_together (map pairs ys)) en)
+        found_is = λ p. same p
             ∙ pieces_found pairs number v runs.runs ys runs.each p
             ∙ ap (λ l. is_near v.bodies p && (has_slot l p.a || has_slot l p.b))
             (runs.whole ∙ sym (shared_viewed o bodies fats numbers marks kept s v looked view) ∙ sym (searched_slots bodies o slots))

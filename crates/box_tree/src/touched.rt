@@ -12,7 +12,6 @@ ghost use Rattle.box_tree.specs.Descent.{exact_in, IsInsideIn};
 ghost use Rattle.box_tree.specs.Group.{crossed, all_visits_in, Adds, IsBelow};
 ghost use Rattle.box_tree.specs.Searches.{boxed, searches, shared_from, sought_from};
 ghost use Rattle.box_tree.specs.Ties.{Sound};
-ghost use Rattle.work_pieces.specs.Runs.{put_together};
 
 use crate::descent::descend;
 use crate::group::{GROUP, box_law, fit_group, search_group};
@@ -151,23 +150,6 @@ pub(crate) fn search_run(
         &mut room.reached,
         found,
     )?;
-    Ok(number)
-}
-
-// Appends the pairs of all pieces, and answers a number raised by what they cost.
-pub(crate) fn join_pieces(
-    pieces: Vec<(Vec<Pair>, u64)>,
-    looked: u64,
-    found: &mut Vec<Pair>,
-) -> Result<u64, NoMemory>
-    ensures ok { OnOk result (found.new.items ≡ found.old.items ++ put_together (map (λ piece. piece.0.items) pieces.items)) }
-    ensures count { IfOk result (λ n. n ≡ raised looked (sum (map (λ piece. piece.1) pieces.items))) }
-{
-    let mut number = looked;
-    'pieces: for (mut pairs, cost) in pieces {
-        found.append(&mut pairs)?;
-        number = number.saturating_add(cost);
-    }
     Ok(number)
 }
 

@@ -12,12 +12,11 @@ use crate::descent::descend;
 use crate::leaves::{add_leaf, drop_leaf, relink};
 use crate::renewal::{Room, renew};
 use crate::search::reach;
-use crate::touched::{
-    FEWEST_IN_PIECE, SearchRoom, join_pieces, push_shared, search_run, search_touched,
-};
+use crate::touched::{FEWEST_IN_PIECE, SearchRoom, push_shared, search_run, search_touched};
 use crate::{MARGIN, Moved};
 use broad_index::{
-    BroadPhase, Pair, PairSeeker, Query, holding_laws, keeping_laws, member_laws, push_rising_slots,
+    BroadPhase, Pair, PairSeeker, Query, holding_laws, join_pieces, keeping_laws, member_laws,
+    push_rising_slots, settle_pairs,
 };
 use fixed_box::{FBox, NoMemory, SLOTS};
 use slot_search::Seeker;
@@ -281,8 +280,7 @@ impl BroadPhase for BoxTree {
         holding_laws();
         member_laws();
         keeping_laws();
-        self.room.found.clear();
-        let counted = join_pieces(found, self.looked, &mut self.room.found)?;
+        let counted = join_pieces(&found, self.looked, &mut self.room.found)?;
         renew(&mut self.kept, &mut self.marks, &mut self.room, out)?;
         self.looked = counted;
         Ok(())
@@ -308,6 +306,8 @@ impl PairSeeker for BoxTree {
             &mut room,
             &mut found,
         )?;
+        // in this thread, so that the pieces are only merged behind
+        settle_pairs(&mut found);
         Ok((found, cost))
     }
 }

@@ -1,5 +1,8 @@
-ghost use Rattle.std.specs.Prelude.{◌≡◌, ◌++◌, map, take, vec_len, OnOk, OnErr};
+ghost use Rattle.std.specs.Prelude.{◌≡◌, ◌+◌, ◌-◌, ◌^◌, ◌++◌, min, sum, map, take, vec_len, IfOk, OnOk, OnErr};
 ghost use Rattle.std.specs.List.{zip};
+ghost use Rattle.work_pieces.specs.Runs.{put_together};
+ghost use Rattle.broad_index.specs.declared.pair.Pair.{Pair};
+ghost use Rattle.broad_index.specs.Members.{has_pair};
 ghost use Rattle.broad_index.specs.Searched.{pairs_above, gathered};
 ghost use Rattle.broad_index.specs.Touched.{ordered_pairs, gathered_with};
 
@@ -85,4 +88,42 @@ pub fn push_ordered_pairs(slot: u32, slots: &[u32], out: &mut Vec<Pair>) -> Resu
         rest = more;
     }
     Ok(())
+}
+
+/// Replaces a list by the pairs of several searches, and answers a number raised by what these cost, as far as 64 bits go.
+///
+/// The pairs stand in rising order, some perhaps twice. Lists that rise are merged, in O(n log k) for n pairs of k lists, and
+/// others sorted. After an `Err` the list may have any pairs.
+pub fn join_pieces(
+    pieces: &[(Vec<Pair>, u64)],
+    looked: u64,
+    out: &mut Vec<Pair>,
+) -> Result<u64, NoMemory>
+    ensures members { OnOk result ((p : Pair) → has_pair out.new.items p ≡ has_pair (put_together (map (λ piece. piece.0.items) pieces.now)) p) }
+    ensures count { IfOk result (λ n. n ≡ min (looked + sum (map (λ piece. piece.1) pieces.now)) (2 ^ 64 - 1)) }
+{
+    out.clear();
+    let number = push_pieces(pieces, looked, out)?;
+    // it merges what rises
+    out.sort()?;
+    Ok(number)
+}
+
+// Appends the pairs of all pieces, and answers a number raised by what they cost.
+fn push_pieces(
+    pieces: &[(Vec<Pair>, u64)],
+    looked: u64,
+    out: &mut Vec<Pair>,
+) -> Result<u64, NoMemory>
+    ensures ok { OnOk result (out.new.items ≡ out.old.items ++ put_together (map (λ piece. piece.0.items) pieces.now)) }
+    ensures count { IfOk result (λ n. n ≡ min (looked + sum (map (λ piece. piece.1) pieces.now)) (2 ^ 64 - 1)) }
+{
+    let mut number = looked;
+    let mut rest = pieces;
+    'pieces: while let [(pairs, cost), more @ ..] = rest {
+        out.extend_from_slice(pairs)?;
+        number = number.saturating_add(*cost);
+        rest = more;
+    }
+    Ok(number)
 }

@@ -12,13 +12,13 @@ mod query;
 mod rising;
 
 pub use broad_phase::BroadPhase;
-pub use gather::{push_gathered, push_gathered_with, push_ordered_pairs};
+pub use gather::{join_pieces, push_gathered, push_gathered_with, push_ordered_pairs};
 pub use laws::{holding_laws, keeping_laws, member_laws, search_laws};
 pub use pair::Pair;
 pub use pair_seeker::PairSeeker;
 pub use plain_index::PlainIndex;
 pub use query::{QKind, Query};
-pub use rising::{push_rising_pairs, push_rising_slots, renew_pairs};
+pub use rising::{push_rising_pairs, push_rising_slots, renew_pairs, settle_pairs};
 pub use work_pieces::{Gate, NoGate};
 
 #[cfg(test)]

@@ -20,7 +20,8 @@ pub trait PairSeeker {
     /// What a search of some slots may give: pairs, in any order and some perhaps twice, and what the search cost.
     ghost seeks: { Self → List ℕ → List Pair → ℕ → Type 0 };
 
-    /// Searches from some slots, and answers the pairs that these are to find, and what the search cost.
+    /// Searches from some slots, and answers the pairs that these are to find, and what the search cost. Pairs that rise spare
+    /// a sort behind the pieces.
     fn seek_pairs(&self, alloc: Global, slots: &[u32]) -> Result<(Vec<Pair>, u64), NoMemory>
         requires present { All (λ slot. map.contains_key (bodies self.now) slot ≡ true) slots.now }
         ensures { IfOk result (λ found. seeks self.now slots.now found.0.items found.1) };

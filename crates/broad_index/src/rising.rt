@@ -14,8 +14,8 @@ use crate::Pair;
 use fixed_box::NoMemory;
 use std::cmp::Ordering;
 
-// Puts pairs in rising order, each once.
-fn settle_pairs(pairs: &mut Vec<Pair>)
+/// Puts pairs in rising order, each once.
+pub fn settle_pairs(pairs: &mut Vec<Pair>)
     ensures members { (p : Pair) → has_pair pairs.new.items p ≡ has_pair pairs.old.items p }
     ensures rises { rises pairs.new.items ≡ true }
 {

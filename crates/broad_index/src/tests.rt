@@ -127,3 +127,19 @@ fn searches_of_all_slots_give_each_pair_once(rt: HostRuntime) -> Result<(), Fail
     assert_eq!(rt; ordered.as_slice(), now.as_slice());
     Ok(())
 }
+
+#[test]
+fn pieces_are_joined_in_rising_order(rt: HostRuntime) -> Result<(), Fail> {
+    let low = Pair { a: 1, b: 2 };
+    let middle = Pair { a: 1, b: 3 };
+    let high = Pair { a: 2, b: 3 };
+    let pieces = [
+        (Vec::from_slice(rt.alloc(), &[low, high])?, 5),
+        (Vec::from_slice(rt.alloc(), &[middle])?, 7),
+    ];
+    let mut pairs = Vec::from_slice(rt.alloc(), &[high])?;
+    assert_eq!(rt; join_pieces(&pieces, 30, &mut pairs)?, 42);
+    assert_eq!(rt; pairs.as_slice(), [low, middle, high].as_slice());
+    assert_eq!(rt; join_pieces(&pieces, u64::MAX - 6, &mut pairs)?, u64::MAX);
+    Ok(())
+}

@@ -13,7 +13,7 @@ use Rattle.work_pieces.specs.Runs.{put_together}
 use Rattle.broad_index.specs.declared.pair.Pair.{Pair}
 use Rattle.broad_index.specs.Members.{has_pair, has_slot, is_near, same_pair}
 use Rattle.broad_index.specs.Touched.{ordered}
-use Rattle.hier_grid.specs.Search.{FindsFor, FindsRun, HasPairs, pairs_of, present}
+use Rattle.hier_grid.specs.Search.{FindsFor, FindsRun, HasPairs, present}
 use Rattle.hier_grid.proofs.HitLemmas.{all_present}
 use Rattle.hier_grid.proofs.PairLemmas.{all_found, more_pairs}
 
@@ -42,14 +42,14 @@ first_or_rest xs l s h = elim (or_cases (s == get_or xs 0 0) (has_slot (rest_of 
 
 module _ {Y : Type 0} (pairs : Y → List Pair) (bodies : FinMap nat_cmp Bounds) where
   pub runs_found : (runs : List (List ℕ)) (ys : List Y) → Each (λ run y. FindsRun bodies run (pairs y)) runs ys
-      → FindsRun bodies (put_together runs) (pairs_of (map pairs ys))
+      → FindsRun bodies (put_together runs) (put_together (map pairs ys))
   runs_found [] [] t = record { sound = λ p h. absurd (false≢true h); whole = λ s h. absurd (false≢true h) }
   runs_found [] (y ∷ ys) t = absurd t
   runs_found (x ∷ xs) [] t = absurd t
   runs_found (x ∷ xs) (y ∷ ys) t =
       let rest = runs_found xs ys t.1 in
       let first = pairs y in
-      let later = pairs_of (map pairs ys) in
+      let later = put_together (map pairs ys) in
       record {
         sound = λ p h. elim (or_cases (has_pair first p) (has_pair later p) (sym (list_any-append (same_pair p) first later) ∙ h)) as (λ _. is_near bodies p ≡ true) [
           | inl e ↦ t.0.sound p e
@@ -62,6 +62,14 @@ module _ {Y : Type 0} (pairs : Y → List Pair) (bodies : FinMap nat_cmp Bounds)
               | inr e ↦ finds_more bodies s later (first ++ later) (later_pairs first later) (rest.whole s e)
             ];
       }
+
+-- what was found in another order is as good
+pub settled_finds : (bodies : FinMap nat_cmp Bounds) (slots : List ℕ) (found settled : List Pair) → ((p : Pair) → has_pair settled p ≡ has_pair found p)
+    → FindsRun bodies slots found → FindsRun bodies slots settled
+settled_finds bodies slots found settled same r = record {
+  sound = λ p h. r.sound p (sym (same p) ∙ h);
+  whole = λ s h. finds_more bodies s found settled (λ p e. same p ∙ e) (r.whole s h);
+}
 
 -- searches of all present slots find all pairs
 pub present_found : (bodies : FinMap nat_cmp Bounds) (found : List Pair) → FindsRun bodies (present bodies) found

@@ -1,5 +1,5 @@
 -- Definitions: what searches find.
-use Rattle.std.specs.Prelude.{◌≡◌, ◌⊎◌, ℕ, ◌<◌, ◌≤◌, Bool, true, not, ◌&&◌, ◌||◌, ◌==◌, nat_lt, List, [], ◌∷◌, ◌++◌, map, Some}
+use Rattle.std.specs.Prelude.{◌≡◌, ◌⊎◌, ℕ, ◌<◌, ◌≤◌, Bool, true, not, ◌&&◌, ◌||◌, ◌==◌, nat_lt, List, map, Some}
 use Rattle.std.specs.Ordering.{nat_cmp}
 use Rattle.std.specs.FinMap.{FinMap, get, entries}
 use Rattle.fixed_box.specs.Bounds.{Bounds, meets, level_of}
@@ -101,8 +101,3 @@ FindsFor bodies slot found = (body : Bounds) → get bodies slot ≡ Some body �
 pub record FindsRun (bodies : FinMap nat_cmp Bounds) (slots : List ℕ) (found : List Pair) : Type 0 where
   pub sound : IsSound bodies found
   pub whole : (slot : ℕ) → has_slot slots slot ≡ true → FindsFor bodies slot found
-
--- the pairs of several searches, one after another
-abbrev pub pairs_of : List (List Pair) → List Pair
-pairs_of [] = []
-pairs_of (pairs ∷ rest) = pairs ++ pairs_of rest

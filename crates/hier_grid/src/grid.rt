@@ -7,8 +7,10 @@ ghost use Rattle.hier_grid.specs.Search.{FindsRun, present};
 
 use crate::hits::{push_hits, push_reach};
 use crate::kept_boxes::KeptBoxes;
-use crate::pair_search::{Findings, find_run, push_lists};
-use broad_index::{BroadPhase, Pair, PairSeeker, Query, push_rising_pairs};
+use crate::pair_search::{Findings, find_run};
+use broad_index::{
+    BroadPhase, Pair, PairSeeker, Query, join_pieces, push_rising_pairs, settle_pairs,
+};
 use cell_table::CellTable;
 use fixed_box::{FBox, NoMemory, SLOTS};
 use slot_search::Seeker;
@@ -99,6 +101,8 @@ impl PairSeeker for HierGrid {
     fn seek_pairs(&self, alloc: Global, slots: &[u32]) -> Result<(Vec<Pair>, u64), NoMemory> {
         let mut found = Findings::new(alloc);
         let looked = find_run(&self.kept, slots, &mut found)?;
+        // in this thread, so that the pieces are only merged behind
+        settle_pairs(&mut found.pairs);
         Ok((found.pairs, looked))
     }
 }
@@ -186,10 +190,9 @@ impl BroadPhase for HierGrid {
     }
 
     fn merge(&mut self, found: Vec<(Vec<Pair>, u64)>, out: &mut Vec<Pair>) -> Result<(), NoMemory> {
-        self.found.pairs.clear();
-        let looked = push_lists(&found, &mut self.found.pairs)?;
+        let looked = join_pieces(&found, self.looked, &mut self.found.pairs)?;
         push_rising_pairs(&mut self.found.pairs, out)?;
-        self.looked = self.looked.saturating_add(looked);
+        self.looked = looked;
         Ok(())
     }
 }

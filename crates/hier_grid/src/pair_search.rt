@@ -1,8 +1,8 @@
-ghost use Rattle.std.specs.Prelude.{◌≡◌, ◌++◌, ◌<◌, ◌≤◌, Some, OnOk, map as mapped};
+ghost use Rattle.std.specs.Prelude.{◌≡◌, ◌<◌, ◌≤◌, Some, OnOk};
 ghost use Rattle.std.specs.FinMap as map;
 ghost use Rattle.fixed_box.specs.Bounds.{level_of};
 ghost use Rattle.hier_grid.specs.Cells.{cell_of};
-ghost use Rattle.hier_grid.specs.Search.{IsSound, HasPairs, IsAbove, FindsFrom, FindsFor, FindsOwn, FindsOthers, FindsRun, pairs_of};
+ghost use Rattle.hier_grid.specs.Search.{IsSound, HasPairs, IsAbove, FindsFrom, FindsFor, FindsOwn, FindsOthers, FindsRun};
 
 use crate::cell::cell_of;
 use crate::kept_boxes::KeptBoxes;
@@ -45,21 +45,6 @@ pub(crate) fn find_run(
     let mut rest = slots;
     'slots: while let [slot, more @ ..] = rest {
         find_for(kept, *slot, end, &mut looked, found)?;
-        rest = more;
-    }
-    Ok(looked)
-}
-
-/// Appends the pairs that several searches found, one after another, and answers the sum of what they cost, as far as 64
-/// bits go.
-pub(crate) fn push_lists(lists: &[(Vec<Pair>, u64)], out: &mut Vec<Pair>) -> Result<u64, NoMemory>
-    ensures { OnOk result (out.new.items ≡ out.old.items ++ pairs_of (mapped (λ f. f.0.items) lists.now)) }
-{
-    let mut looked = 0u64;
-    let mut rest = lists;
-    'lists: while let [(pairs, cost), more @ ..] = rest {
-        out.extend_from_slice(pairs)?;
-        looked = looked.saturating_add(*cost);
         rest = more;
     }
     Ok(looked)

@@ -1,6 +1,6 @@
 -- A search of some slots finds their pairs.
 use Rattle.box_tree.proofs.Searching.{inside_of}
-use Rattle.box_tree.proofs.SharedSlots.{finds_viewed}
+use Rattle.box_tree.proofs.SharedSlots.{finds_viewed, finds_settled}
 use Rattle.box_tree.proofs.tree.BoxTreePairSeeker.seek_pairs.Goals as goal
 
 pub search_run-requires : goal.search_run-requires
@@ -14,6 +14,9 @@ search_run-requires c =
 pub returns : goal.returns
 returns c =
     let s = c.self.inside in
+    finds_settled c.args.self.now c.args.slots.now c.search_run.new.found.items c.settle_pairs.new.pairs.items c.in_ok-cost.cost
+    c.settle_pairs.ensures.members (
     finds_viewed s.nodes s.bodies.items s.fats.items s.numbers.items s.marks.items s.kept.items c.self.invariant c.args.self.now s.looked c.self.view_is
     c.holding_laws.ensures.reach c.keeping_laws.ensures.touched c.deref.result.now c.args.slots.now c.new-found.result.items
     c.search_run.new.found.items c.in_ok-cost.cost c.deref.ensures.value c.new-found.ensures.items c.in_ok-cost.ensures.ok c.in_ok-cost.ensures.count
+    )

@@ -1,0 +1,12 @@
+-- A search's pairs stay, in another order.
+use Rattle.std.proofs.Common.{subst}
+use Rattle.hier_grid.specs.Search.{FindsRun}
+use Rattle.hier_grid.proofs.RunLemmas.{settled_finds}
+use Rattle.hier_grid.proofs.grid.HierGridPairSeeker.seek_pairs.Goals as goal
+
+pub returns : goal.returns
+returns c =
+    let pairs = c.settle_pairs.new.pairs.items in
+    subst (λ bodies. FindsRun bodies c.args.slots.now pairs) c.self.view_is (
+    settled_finds c.self.inside.kept c.args.slots.now c.find_run.new.found.pairs.items pairs c.settle_pairs.ensures.members c.in_ok-looked.ensures
+    )
