@@ -36,7 +36,7 @@ above_trans : (x y : ℕ) (ys : List ℕ) → x < y → Above y ys → Above x y
 above_trans x y [] lt a = tt
 above_trans x y (z ∷ ys) lt a = (omega arith, above_trans x y ys lt a.1)
 
-not_above : (x k : ℕ) (xs : List ℕ) → k ≤ x → Above x xs → has xs k ≡ false
+pub not_above : (x k : ℕ) (xs : List ℕ) → k ≤ x → Above x xs → has xs k ≡ false
 not_above x k [] le a = refl
 not_above x k (y ∷ ys) le a = let e : eqb y k ≡ false = (let lt = a.0 in grind (arith, nat_tests)) in let r = not_above x k ys le a.1 in rw (e, r) refl
 

@@ -1,3 +1,4 @@
 mod EachLemmas
 mod KeptLemmas
+mod ListedLemmas
 mod RingLemmas

@@ -1,4 +1,4 @@
-ghost use Rattle.std.specs.Prelude.{◌≡◌, ℕ, ◌+◌, ◌<◌, ◌≤◌, ◌++◌, ◌==◌, None, IfOk, OnOk, OnErr, length, take, drop, vec_len, slice_index, slice_index_or};
+ghost use Rattle.std.specs.Prelude.{◌≡◌, ℕ, ◌+◌, ◌<◌, ◌≤◌, ◌++◌, ◌==◌, None, true, IfOk, OnOk, OnErr, length, take, drop, vec_len, slice_index, slice_index_or};
 ghost use Rattle.std.specs.Ordering.{nat_cmp};
 ghost use Rattle.std.specs.List.Sorted.{IsPermutation, IsSorted};
 ghost use Rattle.cell_table.specs.Cells.{same_cell};
@@ -59,6 +59,29 @@ fn has_level(key: &Option<CellKey>, level: u8) -> bool
         Some(key) => key.level == level,
         None => false,
     }
+}
+
+// Appends the slots that have keys.
+pub(crate) fn push_present(keys: &[Option<CellKey>], out: &mut Vec<u32>) -> Result<(), NoMemory>
+    requires { length keys.now ≡ SLOTS }
+    ensures ok { OnOk result (out.new.items ≡ out.old.items ++ slots_from (λ _. true) 0 keys.now) }
+{
+    let mut rest = keys;
+    let mut slot = 0;
+    'slots: while let [key, more @ ..] = rest {
+        if is_present(key) {
+            out.push(slot)?;
+        }
+        slot += 1;
+        rest = more;
+    }
+    Ok(())
+}
+
+fn is_present(key: &Option<CellKey>) -> bool
+    ensures { result ≡ meets_test (λ _. true) key.now }
+{
+    key.is_some()
 }
 
 // Appends the slots of a cell in the order of its bucket. After an `Err` `out` is as before.

@@ -1,9 +1,12 @@
-ghost use Rattle.std.specs.Prelude.{◌≡◌, ◌<◌, ◌++◌, true, false, IfOk, OnOk, OnErr, length};
+ghost use Rattle.std.specs.Prelude.{◌≡◌, ◌<◌, ◌++◌, [], true, false, IfOk, OnOk, OnErr, length};
 ghost use Rattle.std.specs.FinMap as map;
 ghost use Rattle.cell_table.specs.Cells.{slots_in, slots_at, Visits, VisitsBucket, VisitsRow};
+ghost use Rattle.cell_table.specs.Listed.{Lists};
 
 use crate::buckets::bucket_of;
-use crate::cells::{no_counts, no_keys, push_bucket, push_cell, push_level, push_row, sort_from};
+use crate::cells::{
+    no_counts, no_keys, push_bucket, push_cell, push_level, push_present, push_row, sort_from,
+};
 use crate::rings::{link, nodes, unlink};
 use crate::{CellKey, LEVELS};
 use fixed_box::{NoMemory, SLOTS};
@@ -150,6 +153,14 @@ impl CellTable {
             out.truncate(before);
         }
         pushed
+    }
+
+    // Lists the slots that have keys.
+    pub(crate) fn push_slots(&self, out: &mut Vec<u32>) -> Result<(), NoMemory>
+        requires { out.old.items ≡ [] }
+        ensures { OnOk result (Lists self.now (record { starts = []; slots = out.new.items })) }
+    {
+        push_present(&self.keys, out)
     }
 
     /// Appends the slots whose keys have a level, rising, by a walk over all slots. After `NoMemory` `out` is as before.
