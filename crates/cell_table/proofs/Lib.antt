@@ -2,3 +2,4 @@ mod EachLemmas
 mod KeptLemmas
 mod ListedLemmas
 mod RingLemmas
+mod RowLemmas

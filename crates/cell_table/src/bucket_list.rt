@@ -1,8 +1,9 @@
-ghost use Rattle.std.specs.Prelude.{◌≡◌, ◌≤◌, length, OnOk, OnErr};
+ghost use Rattle.std.specs.Prelude.{◌≡◌, ◌≤◌, pos, ◌+ℤ◌, ◌≤ℤ◌, length, OnOk, OnErr};
 ghost use Rattle.std.specs.FinMap as map;
 ghost use Rattle.cell_table.specs.Listed.{Lists, HasRow};
 
-use crate::{CellKey, CellTable, RowPlaces};
+use crate::buckets::bucket_of;
+use crate::{BUCKETS, CellKey, CellTable, RowPlaces};
 use fixed_box::NoMemory;
 use std::alloc::Global;
 use std::marker::Model;
@@ -11,17 +12,20 @@ use std::marker::Model;
 /// one stretch of the list, or two where it goes on in the first buckets.
 #[derive(Drop)]
 pub struct BucketList {
+    // For each bucket the place where its slots start, and behind them the end. Nothing where no table was listed.
     starts: Vec<u32>,
     slots: Vec<u32>,
 }
 
 impl Model for BucketList {
-    ghost use Rattle.std.specs.Prelude.{◌≤◌, length};
+    ghost use Rattle.cell_table.specs.Kept.{AreStarts};
     ghost use Rattle.cell_table.specs.Listed.{Listed};
 
     ghost Value = { Listed };
 
     ghost view = { λ l. record { starts = l.starts.items; slots = l.slots.items } };
+
+    ghost invariant = { λ l. AreStarts l.starts.items l.slots.items };
 }
 
 impl BucketList {
@@ -43,8 +47,9 @@ impl BucketList {
     {
         self.starts.clear();
         self.slots.clear();
-        let filled = cells.push_slots(&mut self.slots);
+        let filled = cells.push_buckets(&mut self.starts, &mut self.slots);
         if filled.is_err() {
+            self.starts.clear();
             self.slots.clear();
         }
         filled
@@ -65,10 +70,35 @@ impl BucketList {
         ensures inside { result.to ≤ length self.now.slots }
         ensures whole { HasRow self.now key.now end result }
     {
-        RowPlaces {
-            from: 0,
-            to: self.slots.len(),
-            wrapped: 0,
+        let cells = cells_below(key.z, end);
+        if self.starts.len() <= BUCKETS as usize || cells >= BUCKETS {
+            return RowPlaces {
+                from: 0,
+                to: self.slots.len(),
+                wrapped: 0,
+            };
+        }
+        let first = bucket_of(key);
+        let after = first + cells;
+        if after <= BUCKETS {
+            RowPlaces {
+                from: self.starts[first as usize] as usize,
+                to: self.starts[after as usize] as usize,
+                wrapped: 0,
+            }
+        } else {
+            RowPlaces {
+                from: self.starts[first as usize] as usize,
+                to: self.slots.len(),
+                wrapped: self.starts[(after - BUCKETS) as usize] as usize,
+            }
         }
     }
+}
+
+// How many cells there are from a place on and below another.
+fn cells_below(from: i32, end: i32) -> u32
+    ensures { end ≤ℤ (from +ℤ pos result) }
+{
+    if from < end { end.abs_diff(from) } else { 0 }
 }
