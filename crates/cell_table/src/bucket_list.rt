@@ -80,15 +80,16 @@ impl BucketList {
         }
         let first = bucket_of(key);
         let after = first + cells;
+        let from = self.starts[first as usize] as usize;
         if after <= BUCKETS {
             RowPlaces {
-                from: self.starts[first as usize] as usize,
+                from,
                 to: self.starts[after as usize] as usize,
                 wrapped: 0,
             }
         } else {
             RowPlaces {
-                from: self.starts[first as usize] as usize,
+                from,
                 to: self.slots.len(),
                 wrapped: self.starts[(after - BUCKETS) as usize] as usize,
             }

@@ -1,8 +1,7 @@
 -- The cells of a row have neighbouring buckets.
-use Rattle.std.proofs.Common.{◌+◌, ◌-◌, ◌<◌, arith, ◌∙◌, ap, subst, length, w32, FitsSigned, get_or}
+use Rattle.std.proofs.Common.{◌+◌, ◌-◌, arith, subst, w32, FitsSigned}
 use Rattle.std.specs.Prelude.{pos, ◌+ℤ◌, ◌≤ℤ◌}
 use Rattle.std.proofs.lemmas.Int.{ints}
-use Rattle.std.proofs.lemmas.List.{get_or_read}
 use Rattle.cell_table.specs.declared.TheConstants.{BUCKETS}
 use Rattle.cell_table.specs.Listed.{HasRow}
 use Rattle.cell_table.proofs.RowLemmas.{in_all, in_one, in_two}
@@ -18,40 +17,31 @@ returns-then-len-clause-whole c =
 pub returns-then-after-le-BUCKETS-clause-whole : goal.returns-then-after-le-BUCKETS-clause-whole
 returns-then-after-le-BUCKETS-clause-whole c =
     let s = c.self.inside in
-    let starts = s.starts.items in
     let key = c.args.key.now in
     let n = c.cells_below-cells.result in
     let from = c.index.result.now in
     let to = c.index-then-after-le-BUCKETS.result.now in
-    let first = c.bucket_of-first.ensures.value in
-    let filled : BUCKETS < length starts = omega (arith, c.if-len.false, c.len.ensures, s.starts.ok.0) in
     let fits : FitsSigned w32 key.z = grind (arith, ints) in
     let below : c.args.end ≤ℤ (key.z +ℤ pos n) = grind (arith, ints, c.cells_below-cells.ensures.le) in
-    let from_is = get_or_read starts c.bucket_of-first.result from (omega (arith, filled, c.bucket_of-first.ensures.bound)) c.index.ensures 0 in
-    let to_is = get_or_read starts (c.bucket_of-first.result + n) to (omega (arith, filled, c.if-after-le-BUCKETS.true)) c.index-then-after-le-BUCKETS.ensures 0 in
     subst (λ l. HasRow l key c.args.end (record { from = from; to = to; wrapped = 0 })) c.self.view_is
-    (in_one (record { starts = starts; slots = s.slots.items }) c.self.invariant filled key c.args.end n fits c.ranges.end below
-    (omega (arith, c.if-cells-ge-BUCKETS.false)) from to (from_is ∙ ap (λ b. get_or starts b 0) first)
-    (omega (arith, first, c.if-after-le-BUCKETS.true)) (to_is ∙ ap (λ b. get_or starts (b + n) 0) first))
+    (in_one (record { starts = s.starts.items; slots = s.slots.items }) c.self.invariant (omega (arith, c.if-len.false, c.len.ensures, s.starts.ok.0))
+    key c.args.end n fits c.ranges.end below (omega (arith, c.if-cells-ge-BUCKETS.false)) c.bucket_of-first.result from to
+    c.bucket_of-first.ensures.value c.index.ensures
+    (omega (arith, c.if-after-le-BUCKETS.true)) c.index-then-after-le-BUCKETS.ensures)
 
 pub returns-else-after-le-BUCKETS-clause-whole : goal.returns-else-after-le-BUCKETS-clause-whole
 returns-else-after-le-BUCKETS-clause-whole c =
     let s = c.self.inside in
-    let starts = s.starts.items in
     let key = c.args.key.now in
     let n = c.cells_below-cells.result in
-    let from = c.index-else-after-le-BUCKETS.result.now in
+    let from = c.index.result.now in
     let to = c.len-else-after-le-BUCKETS.result in
-    let wrapped = c.index-else-after-le-BUCKETS-2.result.now in
+    let wrapped = c.index-else-after-le-BUCKETS.result.now in
     let after = c.bucket_of-first.result + n - BUCKETS in
-    let first = c.bucket_of-first.ensures.value in
-    let filled : BUCKETS < length starts = omega (arith, c.if-len.false, c.len.ensures, s.starts.ok.0) in
     let fits : FitsSigned w32 key.z = grind (arith, ints) in
     let below : c.args.end ≤ℤ (key.z +ℤ pos n) = grind (arith, ints, c.cells_below-cells.ensures.le) in
-    let from_is = get_or_read starts c.bucket_of-first.result from (omega (arith, filled, c.bucket_of-first.ensures.bound)) c.index-else-after-le-BUCKETS.ensures 0 in
-    let wrapped_is = get_or_read starts after wrapped
-    (omega (arith, filled, c.bucket_of-first.ensures.bound, c.if-cells-ge-BUCKETS.false)) c.index-else-after-le-BUCKETS-2.ensures 0 in
     subst (λ l. HasRow l key c.args.end (record { from = from; to = to; wrapped = wrapped })) c.self.view_is
-    (in_two (record { starts = starts; slots = s.slots.items }) c.self.invariant filled key c.args.end n fits c.ranges.end below
-    (omega (arith, c.if-cells-ge-BUCKETS.false)) from to (from_is ∙ ap (λ b. get_or starts b 0) first) wrapped after
-    (omega (arith, first, c.if-after-le-BUCKETS.false)) (omega (arith, c.len-else-after-le-BUCKETS.ensures, s.slots.ok.0)) wrapped_is)
+    (in_two (record { starts = s.starts.items; slots = s.slots.items }) c.self.invariant (omega (arith, c.if-len.false, c.len.ensures, s.starts.ok.0))
+    key c.args.end n fits c.ranges.end below (omega (arith, c.if-cells-ge-BUCKETS.false)) c.bucket_of-first.result from to
+    c.bucket_of-first.ensures.value c.index.ensures wrapped after
+    (omega (arith, c.if-after-le-BUCKETS.false)) (omega (arith, c.len-else-after-le-BUCKETS.ensures, s.slots.ok.0)) c.index-else-after-le-BUCKETS.ensures)
