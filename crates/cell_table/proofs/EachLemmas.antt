@@ -263,7 +263,7 @@ is_cell_is : (key : CellKey) (o : Option CellKey) → meets_test (λ k. same_cel
 is_cell_is key None = refl
 is_cell_is key (Some k) = refl
 
-distinct_has : (xs : List ℕ) → Distinct xs → DistinctSlots xs
+pub distinct_has : (xs : List ℕ) → Distinct xs → DistinctSlots xs
 distinct_has [] d = tt
 distinct_has (x ∷ xs) d = (fresh_not x xs d.0, distinct_has xs d.1)
 
@@ -284,7 +284,7 @@ visited keys N P L old new key k bl put =
     }
 
 -- ---- a whole bucket
-some_passes : (p : CellKey → Bool) (o : Option CellKey) → meets_test p o ≡ true → is_some o ≡ true
+pub some_passes : (p : CellKey → Bool) (o : Option CellKey) → meets_test p o ≡ true → is_some o ≡ true
 some_passes p None h = h
 some_passes p (Some k) h = refl
 

@@ -1,3 +1,5 @@
 mod EachLemmas
 mod KeptLemmas
+mod ListedLemmas
 mod RingLemmas
+mod RowLemmas

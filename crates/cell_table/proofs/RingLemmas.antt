@@ -39,7 +39,7 @@ pub has_append : (xs ys : List ℕ) (k : ℕ) → has (xs ++ ys) k ≡ (has xs k
 has_append [] ys k = refl
 has_append (x ∷ xs) ys k = elim (eqb x k) as (λ b. (b || has (xs ++ ys) k) ≡ ((b || has xs k) || has ys k)) [ true ↦ refl | false ↦ has_append xs ys k ]
 
-has_head : (x : ℕ) (xs : List ℕ) → has (x ∷ xs) x ≡ true
+pub has_head : (x : ℕ) (xs : List ℕ) → has (x ∷ xs) x ≡ true
 has_head x xs = let e = same_tie x x refl in rw e refl
 
 has_later : (x k : ℕ) (xs : List ℕ) → has xs k ≡ true → has (x ∷ xs) k ≡ true
@@ -130,11 +130,11 @@ end_fresh N P u xs e ws l fu apart =
     fresh_all (get_or P e 0) ws (λ w i. before_end N P u xs e w l (λ q. true≢false (sym i ∙ ap (has ws) q ∙ fresh_not u ws fu)) (fresh_from w xs (apart w i)))
 
 -- two buckets have no slot in common
-apart_here : (o : Option CellKey) (b c : ℕ) → b ≢ c → meets_test (λ k. bucket_of k == c) o ≡ true → meets_test (λ k. bucket_of k == b) o ≡ false
+pub apart_here : (o : Option CellKey) (b c : ℕ) → b ≢ c → meets_test (λ k. bucket_of k == c) o ≡ true → meets_test (λ k. bucket_of k == b) o ≡ false
 apart_here None b c ne h = refl
 apart_here (Some k) b c ne h = let e : bucket_of k ≡ c = grind (arith, nat_tests) in other_tie (bucket_of k) b (λ q. ne (sym q ∙ e))
 
-within_keys : (keys : List (Option CellKey)) (b s : ℕ) → in_bucket keys b s ≡ true → s < length keys
+pub within_keys : (keys : List (Option CellKey)) (b s : ℕ) → in_bucket keys b s ≡ true → s < length keys
 within_keys [] b s h = absurd (false≢true h)
 within_keys (o ∷ keys) b zero h = omega arith
 within_keys (o ∷ keys) b (suc s) h = let l = within_keys keys b s h in omega arith

@@ -1,5 +1,5 @@
 -- This file only serves proofs: the rings of links that keep the slots of each bucket, and the numbers of each level.
-use Rattle.std.specs.Prelude.{◌≡◌, ℕ, zero, suc, ◌+◌, ◌*◌, ◌%◌, ◌<◌, Bool, true, false, ◌==◌, nat_lt, ℤ, ◌≤ℤ◌, ◌<ℤ◌}
+use Rattle.std.specs.Prelude.{◌≡◌, ℕ, zero, suc, ◌+◌, ◌*◌, ◌%◌, ◌<◌, ◌≤◌, Bool, true, false, ◌==◌, nat_lt, ℤ, ◌≤ℤ◌, ◌<ℤ◌}
 use Rattle.std.specs.Prelude.{List, [], ◌∷◌, ◌++◌, length, slice_index, slice_index_or, slice_set, map, filter, count_by, Option, None, Some, if◌then◌else◌}
 use Rattle.std.specs.Int.{cast_unsigned, w32}
 use Rattle.fixed_box.specs.declared.TheConstants.{SLOTS}
@@ -57,9 +57,13 @@ walk next (suc n) u = if nat_lt u SLOTS then u ∷ walk next n (slice_index next
 abbrev pub picked : CellKey → List (Option CellKey) → List ℕ → List ℕ
 picked key keys slots = filter (at (λ k. same_cell k key) keys) slots
 
+-- the slots in the ring of a bucket
+abbrev pub ring_in : List ℕ → ℕ → List ℕ
+ring_in next b = walk next SLOTS (slice_index next (SLOTS + b))
+
 -- the slots in the ring of a key's bucket
 abbrev pub ring_of : List ℕ → CellKey → List ℕ
-ring_of next key = walk next SLOTS (slice_index next (SLOTS + bucket_of key))
+ring_of next key = ring_in next (bucket_of key)
 
 -- a slot that stands in some ring
 pub record IsLinked (next : List ℕ) (s : ℕ) : Type 0 where
@@ -72,6 +76,22 @@ pub record Rings (next : List ℕ) (key : CellKey) (end : ℤ) (old new : List �
   pub appended : new ≡ old ++ slots
   pub whole : (z : ℤ) (s : ℕ) → key.z ≤ℤ z → z <ℤ end → has (ring_of next (record key { z = z })) s ≡ true → has slots s ≡ true
   pub linked : (s : ℕ) → has slots s ≡ true → IsLinked next s
+
+-- the slots in the rings of the first n buckets
+unfoldable pub rings_to : List ℕ → ℕ → List ℕ
+rings_to next zero = []
+rings_to next (suc n) = rings_to next n ++ ring_in next n
+
+-- the slots in all rings, and for each ring the place where its slots start, and the end
+pub record AreRings (next starts slots : List ℕ) : Type 0 where
+  pub len : length starts ≡ BUCKETS + 1
+  pub starts_are : (b : ℕ) → b ≤ BUCKETS → slice_index starts b ≡ length (rings_to next b)
+  pub slots_are : slots ≡ rings_to next BUCKETS
+
+-- the starts of stretches of a list, one after another
+pub record AreStarts (starts slots : List ℕ) : Type 0 where
+  pub rising : (b c : ℕ) → b ≤ c → c < length starts → slice_index starts b ≤ slice_index starts c
+  pub inside : (b : ℕ) → slice_index starts b ≤ length slots
 
 -- the links after slot s is put behind node u
 abbrev pub put_next : List ℕ → ℕ → ℕ → List ℕ

@@ -1,12 +1,12 @@
-ghost use Rattle.std.specs.Prelude.{◌≡◌, ℕ, ◌+◌, ◌<◌, ◌≤◌, ◌++◌, ◌==◌, None, IfOk, OnOk, OnErr, length, take, drop, vec_len, slice_index, slice_index_or};
+ghost use Rattle.std.specs.Prelude.{◌≡◌, ℕ, ◌+◌, ◌<◌, ◌≤◌, ◌++◌, ◌==◌, None, [], IfOk, OnOk, OnErr, length, take, drop, vec_len, slice_index, slice_index_or};
 ghost use Rattle.std.specs.Ordering.{nat_cmp};
 ghost use Rattle.std.specs.List.Sorted.{IsPermutation, IsSorted};
 ghost use Rattle.cell_table.specs.Cells.{same_cell};
-ghost use Rattle.cell_table.specs.Kept.{bucket_of, walk, picked, at, meets_test, slots_from, ring_of, Rings};
+ghost use Rattle.cell_table.specs.Kept.{bucket_of, walk, picked, at, meets_test, slots_from, ring_of, Rings, AreRings};
 
 use crate::buckets::{bucket_of, is_same};
 use crate::rings::NODES;
-use crate::{CellKey, LEVELS};
+use crate::{BUCKETS, CellKey, LEVELS};
 use fixed_box::{NoMemory, SLOTS};
 use std::alloc::Global;
 
@@ -140,6 +140,25 @@ pub(crate) fn push_bucket(next: &[u32], key: &CellKey, out: &mut Vec<u32>) -> Re
     ensures kept { take (vec_len out.old) out.new.items ≡ out.old.items }
 {
     push_ring(next, next[(SLOTS + bucket_of(key)) as usize], out)
+}
+
+// Lists the slots of each bucket, one bucket after the other, with the place where each bucket's slots start, and the end.
+pub(crate) fn push_rings(
+    next: &[u32],
+    starts: &mut Vec<u32>,
+    slots: &mut Vec<u32>,
+) -> Result<(), NoMemory>
+    requires next { length next.now ≡ NODES }
+    requires starts { starts.old.items ≡ [] }
+    requires slots { slots.old.items ≡ [] }
+    ensures { OnOk result (AreRings next.now starts.new.items slots.new.items) }
+{
+    'buckets: for bucket in 0..BUCKETS {
+        starts.push(slots.len() as u32)?;
+        push_ring(next, next[(SLOTS + bucket) as usize], slots)?;
+    }
+    starts.push(slots.len() as u32)?;
+    Ok(())
 }
 
 // Appends the slots that a walk meets. What was there stays, after an `Err` too.

@@ -2,13 +2,17 @@
 //! Detection*, 2005, 7.2).
 #![tactic(auto)]
 
+mod bucket_list;
 mod buckets;
 mod cell_key;
 mod cells;
 mod rings;
+mod row_places;
 mod table;
 
+pub use bucket_list::BucketList;
 pub use cell_key::CellKey;
+pub use row_places::RowPlaces;
 pub use table::CellTable;
 
 /// How many levels of cells there are: 0 to 10.

@@ -1,9 +1,13 @@
-ghost use Rattle.std.specs.Prelude.{◌≡◌, ◌<◌, ◌++◌, true, false, IfOk, OnOk, OnErr, length};
+ghost use Rattle.std.specs.Prelude.{◌≡◌, ◌<◌, ◌++◌, [], true, false, IfOk, OnOk, OnErr, length};
 ghost use Rattle.std.specs.FinMap as map;
 ghost use Rattle.cell_table.specs.Cells.{slots_in, slots_at, Visits, VisitsBucket, VisitsRow};
+ghost use Rattle.cell_table.specs.Kept.{AreStarts};
+ghost use Rattle.cell_table.specs.Listed.{Lists};
 
 use crate::buckets::bucket_of;
-use crate::cells::{no_counts, no_keys, push_bucket, push_cell, push_level, push_row, sort_from};
+use crate::cells::{
+    no_counts, no_keys, push_bucket, push_cell, push_level, push_rings, push_row, sort_from,
+};
 use crate::rings::{link, nodes, unlink};
 use crate::{CellKey, LEVELS};
 use fixed_box::{NoMemory, SLOTS};
@@ -150,6 +154,20 @@ impl CellTable {
             out.truncate(before);
         }
         pushed
+    }
+
+    // Lists the slots of each bucket, one bucket after the other, with the place where each bucket's slots start.
+    pub(crate) fn push_buckets(
+        &self,
+        starts: &mut Vec<u32>,
+        slots: &mut Vec<u32>,
+    ) -> Result<(), NoMemory>
+        requires starts { starts.old.items ≡ [] }
+        requires slots { slots.old.items ≡ [] }
+        ensures starts { OnOk result (AreStarts starts.new.items slots.new.items) }
+        ensures slots { OnOk result (Lists self.now (record { starts = starts.new.items; slots = slots.new.items })) }
+    {
+        push_rings(&self.next, starts, slots)
     }
 
     /// Appends the slots whose keys have a level, rising, by a walk over all slots. After `NoMemory` `out` is as before.
