@@ -2,7 +2,7 @@
 use Rattle.std.proofs.Common.{◌≡◌, ℕ, zero, suc, ◌+◌, ◌*◌, ◌/◌, ◌%◌, ◌<◌, ◌≤◌, ◌==◌, ◌||◌, max, Bool, true, false, not, cond, Option, None, Some, List, [], ◌∷◌}
 use Rattle.std.proofs.Common.{◌++◌, option_map, map, length, get_or, take, refl, sym, ap, ◌∙◌, subst, arith}
 use Rattle.std.specs.Prelude.{count_ones}
-use Rattle.std.specs.List.{filter}
+use Rattle.std.specs.List.{filter, All}
 use Rattle.std.specs.Simd.Lanes.{mask_l}
 use Rattle.std.proofs.lemmas.Simd.{ones-mask_l}
 use Rattle.std.proofs.lemmas.List.{map-append}
@@ -23,7 +23,7 @@ use Rattle.tree_nodes.specs.Tree.{Tree, Leaf, tip, fork, top, leaves, height, bo
 use Rattle.tree_nodes.specs.Tree.{Balanced, IsRefitted, IsTreeIn, Within}
 use Rattle.box_tree.specs.Boxes.{marked_slots, raised}
 use Rattle.box_tree.specs.Descent.{entry_of, exact, exact_in, IsInside, IsInsideIn, IsLeafInside}
-use Rattle.box_tree.specs.Group.{others_met, crossed, below, all_below, all_visits_in, picked, Adds, IsShown, IsBelow, BoxLaws, OpenedAs}
+use Rattle.box_tree.specs.Group.{others_met, crossed, below, all_below, all_visits_in, picked, Adds, IsShown, IsBelow, AreParts, BoxLaws, OpenedAs}
 use Rattle.box_tree.proofs.Descents.{exact_append}
 use Rattle.box_tree.proofs.Counts.{raised_again}
 use Rattle.box_tree.proofs.CrossedPairs.{crossed_append, crossed_either, has_append}
@@ -75,6 +75,14 @@ seen o bodies at t b = ap (view_in o) b.at_is ∙ shown_top o t b.shown
 height_top : (t : Tree) → height_shown (Some (view_of t)) ≡ height t
 height_top (tip n s f) = refl
 height_top (fork n h k l r) = refl
+
+abbrev pub bounds_shown : NodeView → Bounds
+bounds_shown (LeafNode slot fat) = fat
+bounds_shown (Inner left right h k) = h
+
+bounds_top : (t : Tree) → bounds t ≡ bounds_shown (view_of t)
+bounds_top (tip n s f) = refl
+bounds_top (fork n h k l r) = refl
 
 -- a child is lower
 pub lower : (o : Option Tree) (bodies : List (Option Bounds)) (at down left right k : ℕ) (h : Bounds) (t : Tree) → IsBelow o bodies down t
@@ -198,10 +206,32 @@ module _ (w : BoxLaws) where
       ∙ ap (λ ps. ps ++ crossed es (exact bodies (leaves r))) a ∙ b
 
   -- and no look
-  quiet_below : (n k : ℕ) (h : Bounds) (l r : Tree) (es : List (ℕ × Bounds)) → Quiet h es → all_below (fork n h k l r) es ≡ 0
-  quiet_below n k h l r [] q = refl
-  quiet_below n k h l r (e ∷ es) q =
-      ap (λ m. cond m (visits l e.1 + visits r e.1) 0 + all_below (fork n h k l r) es) q.0 ∙ (let rest = quiet_below n k h l r es q.1 in omega arith)
+  quiet_below : (t : Tree) (es : List (ℕ × Bounds)) → Quiet (bounds t) es → all_below t es ≡ 0
+  quiet_below (tip n s f) es q = none_below n s f es
+  quiet_below (fork n h k l r) [] q = refl
+  quiet_below (fork n h k l r) (e ∷ es) q =
+      ap (λ m. cond m (visits l e.1 + visits r e.1) 0 + all_below (fork n h k l r) es) q.0
+      ∙ (let rest = quiet_below (fork n h k l r) es q.1 in omega arith)
+
+  quiet_none : (bodies : List (Option Bounds)) (es : List (ℕ × Bounds)) (t : Tree) → Balanced t → IsInside bodies t → Quiet (bounds t) es
+      → (crossed es (exact bodies (leaves t)) ≡ []) × (all_below t es ≡ 0)
+  quiet_none bodies es t balanced inside q = (quiet_crossed bodies es t balanced inside q, quiet_below t es q)
+
+  -- what the hull of a group misses none of the group meets
+  quiet_whole : (whole h : Bounds) → meets whole h ≡ false → (es : List (ℕ × Bounds)) → All (λ (e : ℕ × Bounds). encloses whole e.1 ≡ true) es → Quiet h es
+  quiet_whole whole h m [] around = tt
+  quiet_whole whole h m (e ∷ es) around = (
+    (w.each (Region h)).missed whole e.1 (around 0 e (omega arith)) (w.either_way h whole ∙ m),
+    quiet_whole whole h m es (λ k d lt. around (suc k) d (omega arith)),
+  )
+
+  -- where it misses a node, nothing is found there and nobody looks on
+  pub missed_together : (o : Option Tree) (bodies : List (Option Bounds)) (at : ℕ) (v : NodeView) (t : Tree) (es : List (ℕ × Bounds)) (whole : Bounds)
+      → IsBelow o bodies at t → view_in o at ≡ Some v → All (λ (e : ℕ × Bounds). encloses whole e.1 ≡ true) es → meets whole (bounds_shown v) ≡ false
+      → (crossed es (exact bodies (leaves t)) ≡ []) × (all_below t es ≡ 0)
+  missed_together o bodies at v t es whole b e around m =
+      let is : bounds t ≡ bounds_shown v = bounds_top t ∙ ap bounds_shown (one_view o at v t b.at_is (shown_top o t b.shown) e) in
+      quiet_none bodies es t b.balanced b.inside (subst (λ h. Quiet h es) (sym is) (quiet_whole whole (bounds_shown v) m es around))
 
   visits_below : (t : Tree) (b : Bounds) → visits t b ≡ 1 + below t b
   visits_below (tip n s f) b = refl
@@ -236,13 +266,13 @@ module _ (w : BoxLaws) where
       s ∙ omega arith
 
   -- where no bit is set, nothing is found and nobody looks on
-  pub none_goes_on : (bodies : List (Option Bounds)) (es : List (ℕ × Bounds)) (n k mask : ℕ) (h : Bounds) (l r t : Tree) → t ≡ fork n h k l r → Balanced t
-      → IsInside bodies t → mask ≡ bits_of h es → mask ≡ 0 → (crossed es (exact bodies (leaves t)) ≡ []) × (all_below t es ≡ 0)
-  none_goes_on bodies es n k mask h l r t is bal inside em z =
-      let q : Quiet h es = quiet_from h es (sym em ∙ z) in (
-        quiet_crossed bodies es t bal inside (subst (λ u. Quiet (bounds u) es) (sym is) q),
-        ap (λ u. all_below u es) is ∙ quiet_below n k h l r es q,
-      )
+  pub none_goes_on : (o : Option Tree) (bodies : List (Option Bounds)) (left right : ℕ) (es : List (ℕ × Bounds)) (mask : ℕ) (h : Bounds) (t : Tree)
+      → AreParts o bodies left right h t → mask ≡ bits_of h es → mask ≡ 0 → (crossed es (exact bodies (leaves t)) ≡ []) × (all_below t es ≡ 0)
+  none_goes_on o bodies left right es mask h t p em z =
+      let parts = p.1 in
+      quiet_none bodies es t (subst Balanced (sym parts.3) (parts.6, parts.4.balanced, parts.5.balanced))
+      (subst (IsInside bodies) (sym parts.3) (parts.4.inside, parts.5.inside))
+      (subst (λ u. Quiet (bounds u) es) (sym parts.3) (quiet_from h es (sym em ∙ z)))
 
   -- each bit is a look at both children
   pub looks_on : (es : List (ℕ × Bounds)) (n k mask ones : ℕ) (h : Bounds) (l r t : Tree) → t ≡ fork n h k l r → IsRefitted h k l r

@@ -70,3 +70,7 @@ abbrev pub OpenedAs : Option Tree → List (Option Bounds) → NodeView → Tree
 OpenedAs o bodies (LeafNode slot fat) t = (n : ℕ) × (t ≡ tip n slot fat) × IsLeafInside bodies slot fat
 OpenedAs o bodies (Inner left right h k) t =
     (n : ℕ) × (l : Tree) × (r : Tree) × (t ≡ fork n h k l r) × IsBelow o bodies left l × IsBelow o bodies right r × IsRefitted h k l r
+
+-- what a node with a hull and these children tells
+abbrev pub AreParts : Option Tree → List (Option Bounds) → ℕ → ℕ → Bounds → Tree → Type 0
+AreParts o bodies left right h t = (k : ℕ) × OpenedAs o bodies (Inner left right h k) t

@@ -1,10 +1,12 @@
-ghost use Rattle.std.specs.Prelude.{◌≡◌, ◌==◌, ◌<◌, ◌≤◌, ◌++◌, not, map, filter, length, None, OnOk, IfOk, slice_index_or};
+ghost use Rattle.std.specs.Prelude.{◌≡◌, ◌==◌, ◌<◌, ◌≤◌, ◌++◌, not, map, filter, length, None, OnOk, IfOk, IsTrue, slice_index_or};
+ghost use Rattle.std.specs.List.{All};
+ghost use Rattle.fixed_box.specs.Bounds.{encloses};
 ghost use Rattle.broad_index.specs.Touched.{ordered_pairs};
 ghost use Rattle.lane_boxes.specs.Places.{next_eight};
 ghost use Rattle.tree_nodes.specs.Tree.{Tree, leaves};
 ghost use Rattle.box_tree.specs.Boxes.{raised};
 ghost use Rattle.box_tree.specs.Descent.{entry_of, exact, exact_in, IsInsideIn};
-ghost use Rattle.box_tree.specs.Group.{crossed, all_below, all_visits_in, picked, Adds, IsBelow, BoxLaws};
+ghost use Rattle.box_tree.specs.Group.{crossed, all_below, all_visits_in, picked, Adds, AreParts, IsBelow, BoxLaws};
 
 use crate::descent::descent_law;
 use broad_index::Pair;
@@ -29,6 +31,7 @@ pub(crate) fn search_group(
     requires inside { IsInsideIn bodies.now nodes.now }
     requires boxes { length boxes.old.boxes ≡ length group.now }
     requires few { length group.now ≤ 8 }
+    requires some { 0 < length group.now }
     ensures ok { OnOk result (Adds found.old.items found.new.items (crossed (exact_in bodies.now nodes.now) group.now)) }
     ensures count { IfOk result (λ n. n ≡ raised looked (all_visits_in nodes.now group.now)) }
     ensures boxes { length boxes.new.boxes ≡ length boxes.old.boxes }
@@ -38,8 +41,9 @@ pub(crate) fn search_group(
         return Ok(looked);
     };
     set_boxes(boxes, group);
+    let whole = hull_of(group);
     let here = looked.saturating_add(group.len() as u64);
-    let all = descend_together(nodes, bodies, root, group, boxes, here, found)?;
+    let all = descend_together(nodes, bodies, root, group, boxes, &whole, here, found)?;
     Ok(all)
 }
 
@@ -66,6 +70,19 @@ fn set_boxes(boxes: &mut Columns, group: &[(u32, FBox)])
     }
 }
 
+// The least box that holds those of a group.
+fn hull_of(group: &[(u32, FBox)]) -> FBox
+    requires { 0 < length group.now }
+    ensures { All (λ e. IsTrue (encloses result e.1)) group.now }
+{
+    box_laws();
+    let mut whole = group[0].1;
+    'boxes: for (_, body) in group {
+        whole = whole.union(body);
+    }
+    whole
+}
+
 // Gives columns as many boxes as a group has. They take memory the first time alone.
 pub(crate) fn fit_group(boxes: &mut Columns, alloc: Global) -> Result<(), NoMemory>
     ensures { OnOk result (length boxes.new.boxes ≡ 8) }
@@ -83,29 +100,35 @@ pub(crate) fn fit_group(boxes: &mut Columns, alloc: Global) -> Result<(), NoMemo
     Ok(())
 }
 
-// Descends with a group of boxes. Appends the pairs of each leaf below a node with those of the group that meet it, and
-// answers a number raised by how many nodes below this one the boxes look at. At each inner node those go on that meet its
-// hull, and none else meets the hulls below it. So whoever of the group meets a hull is still there.
+// Descends with a group of boxes from a node on. Appends the pairs of each leaf there with those of the group that meet it,
+// and answers a number raised by how many nodes below this one the boxes look at. The group's hull is asked first: where it
+// misses a node, each of the group does. That is done in place, so that a node that is missed costs no call.
+#[cycle(together)]
+#[inline(always)]
 fn descend_together(
     nodes: &Nodes,
     bodies: &[Option<FBox>],
     at: usize,
     group: &[(u32, FBox)],
     boxes: &Columns,
+    whole: &FBox,
     looked: u64,
     found: &mut Vec<Pair>,
 ) -> Result<u64, NoMemory>
     requires laws { BoxLaws }
     requires below { (t : Tree) × IsBelow nodes.now bodies.now at t }
     requires boxes { boxes.now.boxes ≡ map (λ e. e.1) group.now }
+    requires whole { All (λ e. IsTrue (encloses whole.now e.1)) group.now }
     requires few { length group.now ≤ 8 }
     ensures ok { (t : Tree) → IsBelow nodes.now bodies.now at t →
         OnOk result (found.new.items ≡ found.old.items ++ crossed group.now (exact bodies.now (leaves t))) }
     ensures count { (t : Tree) → IsBelow nodes.now bodies.now at t → IfOk result (λ n. n ≡ raised looked (all_below t group.now)) }
 {
     match nodes.node(at) {
-        NodeView::Leaf { slot, fat: _ } => {
-            push_met(bodies, *slot, group, boxes, found)?;
+        NodeView::Leaf { slot, fat } => {
+            if whole.overlaps(fat) {
+                push_met(bodies, *slot, group, boxes, found)?;
+            }
             Ok(looked)
         }
         NodeView::Inner {
@@ -114,17 +137,51 @@ fn descend_together(
             hull,
             height: _,
         } => {
-            let mask = boxes.overlap_mask(0, hull);
-            if mask == 0 {
+            if !whole.overlaps(hull) {
                 return Ok(looked);
             }
-            // each of these looks at both children
-            let here = looked.saturating_add(2 * u64::from(mask.count_ones()));
-            let more = descend_together(nodes, bodies, *left, group, boxes, here, found)?;
-            let all = descend_together(nodes, bodies, *right, group, boxes, more, found)?;
+            let all = open_together(
+                nodes, bodies, *left, *right, hull, group, boxes, whole, looked, found,
+            )?;
             Ok(all)
         }
     }
+}
+
+// The same below an inner node. Those of the group go on that meet its hull, and none else meets the hulls below it. So
+// whoever of the group meets a hull is still there.
+#[cycle(together)]
+fn open_together(
+    nodes: &Nodes,
+    bodies: &[Option<FBox>],
+    left: usize,
+    right: usize,
+    hull: &FBox,
+    group: &[(u32, FBox)],
+    boxes: &Columns,
+    whole: &FBox,
+    looked: u64,
+    found: &mut Vec<Pair>,
+) -> Result<u64, NoMemory>
+    requires laws { BoxLaws }
+    requires parts { (t : Tree) × AreParts nodes.now bodies.now left right hull.now t }
+    requires boxes { boxes.now.boxes ≡ map (λ e. e.1) group.now }
+    requires whole { All (λ e. IsTrue (encloses whole.now e.1)) group.now }
+    requires few { length group.now ≤ 8 }
+    ensures ok { (t : Tree) → AreParts nodes.now bodies.now left right hull.now t →
+        OnOk result (found.new.items ≡ found.old.items ++ crossed group.now (exact bodies.now (leaves t))) }
+    ensures count { (t : Tree) → AreParts nodes.now bodies.now left right hull.now t →
+        IfOk result (λ n. n ≡ raised looked (all_below t group.now)) }
+{
+    let mask = boxes.overlap_mask(0, hull);
+    if mask == 0 {
+        return Ok(looked);
+    }
+    // each of these looks at both children
+    let here = looked.saturating_add(2 * u64::from(mask.count_ones()));
+    let more = descend_together(nodes, bodies, left, group, boxes, whole, here, found)?;
+    let all = descend_together(nodes, bodies, right, group, boxes, whole, more, found)?;
+    Ok(all)
 }
 
 // Appends the pairs of the exact box of a slot with those of a group that meet it.
