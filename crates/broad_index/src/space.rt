@@ -1,11 +1,11 @@
 ghost use Rattle.std.specs.Prelude.{pos, negsuc, ◌≤ℤ◌, IsTrue};
 ghost use Rattle.fixed_box.specs.Bounds.{meets};
-ghost use Rattle.hier_grid.specs.Space.{space};
+ghost use Rattle.broad_index.specs.Space.{space};
 
 use fixed_box::{FBox, Fix};
 
-// A law for proofs, with nothing to run: a box has its corners in space.
-pub(crate) fn space_law(body: &FBox)
+/// A law for proofs, with nothing to run: a box has its corners in space.
+pub fn space_law(body: &FBox)
     ensures { IsTrue (meets space body.now) }
 {
     let lo = body.lo();

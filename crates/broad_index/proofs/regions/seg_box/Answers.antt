@@ -1,7 +1,7 @@
 -- At the fraction at which the segment is in the box it lies between its two ends.
 use Rattle.ray_slabs.specs.WideBounds.{widened_box}
-use Rattle.hier_grid.proofs.RegionLemmas.{seg_touches}
-use Rattle.hier_grid.proofs.regions.seg_box.Goals as goal
+use Rattle.broad_index.proofs.RegionLemmas.{seg_touches}
+use Rattle.broad_index.proofs.regions.seg_box.Goals as goal
 
 pub returns : goal.returns
 returns c b near met =

@@ -11,8 +11,8 @@ use Rattle.fixed_box.specs.Point.{is_at_most}
 use Rattle.ray_slabs.specs.Law.{IsWithin, RayMeets, SegMeets}
 use Rattle.ray_slabs.specs.Vector.{Vector}
 use Rattle.ray_slabs.specs.WideBounds.{widened_box}
-use Rattle.hier_grid.specs.Space.{space, IsNearest, IsFar, IsTouched, AreTouched}
-use Rattle.hier_grid.proofs.CellLemmas.{Axes, axes, int_order}
+use Rattle.broad_index.specs.Space.{space}
+use Rattle.broad_index.specs.Regions.{IsNearest, IsFar, IsTouched, AreTouched}
 
 -- ---- products by a number that isn't negative
 step : (n : ℕ) (x : ℤ) → (pos (suc n) *ℤ x) ≡ ((pos n *ℤ x) +ℤ x)
@@ -59,13 +59,11 @@ ray_axis : (f d n end lo hi : ℤ) (p q : ℕ) → 0 < q → IsNearest f n → I
 ray_axis f d n end lo hi p q some near far w low high =
     let up : pos 0 ≤ℤ d → n ≤ℤ hi = λ (s : pos 0 ≤ℤ d). near.below hi (unscaled q f hi some (omega (arith, ints, ahead p d s, w.1))) low in
     let down : d ≤ℤ pos 0 → lo ≤ℤ n = λ (s : d ≤ℤ pos 0). near.above lo (unscaled q lo f some (omega (arith, ints, back p d s, w.0))) high in
-    elim (int_order d (pos 0)) as (λ _. IsTouched n end lo hi) [
-      | inl falls ↦ record { below = inr (omega (arith, ints, far.down falls, low)); above = inl (down (omega (arith, ints))) }
-      | inr r ↦ elim r as (λ _. IsTouched n end lo hi) [
-        | inl stays ↦ record { below = inl (up (omega (arith, ints))); above = inl (down (omega (arith, ints))) }
-        | inr rises ↦ record { below = inl (up (omega (arith, ints))); above = inr (omega (arith, ints, far.up rises, high)) }
-      ]
-    ]
+    by_lt_z d (pos 0)
+    (λ falls. record { below = inr (omega (arith, ints, far.down falls, low)); above = inl (down (omega (arith, ints))) })
+    (λ stays. by_lt_z (pos 0) d
+    (λ rises. record { below = inl (up stays); above = inr (omega (arith, ints, far.up rises, high)) })
+    (λ still. record { below = inl (up stays); above = inl (down still) }))
 
 seg_axis : (a c n r lo hi : ℤ) (p q : ℕ) → 0 < q → p ≤ q → IsNearest a n → IsNearest c r → IsWithin p q a (c -ℤ a) lo hi
     → negsuc 2147483647 ≤ℤ hi → lo ≤ℤ pos 2147483647 → IsTouched n r lo hi
@@ -85,14 +83,14 @@ seg_axis a c n r lo hi p q some part near other w low high =
     })
 
 -- ---- the whole
+-- the upper corner of a box in space is no lower than space begins, and the lower one no higher than it ends
 record InSpace (b : Bounds) : Type 0 where
-  pub low : Axes space.lo b.hi
-  pub high : Axes b.lo space.hi
-
-in_space : (b : Bounds) → meets space b ≡ true → InSpace b
-in_space b h =
-    let parts = and_parts (is_at_most space.lo b.hi) (is_at_most b.lo space.hi) h in
-    record { low = axes space.lo b.hi parts.0; high = axes b.lo space.hi parts.1 }
+  pub low_x : negsuc 2147483647 ≤ℤ b.hi.x
+  pub low_y : negsuc 2147483647 ≤ℤ b.hi.y
+  pub low_z : negsuc 2147483647 ≤ℤ b.hi.z
+  pub high_x : b.lo.x ≤ℤ pos 2147483647
+  pub high_y : b.lo.y ≤ℤ pos 2147483647
+  pub high_z : b.lo.z ≤ℤ pos 2147483647
 
 at_least : (x : ℤ) → int_le (negsuc 2147483647) x ≡ true → negsuc 2147483647 ≤ℤ x
 at_least x h = omega (arith, ints)
@@ -100,14 +98,30 @@ at_least x h = omega (arith, ints)
 at_most : (x : ℤ) → int_le x (pos 2147483647) ≡ true → x ≤ℤ pos 2147483647
 at_most x h = omega (arith, ints)
 
+in_space : (b : Bounds) → meets space b ≡ true → InSpace b
+in_space b h =
+    let parts = and_parts (is_at_most space.lo b.hi) (is_at_most b.lo space.hi) h in
+    let low = and_parts (int_le space.lo.x b.hi.x && int_le space.lo.y b.hi.y) (int_le space.lo.z b.hi.z) parts.0 in
+    let lows = and_parts (int_le space.lo.x b.hi.x) (int_le space.lo.y b.hi.y) low.0 in
+    let high = and_parts (int_le b.lo.x space.hi.x && int_le b.lo.y space.hi.y) (int_le b.lo.z space.hi.z) parts.1 in
+    let highs = and_parts (int_le b.lo.x space.hi.x) (int_le b.lo.y space.hi.y) high.0 in
+    record {
+      low_x = at_least b.hi.x lows.0;
+      low_y = at_least b.hi.y lows.1;
+      low_z = at_least b.hi.z low.1;
+      high_x = at_most b.lo.x highs.0;
+      high_y = at_most b.lo.y highs.1;
+      high_z = at_most b.lo.z high.1;
+    }
+
 pub ray_touches : (f d : Vector) (p r : Point) (b : Bounds) → IsNearest f.x p.x → IsNearest f.y p.y → IsNearest f.z p.z
     → IsFar d.x r.x → IsFar d.y r.y → IsFar d.z r.z → meets space b ≡ true → RayMeets f d (widened_box b) → AreTouched p r b
 ray_touches f d p r b nx ny nz fx fy fz h w =
     let s = in_space b h in
     record {
-      x = ray_axis f.x d.x p.x r.x b.lo.x b.hi.x w.p w.q w.above_zero nx fx w.x (at_least b.hi.x s.low.x) (at_most b.lo.x s.high.x);
-      y = ray_axis f.y d.y p.y r.y b.lo.y b.hi.y w.p w.q w.above_zero ny fy w.y (at_least b.hi.y s.low.y) (at_most b.lo.y s.high.y);
-      z = ray_axis f.z d.z p.z r.z b.lo.z b.hi.z w.p w.q w.above_zero nz fz w.z (at_least b.hi.z s.low.z) (at_most b.lo.z s.high.z);
+      x = ray_axis f.x d.x p.x r.x b.lo.x b.hi.x w.p w.q w.above_zero nx fx w.x s.low_x s.high_x;
+      y = ray_axis f.y d.y p.y r.y b.lo.y b.hi.y w.p w.q w.above_zero ny fy w.y s.low_y s.high_y;
+      z = ray_axis f.z d.z p.z r.z b.lo.z b.hi.z w.p w.q w.above_zero nz fz w.z s.low_z s.high_z;
     }
 
 pub seg_touches : (a c : Vector) (p r : Point) (b : Bounds) → IsNearest a.x p.x → IsNearest a.y p.y → IsNearest a.z p.z
@@ -116,9 +130,9 @@ seg_touches a c p r b nx ny nz fx fy fz h m =
     let s = in_space b h in
     let w = m.ahead in
     record {
-      x = seg_axis a.x c.x p.x r.x b.lo.x b.hi.x w.p w.q w.above_zero m.at_most_one nx fx w.x (at_least b.hi.x s.low.x) (at_most b.lo.x s.high.x);
-      y = seg_axis a.y c.y p.y r.y b.lo.y b.hi.y w.p w.q w.above_zero m.at_most_one ny fy w.y (at_least b.hi.y s.low.y) (at_most b.lo.y s.high.y);
-      z = seg_axis a.z c.z p.z r.z b.lo.z b.hi.z w.p w.q w.above_zero m.at_most_one nz fz w.z (at_least b.hi.z s.low.z) (at_most b.lo.z s.high.z);
+      x = seg_axis a.x c.x p.x r.x b.lo.x b.hi.x w.p w.q w.above_zero m.at_most_one nx fx w.x s.low_x s.high_x;
+      y = seg_axis a.y c.y p.y r.y b.lo.y b.hi.y w.p w.q w.above_zero m.at_most_one ny fy w.y s.low_y s.high_y;
+      z = seg_axis a.z c.z p.z r.z b.lo.z b.hi.z w.p w.q w.above_zero m.at_most_one nz fz w.z s.low_z s.high_z;
     }
 
 lesser_first : (p r hi : ℤ) → p ≤ℤ hi → int_le (int_min p r) hi ≡ true

@@ -1,7 +1,7 @@
 -- A number that is stopped at an end of 32 bits lies past that end.
 use Rattle.std.proofs.Common.{arith}
 use Rattle.std.proofs.lemmas.Int.{ints, clamps}
-use Rattle.hier_grid.proofs.regions.nearest.Goals as goal
+use Rattle.broad_index.proofs.regions.nearest.Goals as goal
 
 pub returns : goal.returns
 returns c = record {

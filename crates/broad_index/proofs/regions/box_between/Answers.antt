@@ -1,8 +1,8 @@
 -- The hull of the two points has what lies between them on each axis.
 use Rattle.std.proofs.Common.{ap, ◌∙◌}
 use Rattle.fixed_box.specs.Bounds.{Bounds, hull, meets}
-use Rattle.hier_grid.proofs.RegionLemmas.{touched_met}
-use Rattle.hier_grid.proofs.regions.box_between.Goals as goal
+use Rattle.broad_index.proofs.RegionLemmas.{touched_met}
+use Rattle.broad_index.proofs.regions.box_between.Goals as goal
 
 pub returns : goal.returns
 returns c b t =

@@ -4,7 +4,7 @@ use Rattle.std.specs.Cmp.{first_so}
 use Rattle.std.specs.Option.{SomeIff}
 use Rattle.fixed_box.specs.Bounds.{Bounds}
 use Rattle.fixed_box.specs.Point.{is_at_most}
-use Rattle.hier_grid.proofs.regions.flat_box.Goals as goal
+use Rattle.broad_index.proofs.regions.flat_box.Goals as goal
 
 made : (o : Option Bounds) (P : Type 0) (v : Bounds) → SomeIff o P v → P → IsSome o
 made None P v h p = absurd (h p)

@@ -1,8 +1,8 @@
 -- Each coordinate of the corners has 32 bits.
 use Rattle.std.proofs.Common.{arith}
 use Rattle.std.proofs.lemmas.Int.{ints}
-use Rattle.hier_grid.proofs.RegionLemmas.{spaced}
-use Rattle.hier_grid.proofs.space.space_law.Goals as goal
+use Rattle.broad_index.proofs.RegionLemmas.{spaced}
+use Rattle.broad_index.proofs.space.space_law.Goals as goal
 
 pub returns : goal.returns
 returns c =

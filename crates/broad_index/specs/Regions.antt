@@ -1,14 +1,7 @@
--- This file only serves proofs: the space that all boxes lie in, and where in it the region of a ray or a segment lies.
+-- This file only serves proofs: where in space the region of a ray or a segment lies.
 use Rattle.std.specs.Prelude.{◌≡◌, ◌⊎◌, ℤ, pos, negsuc, ◌≤ℤ◌, ◌<ℤ◌}
 use Rattle.fixed_box.specs.Bounds.{Bounds}
 use Rattle.fixed_box.specs.declared.point.Point.{Point}
-
--- all points whose coordinates have 32 bits
-abbrev pub space : Bounds
-space = record {
-  lo = record { x = negsuc 2147483647; y = negsuc 2147483647; z = negsuc 2147483647 };
-  hi = record { x = pos 2147483647; y = pos 2147483647; z = pos 2147483647 };
-}
 
 -- n is the number of 32 bits nearest to x, so what bounds x from above or from below, and is in reach of 32 bits, bounds n as well.
 pub record IsNearest (x n : ℤ) : Type 0 where

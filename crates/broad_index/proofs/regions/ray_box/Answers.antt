@@ -1,7 +1,7 @@
 -- At the fraction at which the ray is in the box it lies between its start and the end of space.
 use Rattle.ray_slabs.specs.WideBounds.{widened_box}
-use Rattle.hier_grid.proofs.RegionLemmas.{ray_touches}
-use Rattle.hier_grid.proofs.regions.ray_box.Goals as goal
+use Rattle.broad_index.proofs.RegionLemmas.{ray_touches}
+use Rattle.broad_index.proofs.regions.ray_box.Goals as goal
 
 pub returns : goal.returns
 returns c b near met =

@@ -2,7 +2,8 @@ ghost use Rattle.std.specs.Prelude.{◌≡◌, true, IsTrue};
 ghost use Rattle.fixed_box.specs.Bounds.{Bounds, holds, meets};
 ghost use Rattle.ray_slabs.specs.Crossing.{in_ray, in_seg};
 ghost use Rattle.ray_slabs.specs.WideBounds.{widened_box};
-ghost use Rattle.hier_grid.specs.Space.{space, IsNearest, IsFar, AreTouched};
+ghost use Rattle.broad_index.specs.Regions.{IsNearest, IsFar, AreTouched};
+ghost use Rattle.broad_index.specs.Space.{space};
 
 use fixed_box::{FBox, Point, box_laws};
 use ray_slabs::{Ray, Seg, WPoint, ray_law, seg_law};
