@@ -4,9 +4,11 @@ pub mod Gathering
 pub mod Holding
 pub mod MapMembers
 pub mod Merging
+pub mod MetPlaces
 pub mod OneRising
 pub mod PairKeys
 pub mod PlainEntries
+pub mod RegionLemmas
 pub mod Renewing
 pub mod Seeking
 pub mod Settled

@@ -1,5 +1,5 @@
 -- Slots in order with their boxes beside them, as the map that they are.
-use Rattle.std.proofs.Common.{◌≡◌, ℕ, suc, ◌+◌, ◌<◌, ◌≤◌, pos, Bool, true, false, cond, T, List, ◌∷◌, ◌++◌, length, map, filter, take, drop, zip}
+use Rattle.std.proofs.Common.{◌≡◌, ℕ, suc, ◌+◌, ◌<◌, ◌≤◌, pos, Bool, true, false, T, List, ◌∷◌, ◌++◌, length, map, filter, take, drop, zip}
 use Rattle.std.proofs.Common.{insert, remove, set, get_or, sym, ap, ap₂, subst, ◌∙◌, arith, nat_lt, is_some}
 use Rattle.std.proofs.Common.{length-append, length-take, length-drop, length-set}
 use Rattle.std.specs.List.{AllWithin}
@@ -7,19 +7,18 @@ use Rattle.std.specs.List.Sorted.{IsPartitionedBy}
 use Rattle.std.specs.Ordering.{nat_cmp}
 use Rattle.std.specs.FinMap.{FinMap, entries, contains_key, find, is_sorted, insert as insert_key, remove as remove_key}
 use Rattle.std.specs.FinMap.Entries.{put}
-use Rattle.std.proofs.lemmas.List.{drop_at, drop_more, get_or_default, take_at}
+use Rattle.std.proofs.lemmas.List.{drop_at, drop_more, take_at}
 use Rattle.std.proofs.lemmas.Simd.{map-map}
-use Rattle.std.proofs.lemmas.List.Elements.{All-append, All-cons, All-drop, All-take}
+use Rattle.std.proofs.lemmas.List.Elements.{All-append, All-cons, All-drop, All-set, All-take}
 use Rattle.std.proofs.lemmas.Slice.Zip.{get_or-zip, length-zip}
 use Rattle.fixed_box.specs.Bounds.{Bounds, meets}
 use Rattle.fixed_box.specs.declared.TheConstants.{SLOTS}
 use Rattle.lane_boxes.specs.Places.{places}
 use Rattle.broad_index.specs.declared.pair.Pair.{Pair}
 use Rattle.broad_index.specs.Entries.{AreEntries, Placed, pairs_at}
-use Rattle.broad_index.specs.declared.query.Query.{Query}
-use Rattle.broad_index.specs.Found.{found_of, query_meets}
 use Rattle.broad_index.specs.Index.{bodies_of}
 use Rattle.broad_index.specs.Near.{near_of, partners}
+use Rattle.broad_index.specs.Space.{space}
 use Rattle.broad_index.proofs.SortedEntries.{absent_from, entries_of_sorted, from_sorted-put, from_sorted-remove, insert_is_put, key_there}
 use Rattle.broad_index.proofs.SortedEntries.{partitioned, present_from, present_within, rising_few, set_is_put, sorted_put, sorted_removed}
 
@@ -64,10 +63,10 @@ module _ (slots : List ℕ) (boxes : List Bounds) (a : AreEntries slots boxes) w
         ap bodies_of (law ∙ insert_is_put (zip slots boxes) slot body at (absent_from (zip slots boxes) slot a.sorted absent) p.bound p.below p.above)
         ∙ from_sorted-put (zip slots boxes) slot body a.sorted
 
-    pub inserted_are : (body : Bounds) → slot < SLOTS → contains_key (bodies_of (zip slots boxes)) slot ≡ false
+    pub inserted_are : (body : Bounds) → slot < SLOTS → meets space body ≡ true → contains_key (bodies_of (zip slots boxes)) slot ≡ false
         → zip (insert slots at slot) (insert boxes at body) ≡ insert (zip slots boxes) at (slot, body) → AreEntries (insert slots at slot)
         (insert boxes at body)
-    inserted_are body small absent law = record {
+    inserted_are body small near absent law = record {
       same =
           omega (
             arith,
@@ -86,6 +85,9 @@ module _ (slots : List ℕ) (boxes : List Bounds) (a : AreEntries slots boxes) w
       small =
           All-append (λ s. s < SLOTS) (take at slots) (slot ∷ drop at slots) (All-take (λ s. s < SLOTS) at slots a.small)
           (All-cons (λ s. s < SLOTS) slot (drop at slots) small (All-drop (λ s. s < SLOTS) at slots a.small));
+      in_space =
+          All-append (λ b. meets space b ≡ true) (take at boxes) (body ∷ drop at boxes) (All-take (λ b. meets space b ≡ true) at boxes a.in_space)
+          (All-cons (λ b. meets space b ≡ true) body (drop at boxes) near (All-drop (λ b. meets space b ≡ true) at boxes a.in_space));
     }
 
     module _ (present : contains_key (bodies_of (zip slots boxes)) slot ≡ true) where
@@ -107,11 +109,12 @@ module _ (slots : List ℕ) (boxes : List Bounds) (a : AreEntries slots boxes) w
           → bodies_of (zip slots (set boxes at body)) ≡ insert_key (bodies_of (zip slots boxes)) slot body
       set_map body law = ap bodies_of (set_put body law) ∙ from_sorted-put (zip slots boxes) slot body a.sorted
 
-      pub set_are : (body : Bounds) → zip slots (set boxes at body) ≡ set (zip slots boxes) at (get_or slots at 0, body) → AreEntries slots (set boxes at body)
-      set_are body law = record {
+      pub set_are : (body : Bounds) → meets space body ≡ true → zip slots (set boxes at body) ≡ set (zip slots boxes) at (get_or slots at 0, body) → AreEntries slots (set boxes at body)
+      set_are body near law = record {
         same = omega (arith, length-set boxes at body, a.same);
         sorted = subst (λ es. T (is_sorted nat_cmp es)) (sym (set_put body law)) (sorted_put (zip slots boxes) slot body a.sorted);
         small = a.small;
+        in_space = All-set (λ b. meets space b ≡ true) boxes at body near a.in_space;
       }
 
       pub removed_map : zip (remove slots at) (remove boxes at) ≡ remove (zip slots boxes) at
@@ -135,6 +138,9 @@ module _ (slots : List ℕ) (boxes : List Bounds) (a : AreEntries slots boxes) w
         small =
             All-append (λ s. s < SLOTS) (take at slots) (drop (suc at) slots) (All-take (λ s. s < SLOTS) at slots a.small)
             (All-drop (λ s. s < SLOTS) (suc at) slots a.small);
+        in_space =
+            All-append (λ b. meets space b ≡ true) (take at boxes) (drop (suc at) boxes) (All-take (λ b. meets space b ≡ true) at boxes a.in_space)
+            (All-drop (λ b. meets space b ≡ true) (suc at) boxes a.in_space);
       }
 
   -- the places of the later boxes that meet one name its partners
@@ -159,20 +165,6 @@ module _ (slots : List ℕ) (boxes : List Bounds) (a : AreEntries slots boxes) w
   pub near_step : (at s : ℕ) (body : Bounds) → at < length slots → s ≡ get_or slots at s → body ≡ get_or boxes at body
       → near_of (drop at (zip slots boxes)) ≡ partners s body (drop (at + 1) (zip slots boxes)) ++ near_of (drop (at + 1) (zip slots boxes))
   near_step at s body l es eb = ap near_of (entry_step at s body l es eb)
-
-  -- what is found from a place on, where the box there meets the query, and where it doesn't
-  pub found_met : (query : Query) (at s : ℕ) (body : Bounds) → at < length slots → s ≡ get_or slots at s → body ≡ get_or boxes at body
-      → query_meets query body ≡ true → found_of (drop at (zip slots boxes)) query ≡ s ∷ found_of (drop (at + 1) (zip slots boxes)) query
-  found_met query at s body l es eb h =
-      let rest = filter (λ e. query_meets query e.1) (drop (at + 1) (zip slots boxes)) in
-      ap (λ es. found_of es query) (entry_step at s body l es eb) ∙ ap (λ t. map (λ e. e.0) (cond t ((s, body) ∷ rest) rest)) h
-
-  pub found_missed : (query : Query) (at : ℕ) (body : Bounds) → at < length slots → body ≡ get_or boxes at body
-      → query_meets query body ≡ false → found_of (drop at (zip slots boxes)) query ≡ found_of (drop (at + 1) (zip slots boxes)) query
-  found_missed query at body l eb h =
-      let s = get_or slots at 0 in
-      let rest = filter (λ e. query_meets query e.1) (drop (at + 1) (zip slots boxes)) in
-      ap (λ es. found_of es query) (entry_step at s body l (get_or_default slots at 0 s l) eb) ∙ ap (λ t. map (λ e. e.0) (cond t ((s, body) ∷ rest) rest)) h
 
   -- the places of all boxes that pass a test name the slots that are found
   pub found_named : (test : Bounds → Bool) (old : List ℕ) (before : ℕ) → length old ≡ before

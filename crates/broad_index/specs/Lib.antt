@@ -8,5 +8,7 @@ pub mod Members
 pub mod Near
 pub mod NearRises
 pub mod PairOrder
+pub mod Regions
 pub mod Searched
+pub mod Space
 pub mod Touched

@@ -3,11 +3,12 @@ ghost use Rattle.std.specs.Prelude.{length, map as mapped, take, drop, slice_ind
 ghost use Rattle.std.specs.FinMap as map;
 ghost use Rattle.broad_index.specs.Entries.{Placed, pairs_at};
 ghost use Rattle.broad_index.specs.Found.{found};
-ghost use Rattle.broad_index.specs.declared.query.Query.TheVariants.{Region, Spot};
 ghost use Rattle.broad_index.specs.Near.{near, near_of};
 
+use crate::met_places::push_met_places;
+use crate::space::space_law;
 use crate::{Pair, Query};
-use fixed_box::{FBox, NoMemory, Point, SLOTS};
+use fixed_box::{FBox, NoMemory, SLOTS};
 use lane_boxes::{Columns, beside_laws, place_laws};
 use std::alloc::Global;
 use std::marker::Model;
@@ -53,6 +54,7 @@ impl Entries {
         requires absent { map.contains_key self.old slot ≡ false }
         ensures ok { OnOk result (self.new ≡ map.insert self.old slot body) }
     {
+        space_law(&body);
         beside_laws();
         let at = self.place(slot);
         self.slots.reserve(1)?;
@@ -66,6 +68,7 @@ impl Entries {
         requires { map.contains_key self.old slot ≡ true }
         ensures { self.new ≡ map.insert self.old slot body }
     {
+        space_law(&body);
         beside_laws();
         let at = self.place(slot);
         self.boxes.set(at, body);
@@ -143,62 +146,10 @@ impl Entries {
         ensures ok { OnOk result (out.new.items ≡ out.old.items ++ found self.now query.now) }
         ensures err { OnErr result (out.new.items ≡ out.old.items) }
     {
-        match query {
-            Query::Region(region) => self.push_overlapping(region, out),
-            Query::Spot(at) => self.push_holding(at, out),
-            Query::Along(_) | Query::Between(_) => self.push_met(query, out),
-        }
-    }
-
-    // The slots whose boxes overlap a region.
-    fn push_overlapping(&self, region: &FBox, out: &mut Vec<u32>) -> Result<(), NoMemory>
-        ensures ok { OnOk result (out.new.items ≡ out.old.items ++ found self.now (Region region.now)) }
-        ensures err { OnErr result (out.new.items ≡ out.old.items) }
-    {
         place_laws();
         let before = out.len();
-        self.boxes.scan(region, out)?;
+        push_met_places(&self.boxes, query, out)?;
         name_places(&self.slots, before, out);
-        Ok(())
-    }
-
-    // The slots whose boxes hold a point.
-    fn push_holding(&self, at: &Point, out: &mut Vec<u32>) -> Result<(), NoMemory>
-        ensures ok { OnOk result (out.new.items ≡ out.old.items ++ found self.now (Spot at.now)) }
-        ensures err { OnErr result (out.new.items ≡ out.old.items) }
-    {
-        place_laws();
-        let before = out.len();
-        self.boxes.scan_point(at, out)?;
-        name_places(&self.slots, before, out);
-        Ok(())
-    }
-
-    // The slots whose boxes meet any query, by a test of one after the other.
-    fn push_met(&self, query: &Query, out: &mut Vec<u32>) -> Result<(), NoMemory>
-        ensures ok { OnOk result (out.new.items ≡ out.old.items ++ found self.now query.now) }
-        ensures err { OnErr result (out.new.items ≡ out.old.items) }
-    {
-        let before = out.len();
-        let found = self.push_tested(query, out);
-        if found.is_err() {
-            out.truncate(before);
-        }
-        found
-    }
-
-    // The same. What was there stays, after an `Err` too.
-    fn push_tested(&self, query: &Query, out: &mut Vec<u32>) -> Result<(), NoMemory>
-        ensures ok { OnOk result (out.new.items ≡ out.old.items ++ found self.now query.now) }
-        ensures kept { take (vec_len out.old) out.new.items ≡ out.old.items }
-    {
-        let mut at = 0;
-        'boxes: while at < self.slots.len() {
-            if query.meets(&self.boxes.box_at(at)) {
-                out.push(self.slots[at])?;
-            }
-            at += 1;
-        }
         Ok(())
     }
 }

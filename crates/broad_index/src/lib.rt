@@ -5,11 +5,14 @@ mod broad_phase;
 mod entries;
 mod gather;
 mod laws;
+mod met_places;
 mod pair;
 mod pair_seeker;
 mod plain_index;
 mod query;
+mod regions;
 mod rising;
+mod space;
 
 pub use broad_phase::BroadPhase;
 pub use gather::{join_pieces, push_gathered, push_gathered_with, push_ordered_pairs};
@@ -19,6 +22,7 @@ pub use pair_seeker::PairSeeker;
 pub use plain_index::PlainIndex;
 pub use query::{QKind, Query};
 pub use rising::{push_rising_pairs, push_rising_slots, renew_pairs, settle_pairs};
+pub use space::space_law;
 pub use work_pieces::{Gate, NoGate};
 
 #[cfg(test)]

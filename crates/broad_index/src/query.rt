@@ -1,6 +1,9 @@
-ghost use Rattle.std.specs.Prelude.{◌≡◌};
+ghost use Rattle.std.specs.Prelude.{◌≡◌, true, IsTrue};
+ghost use Rattle.fixed_box.specs.Bounds.{Bounds, meets};
 ghost use Rattle.broad_index.specs.Found.{query_meets, kind_of};
+ghost use Rattle.broad_index.specs.Space.{space};
 
+use crate::regions::{flat_box, ray_box, seg_box};
 use fixed_box::{FBox, Point};
 use ray_slabs::{Ray, Seg, WBox, ray_meets, seg_meets};
 
@@ -48,6 +51,20 @@ impl Query {
             Query::Spot(at) => body.holds_point(at),
             Query::Along(ray) => ray_meets(ray, &WBox::of(body)),
             Query::Between(seg) => seg_meets(seg, &WBox::of(body)),
+        }
+    }
+
+    /// A box that all boxes meet which meet the query, so that a search looks near it and tests what it finds: the query's
+    /// own, the flat one at a spot, the one from a ray's start to the end of space on each axis in the direction's sign, or
+    /// the one around a segment's ends.
+    pub fn region(&self) -> FBox
+        ensures { (b : Bounds) → IsTrue (meets space b) → query_meets self.now b ≡ true → meets result b ≡ true }
+    {
+        match self {
+            Query::Region(region) => *region,
+            Query::Spot(at) => flat_box(at),
+            Query::Along(ray) => ray_box(ray),
+            Query::Between(seg) => seg_box(seg),
         }
     }
 }

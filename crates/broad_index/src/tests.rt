@@ -1,5 +1,11 @@
+ghost use Rattle.std.specs.Prelude.{◌≡◌, ◌≤◌, length};
+ghost use Rattle.std.specs.FinMap as map;
+
 use super::*;
-use fixed_box::{FBox, Point};
+use fixed_box::{FBox, NoMemory, Point, SLOTS};
+use ray_slabs::{Ray, Seg, WPoint};
+use std::alloc::Global;
+use std::process::Abort;
 use std::test::Fail;
 
 fn at(x: i32) -> Point {
@@ -142,4 +148,132 @@ fn pieces_are_joined_in_rising_order(rt: HostRuntime) -> Result<(), Fail> {
     assert_eq!(rt; pairs.as_slice(), [low, middle, high].as_slice());
     assert_eq!(rt; join_pieces(&pieces, u64::MAX - 6, &mut pairs)?, u64::MAX);
     Ok(())
+}
+
+const LOW: i32 = i32::MIN;
+
+const HIGH: i32 = i32::MAX;
+
+fn corner(parts: [i32; 3]) -> Point {
+    let [x, y, z] = parts;
+    Point { x, y, z }
+}
+
+// Boxes around the origin, flat ones ahead of it and beside that, and one in each of two corners of space.
+fn five_boxes() -> Option<[FBox; 5]> {
+    Some([
+        FBox::new(corner([-2, -2, -2]), corner([2, 2, 2]))?,
+        FBox::new(corner([10, -2, -2]), corner([10, 2, 2]))?,
+        FBox::new(corner([10, 3, 0]), corner([12, 5, 0]))?,
+        FBox::new(corner([LOW, LOW, LOW]), corner([LOW, LOW, LOW]))?,
+        FBox::new(corner([HIGH, HIGH, HIGH]), corner([HIGH, HIGH, HIGH]))?,
+    ])
+}
+
+// Adds boxes under the slots from 0 on.
+fn add_each(index: &mut PlainIndex, bodies: &[FBox]) -> Result<(), NoMemory>
+    requires none { index.old.bodies ≡ map.empty }
+    requires few { length bodies.now ≤ SLOTS }
+{
+    'bodies: for (slot, body) in bodies.iter().enumerate() {
+        index.add(slot as u32, *body)?;
+    }
+    Ok(())
+}
+
+fn same_hits(
+    rt: &impl Abort,
+    alloc: Global,
+    index: &PlainIndex,
+    what: &str,
+    query: &Query,
+    wanted: &[u32],
+) -> Result<(), NoMemory> {
+    let mut hits = Vec::new(alloc);
+    index.hits(query, &mut hits)?;
+    assert_eq!(rt; hits.as_slice(), wanted, "{what}");
+    Ok(())
+}
+
+fn wide(parts: [i64; 3]) -> Result<WPoint, Fail> {
+    let [x, y, z] = parts;
+    Ok(WPoint::new(x, y, z).ok_or("a part is out of range")?)
+}
+
+fn compare_rays(rt: &impl Abort, alloc: Global, index: &PlainIndex) -> Result<(), Fail> {
+    let low = i64::from(LOW);
+    let high = i64::from(HIGH);
+    let beyond = 1 << 33;
+    for (what, from, dir, wanted) in [
+        ("from inside", [0, 0, 0], [1, 0, 0], [0, 1].as_slice()),
+        ("away from inside", [0, 0, 0], [-1, 0, 0], &[0]),
+        ("along an edge", [0, 2, 2], [1, 0, 0], &[0, 1]),
+        ("above an edge", [0, 3, 2], [1, 0, 0], &[]),
+        ("near and not met", [3, 0, 0], [1, 1, 0], &[]),
+        ("onto a flat corner", [3, -4, 0], [1, 1, 0], &[2]),
+        ("away", [11, 10, 0], [0, 1, 0], &[]),
+        ("back", [11, 10, 0], [0, -1, 0], &[2]),
+        ("still", [1, 1, 1], [0, 0, 0], &[0]),
+        ("across space", [low, low, low], [1, 1, 1], &[0, 3, 4]),
+        (
+            "back across space",
+            [high, high, high],
+            [-1, -1, -1],
+            &[0, 3, 4],
+        ),
+        ("from beyond space", [-beyond, 0, 0], [1, 0, 0], &[0, 1]),
+        ("away beyond space", [beyond, high, high], [1, 0, 0], &[]),
+    ] {
+        let ray = Ray {
+            from: wide(from)?,
+            dir: wide(dir)?,
+        };
+        same_hits(rt, alloc, index, what, &Query::Along(ray), wanted)?;
+    }
+    Ok(())
+}
+
+fn compare_segments(rt: &impl Abort, alloc: Global, index: &PlainIndex) -> Result<(), Fail> {
+    let low = i64::from(LOW);
+    let high = i64::from(HIGH);
+    for (what, a, b, wanted) in [
+        ("out of a box", [0, 0, 0], [9, 0, 0], [0].as_slice()),
+        ("onto a flat box", [3, 0, 0], [10, 0, 0], &[1]),
+        ("short of it", [3, 0, 0], [9, 0, 0], &[]),
+        ("a point on an edge", [2, 2, 0], [2, 2, 0], &[0]),
+        ("near and not met", [3, 3, 0], [13, -20, 0], &[]),
+        ("back through two", [10, 3, 0], [10, -3, 0], &[1, 2]),
+        (
+            "across space",
+            [low, low, low],
+            [high, high, high],
+            &[0, 3, 4],
+        ),
+    ] {
+        let seg = Seg {
+            a: wide(a)?,
+            b: wide(b)?,
+        };
+        same_hits(rt, alloc, index, what, &Query::Between(seg), wanted)?;
+    }
+    Ok(())
+}
+
+fn compare_lines(rt: &impl Abort, alloc: Global, index: &mut PlainIndex) -> Result<(), Fail>
+    requires { index.old.bodies ≡ map.empty }
+{
+    let bodies = five_boxes().ok_or("a box")?;
+    add_each(index, &bodies)?;
+    compare_rays(rt, alloc, index)?;
+    compare_segments(rt, alloc, index)
+}
+
+// The test owns its index, and what is done with it stands in functions that borrow it: where a function may return, its
+// proof drops each field of each value that it owns.
+#[test]
+fn rays_and_segments_find_what_they_meet(rt: HostRuntime) -> Result<(), Fail> {
+    let mut index = PlainIndex::new(rt.alloc())?;
+    let done = compare_lines(&rt, rt.alloc(), &mut index);
+    drop(index);
+    done
 }

@@ -14,7 +14,7 @@ use Rattle.broad_index.specs.Members.{has_slot, slots_rise, both_meet, is_found,
 use Rattle.broad_index.specs.NearRises.{entries_rise, slot_lt, true_from}
 use Rattle.broad_index.specs.Searched.{AreAllIn}
 use Rattle.hier_grid.specs.Search.{HasMetIn, meets_at, is_partner, present}
-use Rattle.hier_grid.specs.Space.{space}
+use Rattle.broad_index.specs.Space.{space}
 use Rattle.hier_grid.proofs.GridLemmas.{low_level, tie_is}
 use Rattle.hier_grid.proofs.SlotLemmas.{all_among}
 

@@ -6,7 +6,6 @@ mod LeveledLemmas
 mod MapLemmas
 mod PairLemmas
 mod PartnerLemmas
-mod RegionLemmas
 mod RowLemmas
 mod RunLemmas
 mod SlotLemmas

@@ -2,4 +2,3 @@ pub mod Cells
 pub mod Grid
 pub mod Leveled
 pub mod Search
-pub mod Space

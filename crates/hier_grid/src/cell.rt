@@ -2,7 +2,7 @@ ghost use Rattle.std.specs.Prelude.{◌≡◌, ℤ, pos, negsuc, ◌<◌, ◌≤
 ghost use Rattle.hier_grid.specs.Cells.{cell_at, cell_of, cell_on};
 ghost use Rattle.hier_grid.specs.Grid.{IsSized};
 
-use crate::space::space_law;
+use broad_index::space_law;
 use cell_table::{CellKey, LEVELS};
 use fixed_box::{FBox, Fix, Point};
 

@@ -1,21 +1,18 @@
-ghost use Rattle.std.specs.Prelude.{◌≡◌, ◌<◌, ◌++◌, true, Some, IsTrue, OnOk, OnErr, filter};
+ghost use Rattle.std.specs.Prelude.{◌≡◌, ◌++◌, Some, OnOk, OnErr, filter};
 ghost use Rattle.std.specs.FinMap as map;
-ghost use Rattle.fixed_box.specs.Bounds.{Bounds, meets};
-ghost use Rattle.broad_index.specs.Found.{found, query_meets};
+ghost use Rattle.broad_index.specs.Found.{found};
 ghost use Rattle.broad_index.specs.Members.{is_found};
 ghost use Rattle.slot_search.specs.Reach.{reach};
-ghost use Rattle.hier_grid.specs.Space.{space};
 
 use crate::kept_boxes::KeptBoxes;
 use crate::partners::push_partners;
-use crate::regions::{flat_box, ray_box, seg_box};
 use crate::slot_boxes::SlotBoxes;
 use broad_index::{Query, push_rising_slots};
 use fixed_box::{FBox, NoMemory};
 use std::alloc::Global;
 
-/// Appends the present slots whose boxes meet a query, rising. The query is tested against the boxes near a region that all
-/// boxes meet which meet the query. After an `Err` `out` is as before.
+/// Appends the present slots whose boxes meet a query, rising. The query is tested against the boxes near its region. After
+/// an `Err` `out` is as before.
 pub(crate) fn push_hits(
     kept: &KeptBoxes,
     alloc: Global,
@@ -25,31 +22,12 @@ pub(crate) fn push_hits(
     ensures ok { OnOk result (out.new.items ≡ out.old.items ++ found kept.now query.now) }
     ensures err { OnErr result (out.new.items ≡ out.old.items) }
 {
-    match query {
-        Query::Region(region) => push_near(kept, alloc, query, region, out),
-        Query::Spot(at) => push_near(kept, alloc, query, &flat_box(at), out),
-        Query::Along(ray) => push_near(kept, alloc, query, &ray_box(ray), out),
-        Query::Between(seg) => push_near(kept, alloc, query, &seg_box(seg), out),
-    }
-}
-
-// The same, of a query that only boxes meet which meet a region.
-fn push_near(
-    kept: &KeptBoxes,
-    alloc: Global,
-    query: &Query,
-    region: &FBox,
-    out: &mut Vec<u32>,
-) -> Result<(), NoMemory>
-    requires { (b : Bounds) → IsTrue (meets space b) → query_meets query.now b ≡ true → meets region.now b ≡ true }
-    ensures ok { OnOk result (out.new.items ≡ out.old.items ++ found kept.now query.now) }
-    ensures err { OnErr result (out.new.items ≡ out.old.items) }
-{
     kept.space_law();
+    let region = query.region();
     let mut places = Vec::new(alloc);
     let mut candidates = Vec::new(alloc);
     let end = kept.levels_end();
-    kept.push_from(0, end, region, &mut 0, &mut places, &mut candidates)?;
+    kept.push_from(0, end, &region, &mut 0, &mut places, &mut candidates)?;
     let mut hits = Vec::new(alloc);
     push_found(kept.boxes(), query, &candidates, &mut hits)?;
     push_rising_slots(&mut hits, out)

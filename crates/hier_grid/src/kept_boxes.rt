@@ -3,7 +3,7 @@ ghost use Rattle.std.specs.FinMap as map;
 ghost use Rattle.fixed_box.specs.Bounds.{Bounds, meets};
 ghost use Rattle.hier_grid.specs.Grid.{AreKeyed};
 ghost use Rattle.hier_grid.specs.Search.{HasAfter, HasKeyed, HasMet, HasMetIn, HasMore, IsAbove, IsBare};
-ghost use Rattle.hier_grid.specs.Space.{space};
+ghost use Rattle.broad_index.specs.Space.{space};
 
 use crate::cell::cell_of;
 use crate::leveled_boxes::LeveledBoxes;

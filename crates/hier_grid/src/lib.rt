@@ -11,9 +11,7 @@ mod leveled_boxes;
 mod near_cells;
 mod pair_search;
 mod partners;
-mod regions;
 mod slot_boxes;
-mod space;
 
 pub use grid::HierGrid;
 

@@ -34,7 +34,7 @@ invariant_of-self-2 c =
     let absent = ap (λ (m : FinMap nat_cmp Bounds). contains_key m c.args.slot) c.self.view_is ∙ c.requires.absent in
     let law = c.beside_laws.ensures.inserted slots boxes at c.args.slot c.args.body a.same in
     rw (c.insert-2.ensures.items, c.unwrap.ensures, c.reserve.ensures.items, c.in_ok-insert.ensures.ok)
-    (inserted_are slots boxes a c.args.slot at p c.args.body c.requires.small absent law)
+    (inserted_are slots boxes a c.args.slot at p c.args.body c.requires.small c.space_law.ensures absent law)
 
 pub returns : goal.returns
 returns c =

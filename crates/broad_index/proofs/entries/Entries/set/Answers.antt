@@ -25,7 +25,7 @@ invariant_of-self c =
     let p = placed slots boxes a c.args.self.now c.args.slot at c.self.view_is c.place-at.ensures in
     let present = ap (λ (m : FinMap nat_cmp Bounds). contains_key m c.args.slot) c.self.view_is ∙ c.requires in
     let law = c.beside_laws.ensures.set slots boxes at c.args.body a.same in
-    rw c.set.ensures.boxes (set_are slots boxes a c.args.slot at p present c.args.body law)
+    rw c.set.ensures.boxes (set_are slots boxes a c.args.slot at p present c.args.body c.space_law.ensures law)
 
 pub returns : goal.returns
 returns c =
