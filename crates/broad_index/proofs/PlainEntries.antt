@@ -109,7 +109,8 @@ module _ (slots : List ℕ) (boxes : List Bounds) (a : AreEntries slots boxes) w
           → bodies_of (zip slots (set boxes at body)) ≡ insert_key (bodies_of (zip slots boxes)) slot body
       set_map body law = ap bodies_of (set_put body law) ∙ from_sorted-put (zip slots boxes) slot body a.sorted
 
-      pub set_are : (body : Bounds) → meets space body ≡ true → zip slots (set boxes at body) ≡ set (zip slots boxes) at (get_or slots at 0, body) → AreEntries slots (set boxes at body)
+      pub set_are : (body : Bounds) → meets space body ≡ true → zip slots (set boxes at body) ≡ set (zip slots boxes) at (get_or slots at 0, body)
+          → AreEntries slots (set boxes at body)
       set_are body near law = record {
         same = omega (arith, length-set boxes at body, a.same);
         sorted = subst (λ es. T (is_sorted nat_cmp es)) (sym (set_put body law)) (sorted_put (zip slots boxes) slot body a.sorted);

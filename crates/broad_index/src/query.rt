@@ -54,9 +54,9 @@ impl Query {
         }
     }
 
-    /// A box that all boxes meet which meet the query, so that a search looks near it and tests what it finds: the query's
-    /// own, the flat one at a spot, the one from a ray's start to the end of space on each axis in the direction's sign, or
-    /// the one around a segment's ends.
+    /// A box that all boxes meet which meet the query, so that a search looks there and tests what it finds: the query's
+    /// own, the flat one at a spot, the one from a ray's start to the end of space on each axis in the direction's sign,
+    /// or the one around a segment's ends.
     pub fn region(&self) -> FBox
         ensures { (b : Bounds) → IsTrue (meets space b) → query_meets self.now b ≡ true → meets result b ≡ true }
     {

@@ -268,8 +268,8 @@ fn compare_lines(rt: &impl Abort, alloc: Global, index: &mut PlainIndex) -> Resu
     compare_segments(rt, alloc, index)
 }
 
-// The test owns its index, and what is done with it stands in functions that borrow it: where a function may return, its
-// proof drops each field of each value that it owns.
+// The test owns its index, and what is done with it stands in functions that borrow it: where a function may return,
+// its proof drops each field of each value that it owns.
 #[test]
 fn rays_and_segments_find_what_they_meet(rt: HostRuntime) -> Result<(), Fail> {
     let mut index = PlainIndex::new(rt.alloc())?;

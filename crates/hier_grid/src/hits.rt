@@ -11,8 +11,8 @@ use broad_index::{Query, push_rising_slots};
 use fixed_box::{FBox, NoMemory};
 use std::alloc::Global;
 
-/// Appends the present slots whose boxes meet a query, rising. The query is tested against the boxes near its region. After
-/// an `Err` `out` is as before.
+/// Appends the present slots whose boxes meet a query, rising. The query is tested against the boxes near its region.
+/// After an `Err` `out` is as before.
 pub(crate) fn push_hits(
     kept: &KeptBoxes,
     alloc: Global,
