@@ -23,7 +23,7 @@ use Rattle.tree_nodes.specs.Tree.{Tree, Leaf, tip, fork, top, leaves, height, bo
 use Rattle.tree_nodes.specs.Tree.{Balanced, IsRefitted, IsTreeIn, Within}
 use Rattle.box_tree.specs.Boxes.{marked_slots, raised}
 use Rattle.box_tree.specs.Descent.{entry_of, exact, exact_in, IsInside, IsInsideIn, IsLeafInside}
-use Rattle.box_tree.specs.Group.{others_met, crossed, below, all_below, all_visits_in, picked, Adds, IsShown, IsBelow, AreParts, BoxLaws, OpenedAs}
+use Rattle.box_tree.specs.Group.{others_met, crossed, below, all_below, all_visits_in, picked, Adds, IsShown, IsBelow, meets_shown, AreParts, BoxLaws, OpenedAs}
 use Rattle.box_tree.proofs.Descents.{exact_append}
 use Rattle.box_tree.proofs.Counts.{raised_again}
 use Rattle.box_tree.proofs.CrossedPairs.{crossed_append, crossed_either, has_append}
@@ -76,13 +76,9 @@ height_top : (t : Tree) → height_shown (Some (view_of t)) ≡ height t
 height_top (tip n s f) = refl
 height_top (fork n h k l r) = refl
 
-abbrev pub bounds_shown : NodeView → Bounds
-bounds_shown (LeafNode slot fat) = fat
-bounds_shown (Inner left right h k) = h
-
-bounds_top : (t : Tree) → bounds t ≡ bounds_shown (view_of t)
-bounds_top (tip n s f) = refl
-bounds_top (fork n h k l r) = refl
+meets_top : (b : Bounds) (t : Tree) → meets b (bounds t) ≡ meets_shown b (Some (view_of t))
+meets_top b (tip n s f) = refl
+meets_top b (fork n h k l r) = refl
 
 -- a child is lower
 pub lower : (o : Option Tree) (bodies : List (Option Bounds)) (at down left right k : ℕ) (h : Bounds) (t : Tree) → IsBelow o bodies down t
@@ -226,12 +222,12 @@ module _ (w : BoxLaws) where
   )
 
   -- where it misses a node, nothing is found there and nobody looks on
-  pub missed_together : (o : Option Tree) (bodies : List (Option Bounds)) (at : ℕ) (v : NodeView) (t : Tree) (es : List (ℕ × Bounds)) (whole : Bounds)
-      → IsBelow o bodies at t → view_in o at ≡ Some v → All (λ (e : ℕ × Bounds). encloses whole e.1 ≡ true) es → meets whole (bounds_shown v) ≡ false
+  pub missed_together : (o : Option Tree) (bodies : List (Option Bounds)) (at : ℕ) (t : Tree) (es : List (ℕ × Bounds)) (whole : Bounds)
+      → IsBelow o bodies at t → All (λ (e : ℕ × Bounds). encloses whole e.1 ≡ true) es → meets_shown whole (view_in o at) ≡ false
       → (crossed es (exact bodies (leaves t)) ≡ []) × (all_below t es ≡ 0)
-  missed_together o bodies at v t es whole b e around m =
-      let is : bounds t ≡ bounds_shown v = bounds_top t ∙ ap bounds_shown (one_view o at v t b.at_is (shown_top o t b.shown) e) in
-      quiet_none bodies es t b.balanced b.inside (subst (λ h. Quiet h es) (sym is) (quiet_whole whole (bounds_shown v) m es around))
+  missed_together o bodies at t es whole b around m =
+      let apart : meets whole (bounds t) ≡ false = meets_top whole t ∙ sym (ap (meets_shown whole) (seen o bodies at t b)) ∙ m in
+      quiet_none bodies es t b.balanced b.inside (quiet_whole whole (bounds t) apart es around)
 
   visits_below : (t : Tree) (b : Bounds) → visits t b ≡ 1 + below t b
   visits_below (tip n s f) b = refl

@@ -1,5 +1,5 @@
 -- Serves proofs alone: searches for the pairs of a group of boxes at once.
-use Rattle.std.specs.Prelude.{◌≡◌, ℕ, ◌+◌, ◌%◌, ◌/◌, ◌==◌, Bool, false, not, ◌||◌, List, [], ◌∷◌, ◌++◌, filter, Option, Some, if◌then◌else◌, slice_index_or}
+use Rattle.std.specs.Prelude.{◌≡◌, ℕ, ◌+◌, ◌%◌, ◌/◌, ◌==◌, Bool, false, not, ◌||◌, List, [], ◌∷◌, ◌++◌, filter, Option, None, Some, if◌then◌else◌, slice_index_or}
 use Rattle.fixed_box.specs.Bounds.{Bounds, meets}
 use Rattle.broad_index.specs.declared.pair.Pair.{Pair}
 use Rattle.broad_index.specs.declared.query.Query.{Query}
@@ -59,6 +59,12 @@ pub record IsBelow (o : Option Tree) (bodies : List (Option Bounds)) (at : ℕ) 
   pub shown : IsShown o t
   pub balanced : Balanced t
   pub inside : IsInside bodies t
+
+-- whether a box meets the hull of a node, or the fat box of a leaf
+abbrev pub meets_shown : Bounds → Option NodeView → Bool
+meets_shown b None = false
+meets_shown b (Some (LeafNode slot fat)) = meets b fat
+meets_shown b (Some (Inner left right hull height)) = meets b hull
 
 -- what is known of boxes
 pub record BoxLaws : Type 0 where

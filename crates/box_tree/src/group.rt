@@ -1,12 +1,12 @@
-ghost use Rattle.std.specs.Prelude.{◌≡◌, ◌==◌, ◌<◌, ◌≤◌, ◌++◌, not, map, filter, length, None, OnOk, IfOk, IsTrue, slice_index_or};
+ghost use Rattle.std.specs.Prelude.{◌≡◌, ◌==◌, ◌<◌, ◌≤◌, ◌++◌, not, map, filter, length, None, OnOk, IfOk, IsSome, IsTrue, slice_index_or};
 ghost use Rattle.std.specs.List.{All};
 ghost use Rattle.fixed_box.specs.Bounds.{encloses};
 ghost use Rattle.broad_index.specs.Touched.{ordered_pairs};
 ghost use Rattle.lane_boxes.specs.Places.{next_eight};
-ghost use Rattle.tree_nodes.specs.Tree.{Tree, leaves};
+ghost use Rattle.tree_nodes.specs.Tree.{Tree, leaves, view_in};
 ghost use Rattle.box_tree.specs.Boxes.{raised};
 ghost use Rattle.box_tree.specs.Descent.{entry_of, exact, exact_in, IsInsideIn};
-ghost use Rattle.box_tree.specs.Group.{crossed, all_below, all_visits_in, picked, Adds, AreParts, IsBelow, BoxLaws};
+ghost use Rattle.box_tree.specs.Group.{crossed, all_below, all_visits_in, picked, Adds, meets_shown, AreParts, IsBelow, BoxLaws};
 
 use crate::descent::descent_law;
 use broad_index::Pair;
@@ -43,7 +43,8 @@ pub(crate) fn search_group(
     set_boxes(boxes, group);
     let whole = hull_of(group);
     let here = looked.saturating_add(group.len() as u64);
-    let all = descend_together(nodes, bodies, root, group, boxes, &whole, here, found)?;
+    let near = is_near(nodes, root, &whole);
+    let all = descend_together(nodes, bodies, root, near, group, boxes, &whole, here, found)?;
     Ok(all)
 }
 
@@ -100,15 +101,16 @@ pub(crate) fn fit_group(boxes: &mut Columns, alloc: Global) -> Result<(), NoMemo
     Ok(())
 }
 
-// Descends with a group of boxes from a node on. Appends the pairs of each leaf there with those of the group that meet it,
-// and answers a number raised by how many nodes below this one the boxes look at. The group's hull is asked first: where it
-// misses a node, each of the group does. That is done in place, so that a node that is missed costs no call.
+// Descends with a group of boxes from a node on, where its hull is near. Appends the pairs of each leaf there with those of
+// the group that meet it, and answers a number raised by how many nodes below this one the boxes look at. It is done in
+// place, so that a node that the hull of the group misses costs no call.
 #[cycle(together)]
 #[inline(always)]
 fn descend_together(
     nodes: &Nodes,
     bodies: &[Option<FBox>],
     at: usize,
+    near: bool,
     group: &[(u32, FBox)],
     boxes: &Columns,
     whole: &FBox,
@@ -117,6 +119,7 @@ fn descend_together(
 ) -> Result<u64, NoMemory>
     requires laws { BoxLaws }
     requires below { (t : Tree) × IsBelow nodes.now bodies.now at t }
+    requires near { near ≡ meets_shown whole.now (view_in nodes.now at) }
     requires boxes { boxes.now.boxes ≡ map (λ e. e.1) group.now }
     requires whole { All (λ e. IsTrue (encloses whole.now e.1)) group.now }
     requires few { length group.now ≤ 8 }
@@ -124,11 +127,12 @@ fn descend_together(
         OnOk result (found.new.items ≡ found.old.items ++ crossed group.now (exact bodies.now (leaves t))) }
     ensures count { (t : Tree) → IsBelow nodes.now bodies.now at t → IfOk result (λ n. n ≡ raised looked (all_below t group.now)) }
 {
+    if !near {
+        return Ok(looked);
+    }
     match nodes.node(at) {
-        NodeView::Leaf { slot, fat } => {
-            if whole.overlaps(fat) {
-                push_met(bodies, *slot, group, boxes, found)?;
-            }
+        NodeView::Leaf { slot, fat: _ } => {
+            push_met(bodies, *slot, group, boxes, found)?;
             Ok(looked)
         }
         NodeView::Inner {
@@ -137,9 +141,6 @@ fn descend_together(
             hull,
             height: _,
         } => {
-            if !whole.overlaps(hull) {
-                return Ok(looked);
-            }
             let all = open_together(
                 nodes, bodies, *left, *right, hull, group, boxes, whole, looked, found,
             )?;
@@ -149,7 +150,8 @@ fn descend_together(
 }
 
 // The same below an inner node. Those of the group go on that meet its hull, and none else meets the hulls below it. So
-// whoever of the group meets a hull is still there.
+// whoever of the group meets a hull is still there. Both children are read before either is gone down into, so that the
+// one needn't wait for the other.
 #[cycle(together)]
 fn open_together(
     nodes: &Nodes,
@@ -179,9 +181,31 @@ fn open_together(
     }
     // each of these looks at both children
     let here = looked.saturating_add(2 * u64::from(mask.count_ones()));
-    let more = descend_together(nodes, bodies, left, group, boxes, whole, here, found)?;
-    let all = descend_together(nodes, bodies, right, group, boxes, whole, more, found)?;
+    let first = is_near(nodes, left, whole);
+    let second = is_near(nodes, right, whole);
+    let more = descend_together(nodes, bodies, left, first, group, boxes, whole, here, found)?;
+    let all = descend_together(
+        nodes, bodies, right, second, group, boxes, whole, more, found,
+    )?;
     Ok(all)
+}
+
+// Whether a box meets the hull of a node, or the fat box of a leaf. Where the hull of a group doesn't, no box of the group
+// meets anything below.
+#[inline]
+fn is_near(nodes: &Nodes, at: usize, whole: &FBox) -> bool
+    requires { IsSome (view_in nodes.now at) }
+    ensures { result ≡ meets_shown whole.now (view_in nodes.now at) }
+{
+    match nodes.node(at) {
+        NodeView::Leaf { slot: _, fat } => whole.overlaps(fat),
+        NodeView::Inner {
+            left: _,
+            right: _,
+            hull,
+            height: _,
+        } => whole.overlaps(hull),
+    }
 }
 
 // Appends the pairs of the exact box of a slot with those of a group that meet it.

@@ -109,19 +109,23 @@ inner_there slab (fork n hu j l r) k h u =
     (one_cases n k)
 
 -- the parts of a tree that a slab keeps make one
-pub ready_to_build : (slab : Slab NodeView) (t : Tree) (ns inner : List ℕ) → Sound slab t → ns ≡ leaf_numbers t → inner ≡ inner_numbers t
+same_uses : (t : Tree) (inner : List ℕ) → IsPermutation (inner_numbers t) inner → (k : ℕ) → uses inner k ≡ uses (inner_numbers t) k
+same_uses t inner p k = sum_by-IsPermutation (λ n. one n k) (inner_numbers t) inner p
+
+pub ready_to_build : (slab : Slab NodeView) (t : Tree) (ns inner : List ℕ) → Sound slab t → ns ≡ leaf_numbers t → IsPermutation (inner_numbers t) inner
     → ToBuild slab ns inner
-ready_to_build slab t ns inner s e i =
+ready_to_build slab t ns inner s e p =
     let l : length (leaf_numbers t) ≡ length (leaves t) = length-map (leaves t) (λ (x : LeafOf). x.node) in
+    let i : length inner ≡ length (inner_numbers t) = length_permutation (inner_numbers t) inner p in
     let few = s.few in
     let c = inner_count t in
-    subst (λ xs. ToBuild slab xs inner) (sym e) (subst (ToBuild slab (leaf_numbers t)) (sym i) (record {
+    subst (λ xs. ToBuild slab xs inner) (sym e) (record {
       leaves_there = λ n u. leaves_shown slab t n s.holds u;
-      room = λ n u. inner_there slab t n s.holds u;
-      apart = λ k. let a = parts_counted t k in let b = s.apart k in omega (arith, a, b);
-      count = omega (arith, l, c);
+      room = λ n u. inner_there slab t n s.holds (subst (λ m. 1 ≤ m) (same_uses t inner p n) u);
+      apart = λ k. let a = parts_counted t k in let b = s.apart k in let g = same_uses t inner p k in omega (arith, a, b, g);
+      count = omega (arith, l, c, i);
       few = omega (arith, l, few);
-    }))
+    })
 
 -- the leaves that a tree's numbers show are its own
 own_leaves : (slab : Slab NodeView) (t : Tree) → Holds slab t → shown_leaves slab (leaf_numbers t) ≡ leaves t
@@ -137,7 +141,8 @@ same_leaves old new at ns inner t u s e b =
     subst (λ xs. IsPermutation xs (leaves u)) (ap (shown_leaves old) e ∙ own_leaves old t s.holds) b.leaves_are
 
 -- and what is built of them is kept as the first tree was
-pub built_sound : (old new : Slab NodeView) (at : ℕ) (ns inner : List ℕ) (t u : Tree) → Sound old t → ns ≡ leaf_numbers t → inner ≡ inner_numbers t
+pub built_sound : (old new : Slab NodeView) (at : ℕ) (ns inner : List ℕ) (t u : Tree) → Sound old t → ns ≡ leaf_numbers t
+    → IsPermutation (inner_numbers t) inner
     → Built old new at ns inner u → slab_len new ≡ slab_len old → Sound new u
 built_sound old new at ns inner t u s e i b len =
     let p = same_leaves old new at ns inner t u s e b in
@@ -151,7 +156,7 @@ built_sound old new at ns inner t u s e i b len =
           let c = b.counts_are k in
           let d = s.apart k in
           let f : uses ns k ≡ uses (leaf_numbers t) k = ap (λ xs. uses xs k) e in
-          let g : uses inner k ≡ uses (inner_numbers t) k = ap (λ xs. uses xs k) i in
+          let g = same_uses t inner i k in
           omega (arith, a, c, d, f, g);
       slots = λ k.
           let a : sum_by (λ x. one x.slot k) (leaves u) ≡ sum_by (λ x. one x.slot k) (leaves t) =

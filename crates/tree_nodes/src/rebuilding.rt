@@ -40,6 +40,7 @@ pub(crate) fn rebuild_tree(
         return (None, 0);
     };
     gather(slab, at, keys, inner);
+    order(inner);
     let count = keys.len();
     (Some(build(slab, parents, keys, inner)), count)
 }
@@ -73,6 +74,14 @@ fn gather(slab: &Slab<NodeView>, at: usize, keys: &mut Vec<LeafKey>, inner: &mut
             gather(slab, right, keys, inner);
         }
     }
+}
+
+// Puts numbers in rising order. So a node built anew stands close before those below it, and a descent reads its way on.
+fn order(numbers: &mut Vec<usize>)
+    ensures same { IsPermutation numbers.old.items numbers.new.items }
+    ensures capacity { vec_capacity numbers.new ≡ vec_capacity numbers.old }
+{
+    numbers.sort_unstable();
 }
 
 // Builds a tree of some leaves from the top down, with half of them below each child, and answers its top. It writes to

@@ -1,7 +1,6 @@
 -- Those that meet the hull look at both children, and what the group's hull misses none of them meets.
 use Rattle.std.proofs.Common.{◌≡◌, ℕ, ◌*◌, ◌+◌, ◌<◌, ◌^◌, ◌++◌, ◌∙◌, List, [], max, ap, sym, subst, append_assoc, Some, arith}
 use Rattle.std.proofs.lemmas.List.{append-nil}
-use Rattle.fixed_box.specs.Bounds.{meets}
 use Rattle.broad_index.specs.declared.pair.Pair.{Pair}
 use Rattle.tree_nodes.specs.Parts.{height_shown}
 use Rattle.tree_nodes.specs.Tree.{view_in, leaves}
@@ -10,7 +9,7 @@ use Rattle.box_tree.specs.Descent.{exact}
 use Rattle.box_tree.specs.Group.{crossed, all_below}
 use Rattle.box_tree.proofs.Counts.{raised_none, raised_thrice}
 use Rattle.box_tree.proofs.Groups.{opened_inner, leaf_below, lower, left_lower, right_lower, group_bits, missed_together, none_goes_on}
-use Rattle.box_tree.proofs.Groups.{looks_on, both_crossed, bounds_shown}
+use Rattle.box_tree.proofs.Groups.{looks_on, both_crossed}
 use Rattle.box_tree.proofs.group.+together.Goals as goal
 
 none_more : (xs ys : List Pair) → ys ≡ [] → xs ≡ xs ++ ys
@@ -19,35 +18,21 @@ none_more xs ys e = sym (ap (λ ps. xs ++ ps) e ∙ append-nil xs)
 not_raised : (a n : ℕ) → a < 2 ^ 64 → n ≡ 0 → a ≡ raised a n
 not_raised a n lt e = sym (ap (raised a) e ∙ raised_none a lt)
 
-pub descend_together-returns-else-overlaps-clause-ok : goal.descend_together-returns-else-overlaps-clause-ok
-descend_together-returns-else-overlaps-clause-ok t c u b =
-    let missed = missed_together c.requires.laws c.args.nodes.now c.args.bodies.now c.args.at c.node.result.now u c.args.group.now c.args.whole.now b
-    c.node.ensures.value c.requires.whole (ap (λ v. meets c.args.whole.now (bounds_shown v)) c.in-Leaf.is ∙ sym c.overlaps.ensures ∙ c.if-overlaps.false) in
-    none_more c.args.found.now.items (crossed c.args.group.now (exact c.args.bodies.now (leaves u))) missed.0
-
-pub descend_together-returns-else-overlaps-clause-count : goal.descend_together-returns-else-overlaps-clause-count
-descend_together-returns-else-overlaps-clause-count t c u b =
-    let missed = missed_together c.requires.laws c.args.nodes.now c.args.bodies.now c.args.at c.node.result.now u c.args.group.now c.args.whole.now b
-    c.node.ensures.value c.requires.whole (ap (λ v. meets c.args.whole.now (bounds_shown v)) c.in-Leaf.is ∙ sym c.overlaps.ensures ∙ c.if-overlaps.false) in
-    not_raised c.args.looked (all_below u c.args.group.now) c.ranges.looked.fits missed.1
-
 pub descend_together-returns-in_ok-push_met-in-Leaf-clause-count : goal.descend_together-returns-in_ok-push_met-in-Leaf-clause-count
 descend_together-returns-in_ok-push_met-in-Leaf-clause-count t c u b =
     not_raised c.args.looked (all_below u c.args.group.now) c.ranges.looked.fits
     (leaf_below c.args.nodes.now c.args.bodies.now c.args.at c.in-Leaf.slot c.in-Leaf.fat u c.args.group.now b (c.node.ensures.value ∙ ap Some c.in-Leaf.is))
 
-pub descend_together-returns-then-not-overlaps-clause-ok : goal.descend_together-returns-then-not-overlaps-clause-ok
-descend_together-returns-then-not-overlaps-clause-ok t c u b =
-    let missed = missed_together c.requires.laws c.args.nodes.now c.args.bodies.now c.args.at c.node.result.now u c.args.group.now c.args.whole.now b
-    c.node.ensures.value c.requires.whole
-    (ap (λ v. meets c.args.whole.now (bounds_shown v)) c.in-Inner.is ∙ sym c.overlaps-in-Inner.ensures ∙ c.if-not-overlaps.true) in
+pub descend_together-returns-then-not-near-clause-ok : goal.descend_together-returns-then-not-near-clause-ok
+descend_together-returns-then-not-near-clause-ok t c u b =
+    let missed = missed_together c.requires.laws c.args.nodes.now c.args.bodies.now c.args.at u c.args.group.now c.args.whole.now b c.requires.whole
+    (sym c.requires.near ∙ c.if-not-near.true) in
     none_more c.args.found.now.items (crossed c.args.group.now (exact c.args.bodies.now (leaves u))) missed.0
 
-pub descend_together-returns-then-not-overlaps-clause-count : goal.descend_together-returns-then-not-overlaps-clause-count
-descend_together-returns-then-not-overlaps-clause-count t c u b =
-    let missed = missed_together c.requires.laws c.args.nodes.now c.args.bodies.now c.args.at c.node.result.now u c.args.group.now c.args.whole.now b
-    c.node.ensures.value c.requires.whole
-    (ap (λ v. meets c.args.whole.now (bounds_shown v)) c.in-Inner.is ∙ sym c.overlaps-in-Inner.ensures ∙ c.if-not-overlaps.true) in
+pub descend_together-returns-then-not-near-clause-count : goal.descend_together-returns-then-not-near-clause-count
+descend_together-returns-then-not-near-clause-count t c u b =
+    let missed = missed_together c.requires.laws c.args.nodes.now c.args.bodies.now c.args.at u c.args.group.now c.args.whole.now b c.requires.whole
+    (sym c.requires.near ∙ c.if-not-near.true) in
     not_raised c.args.looked (all_below u c.args.group.now) c.ranges.looked.fits missed.1
 
 pub descend_together-open_together-requires : goal.descend_together-open_together-requires
@@ -59,8 +44,7 @@ descend_together-open_together-requires t c =
     (left_lower c.in-Inner.hull c.in-Inner.height o.1 o.2 o.6) in
     let right = lower c.args.nodes.now c.args.bodies.now c.args.at c.in-Inner.right c.in-Inner.left c.in-Inner.right c.in-Inner.height c.in-Inner.hull o.2 o.5 e
     (right_lower c.in-Inner.hull c.in-Inner.height o.1 o.2 o.6) in (
-      subst (λ m. 2 * max (height_shown (view_in c.args.nodes.now c.in-Inner.left)) (height_shown (view_in c.args.nodes.now c.in-Inner.right)) + 1 < m)
-          c.decreases
+      subst (λ m. 2 * max (height_shown (view_in c.args.nodes.now c.in-Inner.left)) (height_shown (view_in c.args.nodes.now c.in-Inner.right)) + 1 < m) c.decreases
           (omega arith),
       (c.requires.laws, ((h.0, (c.in-Inner.height, o)), (c.requires.boxes, (c.requires.whole, c.requires.few)))),
     )

@@ -1,5 +1,5 @@
 -- The tree is taken apart, and built anew of the same leaves.
-use Rattle.std.proofs.Common.{◌≡◌, ℕ, ◌≤◌, ◌^◌, ◌++◌, Some, length, sym, subst, ap, ◌∙◌, arith}
+use Rattle.std.proofs.Common.{◌≡◌, ℕ, ◌≤◌, ◌^◌, ◌++◌, List, Some, length, sym, subst, ap, ◌∙◌, arith}
 use Rattle.std.specs.List.Sorted.{IsPermutation}
 use Rattle.std.proofs.lemmas.List.{length-map}
 use Rattle.tree_nodes.specs.declared.leaf_key.LeafKey.{LeafKey}
@@ -12,6 +12,9 @@ use Rattle.tree_nodes.proofs.Heights.{under_root}
 use Rattle.tree_nodes.proofs.Inserting.{kept_sound, kept_tree}
 use Rattle.tree_nodes.proofs.LeafViews.{ready_to_search}
 use Rattle.tree_nodes.proofs.rebuilding.rebuild_tree.Goals as goal
+
+same_numbers : (own gathered ordered ns : List ℕ) → IsPermutation gathered ordered → ns ≡ ordered → gathered ≡ own → IsPermutation own ns
+same_numbers own gathered ordered ns p e i = subst (IsPermutation own) (sym e) (subst (λ xs. IsPermutation xs ordered) i p)
 
 pub gather-requires : goal.gather-requires
 gather-requires c =
@@ -32,8 +35,8 @@ build-requires c =
     let ready = ready_to_search c.args.slab.now c.in-Some.at w.0 w.2 w.3 w.4 in
     let e : numbers c.deref_mut.result.now ≡ leaf_numbers w.0 = ap numbers c.deref_mut.ensures.value ∙ c.gather.ensures.leaves w.0 ready
     ∙ ap (λ ks. numbers ks ++ leaf_numbers w.0) c.clear.ensures.items in
-    let i : c.deref.result.now ≡ inner_numbers w.0 = c.deref.ensures.value ∙ c.gather.ensures.inner w.0 ready
-    ∙ ap (λ ns. ns ++ inner_numbers w.0) c.clear-2.ensures.items in
+    let i = same_numbers (inner_numbers w.0) c.gather.new.inner.items c.order.new.numbers.items c.deref.result.now c.order.ensures.same c.deref.ensures.value
+    (c.gather.ensures.inner w.0 ready ∙ ap (λ ns. ns ++ inner_numbers w.0) c.clear-2.ensures.items) in
     ready_to_build c.args.slab.now w.0 (numbers c.deref_mut.result.now) c.deref.result.now w.3 e i
 
 pub returns-clause-sound : goal.returns-clause-sound
@@ -42,8 +45,8 @@ returns-clause-sound c =
     let ready = ready_to_search c.args.slab.now c.in-Some.at w.0 w.2 w.3 w.4 in
     let e : numbers c.deref_mut.result.now ≡ leaf_numbers w.0 = ap numbers c.deref_mut.ensures.value ∙ c.gather.ensures.leaves w.0 ready
     ∙ ap (λ ks. numbers ks ++ leaf_numbers w.0) c.clear.ensures.items in
-    let i : c.deref.result.now ≡ inner_numbers w.0 = c.deref.ensures.value ∙ c.gather.ensures.inner w.0 ready
-    ∙ ap (λ ns. ns ++ inner_numbers w.0) c.clear-2.ensures.items in
+    let i = same_numbers (inner_numbers w.0) c.gather.new.inner.items c.order.new.numbers.items c.deref.result.now c.order.ensures.same c.deref.ensures.value
+    (c.gather.ensures.inner w.0 ready ∙ ap (λ ns. ns ++ inner_numbers w.0) c.clear-2.ensures.items) in
     let b = c.build.ensures.there in
     let s = built_sound c.args.slab.now c.build.new.slab c.build.result (numbers c.deref_mut.result.now) c.deref.result.now w.0 b.0 w.3 e i b.1
     c.build.ensures.keys.len in
@@ -55,8 +58,8 @@ returns-clause-leaves c =
     let ready = ready_to_search c.args.slab.now c.in-Some.at w.0 w.2 w.3 w.4 in
     let e : numbers c.deref_mut.result.now ≡ leaf_numbers w.0 = ap numbers c.deref_mut.ensures.value ∙ c.gather.ensures.leaves w.0 ready
     ∙ ap (λ ks. numbers ks ++ leaf_numbers w.0) c.clear.ensures.items in
-    let i : c.deref.result.now ≡ inner_numbers w.0 = c.deref.ensures.value ∙ c.gather.ensures.inner w.0 ready
-    ∙ ap (λ ns. ns ++ inner_numbers w.0) c.clear-2.ensures.items in
+    let i = same_numbers (inner_numbers w.0) c.gather.new.inner.items c.order.new.numbers.items c.deref.result.now c.order.ensures.same c.deref.ensures.value
+    (c.gather.ensures.inner w.0 ready ∙ ap (λ ns. ns ++ inner_numbers w.0) c.clear-2.ensures.items) in
     let b = c.build.ensures.there in
     let s = built_sound c.args.slab.now c.build.new.slab c.build.result (numbers c.deref_mut.result.now) c.deref.result.now w.0 b.0 w.3 e i b.1
     c.build.ensures.keys.len in
@@ -72,8 +75,8 @@ returns-clause-least c =
     let ready = ready_to_search c.args.slab.now c.in-Some.at w.0 w.2 w.3 w.4 in
     let e : numbers c.deref_mut.result.now ≡ leaf_numbers w.0 = ap numbers c.deref_mut.ensures.value ∙ c.gather.ensures.leaves w.0 ready
     ∙ ap (λ ks. numbers ks ++ leaf_numbers w.0) c.clear.ensures.items in
-    let i : c.deref.result.now ≡ inner_numbers w.0 = c.deref.ensures.value ∙ c.gather.ensures.inner w.0 ready
-    ∙ ap (λ ns. ns ++ inner_numbers w.0) c.clear-2.ensures.items in
+    let i = same_numbers (inner_numbers w.0) c.gather.new.inner.items c.order.new.numbers.items c.deref.result.now c.order.ensures.same c.deref.ensures.value
+    (c.gather.ensures.inner w.0 ready ∙ ap (λ ns. ns ++ inner_numbers w.0) c.clear-2.ensures.items) in
     let b = c.build.ensures.there in
     let s = built_sound c.args.slab.now c.build.new.slab c.build.result (numbers c.deref_mut.result.now) c.deref.result.now w.0 b.0 w.3 e i b.1
     c.build.ensures.keys.len in
@@ -87,8 +90,8 @@ returns-clause-count c =
     let ready = ready_to_search c.args.slab.now c.in-Some.at w.0 w.2 w.3 w.4 in
     let e : numbers c.deref_mut.result.now ≡ leaf_numbers w.0 = ap numbers c.deref_mut.ensures.value ∙ c.gather.ensures.leaves w.0 ready
     ∙ ap (λ ks. numbers ks ++ leaf_numbers w.0) c.clear.ensures.items in
-    let i : c.deref.result.now ≡ inner_numbers w.0 = c.deref.ensures.value ∙ c.gather.ensures.inner w.0 ready
-    ∙ ap (λ ns. ns ++ inner_numbers w.0) c.clear-2.ensures.items in
+    let i = same_numbers (inner_numbers w.0) c.gather.new.inner.items c.order.new.numbers.items c.deref.result.now c.order.ensures.same c.deref.ensures.value
+    (c.gather.ensures.inner w.0 ready ∙ ap (λ ns. ns ++ inner_numbers w.0) c.clear-2.ensures.items) in
     let b = c.build.ensures.there in
     let s = built_sound c.args.slab.now c.build.new.slab c.build.result (numbers c.deref_mut.result.now) c.deref.result.now w.0 b.0 w.3 e i b.1
     c.build.ensures.keys.len in
