@@ -1,13 +1,12 @@
 -- What is listed of a table.
-use Rattle.std.proofs.Common.{◌≡◌, ◌≢◌, ℕ, zero, suc, ◌+◌, ◌*◌, ◌<◌, ◌≤◌, Bool, true, false, cond, eqb, ◌==◌, ◌||◌, nat_lt, List, [], ◌∷◌, ◌++◌, length, get_or}
+use Rattle.std.proofs.Common.{◌≡◌, ◌≢◌, ℕ, zero, suc, ◌+◌, ◌*◌, ◌<◌, ◌≤◌, Bool, true, false, cond, eqb, ◌==◌, ◌||◌, nat_lt, List, [], ◌∷◌, ◌++◌, length, get_or, set}
 use Rattle.std.proofs.Common.{Result, Ok, Err, OnErr, Option, None, Some, is_some, refl, sym, ap, ◌∙◌, subst, arith, inl, inr, append-nil, append_assoc}
 use Rattle.std.specs.Ordering.{nat_cmp}
 use Rattle.std.specs.FinMap.{empty, get-empty}
 use Rattle.std.proofs.lemmas.Bool.{false≢true, true≢false, cases_eq, cases_lt, cases_Bool, or_cases}
 use Rattle.std.proofs.lemmas.Bool.Decides.{nat_tests}
 use Rattle.std.proofs.lemmas.Grind.{get_or_default_zero}
-use Rattle.std.proofs.lemmas.List.{length-append, get_or_append_left, get_or-append-add, get_or_past}
-use Rattle.std.proofs.Math.Seq.{get_or-append_seam}
+use Rattle.std.proofs.lemmas.List.{length-append, get_or_append_left, get_or-append-add, get_or_past, get_or-set_other, get_or-set_same}
 use Rattle.fixed_box.specs.declared.TheConstants.{SLOTS}
 use Rattle.fixed_box.specs.Links.{Distinct, Below}
 use Rattle.fixed_box.specs.LinkLaws.{Fresh-append, length-le}
@@ -129,15 +128,11 @@ distinct_append (x ∷ xs) ys dx dy apart =
     tail_false false b h = h
 
 -- one bucket more
-pub starts_more : (N starts more : List ℕ) (n v : ℕ) → length starts ≡ n → ((b : ℕ) → b < n → get_or starts b 0 ≡ length (rings_to N b))
-    → v ≡ length (rings_to N n) → more ≡ starts ++ v ∷ [] → (b : ℕ) → b < n + 1 → get_or more b 0 ≡ length (rings_to N b)
-starts_more N starts more n v len were last is b lt = elim (cases_lt b n) as (λ _. get_or more b 0 ≡ length (rings_to N b)) [
-  | inl below ↦ ap (λ l. get_or l b 0) is ∙ get_or_append_left starts (v ∷ []) 0 b (omega (arith, len, below)) ∙ were b below
-  | inr above ↦
-      let e : b ≡ length starts = omega (arith, len, lt, above) in
-      let d : b ≡ n = omega (arith, len, e) in
-      ap (λ l. get_or l b 0) is ∙ ap (λ i. get_or (starts ++ v ∷ []) i 0) e ∙ get_or-append_seam starts v [] 0 ∙ last
-      ∙ ap (λ m. length (rings_to N m)) (sym d)
+pub starts_more : (N starts : List ℕ) (n v : ℕ) → n < length starts → ((b : ℕ) → b < n → get_or starts b 0 ≡ length (rings_to N b))
+    → v ≡ length (rings_to N n) → (b : ℕ) → b < n + 1 → get_or (set starts n v) b 0 ≡ length (rings_to N b)
+starts_more N starts n v len were last b lt = elim (cases_eq b n) as (λ _. get_or (set starts n v) b 0 ≡ length (rings_to N b)) [
+  | inl e ↦ ap (λ i. get_or (set starts n v) i 0) e ∙ get_or-set_same starts n v 0 len ∙ last ∙ ap (λ m. length (rings_to N m)) (sym e)
+  | inr ne ↦ get_or-set_other starts n b v 0 ne ∙ were b (let lt : b < n = omega arith in lt)
 ]
 
 pub rings_next : (N slots out : List ℕ) (n : ℕ) → slots ≡ rings_to N n → out ≡ slots ++ ring_in N n → out ≡ rings_to N (n + 1)

@@ -7,6 +7,7 @@ use Rattle.std.proofs.lemmas.Int.{ints}
 use Rattle.std.proofs.lemmas.List.{get_or_read}
 use Rattle.cell_table.specs.declared.TheConstants.{BUCKETS}
 use Rattle.cell_table.specs.declared.cell_key.CellKey.{CellKey}
+use Rattle.cell_table.specs.declared.row_places.RowPlaces.{RowPlaces}
 use Rattle.cell_table.specs.Kept.{AreStarts, bucket_of}
 use Rattle.cell_table.specs.Listed.{HasRow, Listed, Stands, StandsIn}
 use Rattle.cell_table.proofs.KeptLemmas.{bucket_below}
@@ -69,6 +70,10 @@ in_all list key end n is cells z slot lists lo hi h =
     let s = lists.whole slot (record key { z = z }) h in
     let i = s.inside in
     record { place = s.place; inside = inl (omega arith, omega (arith, is, i)); is = s.is }
+
+-- the same of a list that is seen as this one
+pub seen : (list now : Listed) (key : CellKey) (end : ℤ) (row : RowPlaces) → list ≡ now → HasRow list key end row → HasRow now key end row
+seen list now key end row is h = subst (λ l. HasRow l key end row) is h
 
 module _ (list : Listed) (starts : AreStarts list.starts list.slots) (filled : BUCKETS < length list.starts) where
   abbrev start : ℕ → ℕ

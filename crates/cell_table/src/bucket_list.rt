@@ -1,5 +1,6 @@
 ghost use Rattle.std.specs.Prelude.{◌≡◌, ◌≤◌, pos, ◌+ℤ◌, ◌≤ℤ◌, length, OnOk, OnErr};
 ghost use Rattle.std.specs.FinMap as map;
+ghost use Rattle.cell_table.specs.Kept.{AreStarts};
 ghost use Rattle.cell_table.specs.Listed.{Lists, HasRow};
 
 use crate::buckets::bucket_of;
@@ -45,9 +46,7 @@ impl BucketList {
         ensures ok { OnOk result (Lists cells.now self.new) }
         ensures err { OnErr result (Lists map.empty self.new) }
     {
-        self.starts.clear();
-        self.slots.clear();
-        let filled = cells.push_buckets(&mut self.starts, &mut self.slots);
+        let filled = list_slots(cells, &mut self.starts, &mut self.slots);
         if filled.is_err() {
             self.starts.clear();
             self.slots.clear();
@@ -95,6 +94,20 @@ impl BucketList {
             }
         }
     }
+}
+
+// Lists the slots of a table. After an `Err` anything may stand there.
+fn list_slots(
+    cells: &CellTable,
+    starts: &mut Vec<u32>,
+    slots: &mut Vec<u32>,
+) -> Result<(), NoMemory>
+    ensures starts { OnOk result (AreStarts starts.new.items slots.new.items) }
+    ensures slots { OnOk result (Lists cells.now (record { starts = starts.new.items; slots = slots.new.items })) }
+{
+    starts.resize(BUCKETS as usize + 1, 0)?;
+    slots.clear();
+    cells.push_buckets(starts.as_mut_slice(), slots)
 }
 
 // How many cells there are from a place on and below another.

@@ -142,22 +142,22 @@ pub(crate) fn push_bucket(next: &[u32], key: &CellKey, out: &mut Vec<u32>) -> Re
     push_ring(next, next[(SLOTS + bucket_of(key)) as usize], out)
 }
 
-// Lists the slots of each bucket, one bucket after the other, with the place where each bucket's slots start, and the end.
+// Lists the slots of each bucket, one bucket after the other, and writes where each bucket's slots start, and the end.
 pub(crate) fn push_rings(
     next: &[u32],
-    starts: &mut Vec<u32>,
+    starts: &mut [u32],
     slots: &mut Vec<u32>,
 ) -> Result<(), NoMemory>
     requires next { length next.now ≡ NODES }
-    requires starts { starts.old.items ≡ [] }
+    requires starts { length starts.old ≡ BUCKETS + 1 }
     requires slots { slots.old.items ≡ [] }
-    ensures { OnOk result (AreRings next.now starts.new.items slots.new.items) }
+    ensures { OnOk result (AreRings next.now starts.new slots.new.items) }
 {
     'buckets: for bucket in 0..BUCKETS {
-        starts.push(slots.len() as u32)?;
+        starts[bucket as usize] = slots.len() as u32;
         push_ring(next, next[(SLOTS + bucket) as usize], slots)?;
     }
-    starts.push(slots.len() as u32)?;
+    starts[BUCKETS as usize] = slots.len() as u32;
     Ok(())
 }
 

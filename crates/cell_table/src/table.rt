@@ -1,4 +1,4 @@
-ghost use Rattle.std.specs.Prelude.{◌≡◌, ◌<◌, ◌++◌, [], true, false, IfOk, OnOk, OnErr, length};
+ghost use Rattle.std.specs.Prelude.{◌≡◌, ◌+◌, ◌<◌, ◌++◌, [], true, false, IfOk, OnOk, OnErr, length};
 ghost use Rattle.std.specs.FinMap as map;
 ghost use Rattle.cell_table.specs.Cells.{slots_in, slots_at, Visits, VisitsBucket, VisitsRow};
 ghost use Rattle.cell_table.specs.Kept.{AreStarts};
@@ -9,7 +9,7 @@ use crate::cells::{
     no_counts, no_keys, push_bucket, push_cell, push_level, push_rings, push_row, sort_from,
 };
 use crate::rings::{link, nodes, unlink};
-use crate::{CellKey, LEVELS};
+use crate::{BUCKETS, CellKey, LEVELS};
 use fixed_box::{NoMemory, SLOTS};
 use std::alloc::Global;
 use std::marker::Model;
@@ -156,16 +156,16 @@ impl CellTable {
         pushed
     }
 
-    // Lists the slots of each bucket, one bucket after the other, with the place where each bucket's slots start.
+    // Lists the slots of each bucket, one bucket after the other, and writes where each bucket's slots start, and the end.
     pub(crate) fn push_buckets(
         &self,
-        starts: &mut Vec<u32>,
+        starts: &mut [u32],
         slots: &mut Vec<u32>,
     ) -> Result<(), NoMemory>
-        requires starts { starts.old.items ≡ [] }
+        requires starts { length starts.old ≡ BUCKETS + 1 }
         requires slots { slots.old.items ≡ [] }
-        ensures starts { OnOk result (AreStarts starts.new.items slots.new.items) }
-        ensures slots { OnOk result (Lists self.now (record { starts = starts.new.items; slots = slots.new.items })) }
+        ensures starts { OnOk result (AreStarts starts.new slots.new.items) }
+        ensures slots { OnOk result (Lists self.now (record { starts = starts.new; slots = slots.new.items })) }
     {
         push_rings(&self.next, starts, slots)
     }

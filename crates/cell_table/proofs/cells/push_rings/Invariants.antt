@@ -5,7 +5,6 @@ use Rattle.cell_table.proofs.cells.push_rings.Given as goal
 
 abbrev pub invariant-buckets : goal.invariant-buckets
 invariant-buckets l = record {
-  len : length l.starts.items ≡ l.bucket;
-  starts_are : (b : ℕ) → b < l.bucket → slice_index l.starts.items b ≡ length (rings_to l.next b);
+  starts_are : (b : ℕ) → b < l.bucket → slice_index l.starts b ≡ length (rings_to l.next b);
   slots_are : l.slots.items ≡ rings_to l.next l.bucket;
 }

@@ -4,5 +4,5 @@ use Rattle.cell_table.proofs.bucket_list.BucketList.fill.Goals as goal
 
 pub returns-then-is_err-clause-err : goal.returns-then-is_err-clause-err
 returns-then-is_err-clause-err c =
-    on_err_of c.push_buckets-filled.result
-    (lists_none c.clear-then-is_err.new.self.items c.clear-then-is_err-2.new.self.items c.clear-then-is_err-2.ensures.items)
+    on_err_of c.list_slots-filled.result
+    (lists_none c.clear.new.self.items c.clear-then-is_err.new.self.items c.clear-then-is_err.ensures.items)

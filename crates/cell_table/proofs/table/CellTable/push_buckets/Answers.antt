@@ -8,12 +8,12 @@ use Rattle.cell_table.proofs.table.CellTable.push_buckets.Goals as goal
 
 pub returns-clause-starts : goal.returns-clause-starts
 returns-clause-starts c =
-    on_ok_weaker c.push_rings.result (rings_started c.deref.result.now c.push_rings.new.starts.items c.push_rings.new.slots.items) c.push_rings.ensures
+    on_ok_weaker c.push_rings.result (rings_started c.deref.result.now c.push_rings.new.starts c.push_rings.new.slots.items) c.push_rings.ensures
 
 pub returns-clause-slots : goal.returns-clause-slots
 returns-clause-slots c =
     let s = c.self.inside in
-    let starts = c.push_rings.new.starts.items in
+    let starts = c.push_rings.new.starts in
     let slots = c.push_rings.new.slots.items in
     on_ok_weaker c.push_rings.result
     (λ h. subst (λ m. Lists m (record { starts = starts; slots = slots })) c.self.view_is
