@@ -7,6 +7,7 @@ ghost use Rattle.slot_search.specs.Reach.{reach};
 ghost use Rattle.hier_grid.specs.Space.{space};
 
 use crate::kept_boxes::KeptBoxes;
+use crate::nearby::Nearby;
 use crate::partners::push_partners;
 use crate::regions::{flat_box, ray_box, seg_box};
 use crate::slot_boxes::SlotBoxes;
@@ -46,12 +47,10 @@ fn push_near(
     ensures err { OnErr result (out.new.items ≡ out.old.items) }
 {
     kept.space_law();
-    let mut places = Vec::new(alloc);
-    let mut candidates = Vec::new(alloc);
-    let end = kept.levels_end();
-    kept.push_from(0, end, region, &mut 0, &mut places, &mut candidates)?;
+    let mut near = Nearby::new(alloc);
+    kept.push_candidates(region, &mut near)?;
     let mut hits = Vec::new(alloc);
-    push_found(kept.boxes(), query, &candidates, &mut hits)?;
+    push_found(kept.boxes(), query, &near.slots, &mut hits)?;
     push_rising_slots(&mut hits, out)
 }
 
@@ -87,21 +86,18 @@ pub(crate) fn push_reach(
     ensures ok { OnOk result (out.new.items ≡ out.old.items ++ reach kept.now slot) }
     ensures err { OnErr result (out.new.items ≡ out.old.items) }
 {
-    let mut looked = 0;
-    let mut places = Vec::new(alloc);
-    let mut candidates = Vec::new(alloc);
-    let end = kept.levels_end();
-    kept.push_from(0, end, body, &mut looked, &mut places, &mut candidates)?;
+    let mut near = Nearby::new(alloc);
+    kept.push_candidates(body, &mut near)?;
     let mut partners = Vec::new(alloc);
     push_partners(
         kept.boxes(),
         slot,
         body,
         true,
-        &candidates,
-        &mut looked,
+        &near.slots,
+        &mut near.looked,
         &mut partners,
     )?;
     push_rising_slots(&mut partners, out)?;
-    Ok(u32::try_from(looked).unwrap_or(u32::MAX))
+    Ok(u32::try_from(near.looked).unwrap_or(u32::MAX))
 }
