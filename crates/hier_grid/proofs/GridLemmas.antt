@@ -11,12 +11,12 @@ use Rattle.std.specs.declared.cmp.Ordering.TheVariants.{Less, Equal, Greater}
 use Rattle.std.specs.Cmp.{ranked}
 use Rattle.std.specs.FinMap.{FinMap, get, get-insert, get-remove, insert, remove, contains_key, empty, get-empty, entries, get-entries}
 use Rattle.std.specs.FinMap as maps
-use Rattle.fixed_box.specs.Bounds.{Bounds, cell_side, level_of, longest_side}
+use Rattle.fixed_box.specs.Bounds.{Bounds, cell_side, level_of, longest_side, meets}
 use Rattle.cell_table.specs.declared.cell_key.CellKey.{CellKey}
 use Rattle.cell_table.specs.Cells.{has, slots_at}
-use Rattle.hier_grid.specs.Cells.{cell_of, cell_on, IsAfter, IsBeside}
-use Rattle.hier_grid.specs.Grid.{IsGrid, IsSized}
-use Rattle.hier_grid.specs.Search.{HasAfter, HasCell, HasMet, IsAbove, IsBare}
+use Rattle.hier_grid.specs.Cells.{cell_of, IsBeside}
+use Rattle.hier_grid.specs.Grid.{AreKeyed, IsGrid, IsSized}
+use Rattle.hier_grid.specs.Search.{IsAbove, IsBare}
 use Rattle.hier_grid.proofs.CellLemmas.{beside}
 use Rattle.hier_grid.proofs.SlotLemmas.{nat_next}
 
@@ -70,25 +70,12 @@ some_map None = refl
 some_map (Some b) = refl
 
 -- a slot has a cell where it has a box
-pub same_slots : (bodies : FinMap nat_cmp Bounds) (cells : FinMap nat_cmp CellKey) (s : ℕ) → IsGrid bodies cells → contains_key cells s ≡ contains_key bodies s
-same_slots bodies cells s g = ap is_some (g.keyed s) ∙ some_map (get bodies s)
+pub same_slots : (bodies : FinMap nat_cmp Bounds) (cells : FinMap nat_cmp CellKey) (s : ℕ) → AreKeyed bodies cells → contains_key cells s ≡ contains_key bodies s
+same_slots bodies cells s keyed = ap is_some (keyed s) ∙ some_map (get bodies s)
 
--- The slots in all cells beside a region have among them those of the level whose boxes meet it.
-pub met_beside : (bodies : FinMap nat_cmp Bounds) (cells : FinMap nat_cmp CellKey) (level : ℕ) (region : Bounds) (slots : List ℕ) → IsGrid bodies cells
-    → ((k : CellKey) → k.level ≡ level → IsBeside level region k → HasCell cells k slots) → HasMet bodies level region slots
-met_beside bodies cells level region slots g h q b e l m =
-    let sized = g.sized q b e in
-    h (cell_of b) l (subst (λ n. IsBeside n region (cell_of b)) l (beside (level_of b) region b sized.fits sized.ordered m)) q
-    (g.keyed q ∙ ap (option_map cell_of) e)
-
--- The same of the cells after that of a body's lower corner.
-pub met_after : (bodies : FinMap nat_cmp Bounds) (cells : FinMap nat_cmp CellKey) (level : ℕ) (body : Bounds) (slots : List ℕ) → IsGrid bodies cells
-    → ((k : CellKey) → k.level ≡ level → IsBeside level body k → IsAfter k (cell_on level body.lo) → HasCell cells k slots)
-    → HasAfter bodies level body slots
-met_after bodies cells level body slots g h q b e l after m =
-    let sized = g.sized q b e in
-    h (cell_of b) l (subst (λ n. IsBeside n body (cell_of b)) l (beside (level_of b) body b sized.fits sized.ordered m)) after q
-    (g.keyed q ∙ ap (option_map cell_of) e)
+-- The cell of a box that meets a region is beside it.
+pub met_beside : (level : ℕ) (region b : Bounds) → IsSized b → level_of b ≡ level → meets region b ≡ true → IsBeside level region (cell_of b)
+met_beside level region b sized l m = subst (λ n. IsBeside n region (cell_of b)) l (beside (level_of b) region b sized.fits sized.ordered m)
 
 pub tie_is : (x y : ℕ) → eq_by_cmp nat_cmp x y ≡ true → x ≡ y
 tie_is x y h = elim (nat_cmp x y) as

@@ -1,5 +1,7 @@
 mod BoxLemmas
+mod BucketLemmas
 mod CellLemmas
+mod CellRowLemmas
 mod GridLemmas
 mod HitLemmas
 mod LeveledLemmas

@@ -1,6 +1,6 @@
 -- What searches of runs of slots find together.
 use Rattle.std.proofs.Common.{◌≡◌, ℕ, Bool, true, false, ◌||◌, ◌==◌, List, [], ◌∷◌, ◌++◌, map, refl, sym, ap, ◌∙◌, inl, inr, is_some}
-use Rattle.std.proofs.Common.{◌-◌, ◌≤◌, ◌⊎◌, length, take, drop, get_or, arith}
+use Rattle.std.proofs.Common.{◌-◌, ◌<◌, ◌≤◌, ◌⊎◌, length, take, drop, get_or, arith}
 use Rattle.std.proofs.lemmas.Bool.{or_cases, false≢true}
 use Rattle.std.proofs.lemmas.Bool.Decides.{nat_tests}
 use Rattle.std.proofs.Math.Seq.{take-length}
@@ -32,13 +32,17 @@ finds_more bodies slot old new more f body own q b e m other due = more (ordered
 abbrev pub rest_of : List ℕ → List ℕ
 rest_of xs = take (length xs - 1) (drop 1 xs)
 
-parted : (xs : List ℕ) → 1 ≤ length xs → xs ≡ get_or xs 0 0 ∷ rest_of xs
+pub parted : (xs : List ℕ) → 1 ≤ length xs → xs ≡ get_or xs 0 0 ∷ rest_of xs
 parted [] l = absurd (omega arith)
 parted (x ∷ xs) l = let n : length (x ∷ xs) - 1 ≡ length xs = omega arith in ap (λ ys. x ∷ ys) (sym (ap (λ k. take k xs) n ∙ take-length xs))
 
 pub first_or_rest : (xs : List ℕ) → 1 ≤ length xs → (s : ℕ) → has_slot xs s ≡ true → (s ≡ get_or xs 0 0) ⊎ (has_slot (rest_of xs) s ≡ true)
 first_or_rest xs l s h = elim (or_cases (s == get_or xs 0 0) (has_slot (rest_of xs) s) (sym (ap (λ ys. has_slot ys s) (parted xs l)) ∙ h)) as
     (λ _. (s ≡ get_or xs 0 0) ⊎ (has_slot (rest_of xs) s ≡ true)) [ inl e ↦ inl (grind (arith, nat_tests)) | inr e ↦ inr e ]
+
+pub no_slots : (xs : List ℕ) (s : ℕ) → length xs < 1 → has_slot xs s ≡ true → ⊥
+no_slots [] s l h = false≢true h
+no_slots (x ∷ xs) s l h = absurd (omega arith)
 
 module _ {Y : Type 0} (pairs : Y → List Pair) (bodies : FinMap nat_cmp Bounds) where
   pub runs_found : (runs : List (List ℕ)) (ys : List Y) → Each (λ run y. FindsRun bodies run (pairs y)) runs ys

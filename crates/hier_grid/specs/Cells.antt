@@ -1,9 +1,10 @@
 -- Definitions: the cell of a box, and the cells beside a box (Ericson, Real-Time Collision Detection, 2005, 7.2.1).
-use Rattle.std.specs.Prelude.{◌≡◌, ◌⊎◌, ℕ, ℤ, pos, ◌-ℤ◌, ◌≤ℤ◌, ◌<ℤ◌}
+use Rattle.std.specs.Prelude.{◌≡◌, ◌⊎◌, ℕ, ℤ, pos, ◌-ℤ◌, ◌≤ℤ◌, ◌<ℤ◌, List, [], ◌∷◌}
 use Rattle.std.specs.Int.{int_div_euclid}
 use Rattle.fixed_box.specs.Bounds.{Bounds, cell_side, level_of}
 use Rattle.fixed_box.specs.declared.point.Point.{Point}
 use Rattle.cell_table.specs.declared.cell_key.CellKey.{CellKey}
+use Rattle.hier_grid.specs.declared.cell_row.CellRow.{CellRow}
 
 -- the place of a coordinate among the cells of a level: the quotient by their side, rounded down
 abbrev pub cell_at : ℕ → ℤ → ℤ
@@ -31,3 +32,14 @@ pub record IsBeside (level : ℕ) (a : Bounds) (c : CellKey) : Type 0 where
 -- A cell comes after another in the order of x, then y, then z.
 abbrev pub IsAfter : CellKey → CellKey → Type 0
 IsAfter k c = (c.x <ℤ k.x) ⊎ (((k.x ≡ c.x) × (c.y <ℤ k.y)) ⊎ ((k.x ≡ c.x) × ((k.y ≡ c.y) × (c.z <ℤ k.z))))
+
+-- a cell is in a row
+pub record IsInRow (row : CellRow) (k : CellKey) : Type 0 where
+  pub low : row.key.z ≤ℤ k.z
+  pub high : k.z <ℤ row.end
+  pub column : k ≡ record row.key { z = k.z }
+
+-- a cell is in one of some rows
+abbrev pub IsInRows : List CellRow → CellKey → Type 0
+IsInRows [] k = ⊥
+IsInRows (row ∷ rows) k = IsInRow row k ⊎ IsInRows rows k

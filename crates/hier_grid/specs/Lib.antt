@@ -1,3 +1,4 @@
+pub mod Buckets
 pub mod Cells
 pub mod Grid
 pub mod Leveled

@@ -7,7 +7,9 @@ use Rattle.broad_index.specs.declared.pair.Pair.{Pair}
 use Rattle.broad_index.specs.Members.{has_pair, has_slot, both_meet, is_near}
 use Rattle.broad_index.specs.Touched.{ordered}
 use Rattle.cell_table.specs.declared.cell_key.CellKey.{CellKey}
-use Rattle.hier_grid.specs.Cells.{cell_of, cell_on, IsAfter}
+use Rattle.hier_grid.specs.declared.cell_row.CellRow.{CellRow}
+use Rattle.hier_grid.specs.declared.nearby.Nearby.{Nearby}
+use Rattle.hier_grid.specs.Cells.{cell_of, cell_on, IsAfter, IsInRows}
 
 -- what was in a list is still in it
 abbrev pub HasMore : List ℕ → List ℕ → Type 0
@@ -16,6 +18,18 @@ HasMore old new = (q : ℕ) → has_slot old q ≡ true → has_slot new q ≡ t
 -- the slots of a cell are in a list
 abbrev pub HasCell : FinMap nat_cmp CellKey → CellKey → List ℕ → Type 0
 HasCell cells key slots = (q : ℕ) → get cells q ≡ Some key → has_slot slots q ≡ true
+
+-- what was in rows of cells still is
+abbrev pub HasRows : List CellRow → List CellRow → Type 0
+HasRows old new = (k : CellKey) → IsInRows old k → IsInRows new k
+
+-- a slot is near: it is in a list, or its box lies in a row of cells
+abbrev pub IsNearby : Nearby → ℕ → Bounds → Type 0
+IsNearby near q b = (has_slot near.slots.items q ≡ true) ⊎ IsInRows near.rows.items (cell_of b)
+
+-- what was near still is
+abbrev pub StaysNearby : Nearby → Nearby → Type 0
+StaysNearby old new = (q : ℕ) (b : Bounds) → IsNearby old q b → IsNearby new q b
 
 -- the slots of a level whose boxes meet a region are in a list
 abbrev pub HasMet : FinMap nat_cmp Bounds → ℕ → Bounds → List ℕ → Type 0
@@ -27,15 +41,20 @@ abbrev pub HasMetIn : FinMap nat_cmp Bounds → ℕ → ℕ → Bounds → List 
 HasMetIn bodies first end region slots =
     (q : ℕ) (b : Bounds) → get bodies q ≡ Some b → first ≤ level_of b → level_of b < end → meets region b ≡ true → has_slot slots q ≡ true
 
--- the slots whose boxes lie in a cell are in a list
-abbrev pub HasKeyed : FinMap nat_cmp Bounds → CellKey → List ℕ → Type 0
-HasKeyed bodies key slots = (q : ℕ) (b : Bounds) → get bodies q ≡ Some b → cell_of b ≡ key → has_slot slots q ≡ true
+-- the slots of a level whose boxes meet a region are near
+abbrev pub NearsLevel : FinMap nat_cmp Bounds → ℕ → Bounds → Nearby → Type 0
+NearsLevel bodies level region near = (q : ℕ) (b : Bounds) → get bodies q ≡ Some b → level_of b ≡ level → meets region b ≡ true → IsNearby near q b
 
--- the slots of a level whose boxes meet a body, and lie in cells after that of its lower corner, are in a list
-abbrev pub HasAfter : FinMap nat_cmp Bounds → ℕ → Bounds → List ℕ → Type 0
-HasAfter bodies level body slots =
+-- the same of the levels from one on and below an end
+abbrev pub NearsIn : FinMap nat_cmp Bounds → ℕ → ℕ → Bounds → Nearby → Type 0
+NearsIn bodies first end region near =
+    (q : ℕ) (b : Bounds) → get bodies q ≡ Some b → first ≤ level_of b → level_of b < end → meets region b ≡ true → IsNearby near q b
+
+-- the slots of a level whose boxes meet a body, and lie in cells after that of its lower corner, are near
+abbrev pub NearsAfter : FinMap nat_cmp Bounds → ℕ → Bounds → Nearby → Type 0
+NearsAfter bodies level body near =
     (q : ℕ) (b : Bounds) → get bodies q ≡ Some b → level_of b ≡ level → IsAfter (cell_of b) (cell_on level body.lo) → meets body b ≡ true
-    → has_slot slots q ≡ true
+    → IsNearby near q b
 
 -- all present slots, rising
 abbrev pub present : FinMap nat_cmp Bounds → List ℕ

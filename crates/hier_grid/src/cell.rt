@@ -10,6 +10,7 @@ use fixed_box::{FBox, Fix, Point};
 pub(crate) fn cell_of(body: &FBox) -> CellKey
     ensures value { result ≡ cell_of body.now }
     ensures level { result.level < LEVELS }
+    ensures high { result.z ≤ℤ pos 1048576 }
     ensures sized { IsSized body.now }
 {
     space_law(body);
@@ -20,7 +21,8 @@ pub(crate) fn cell_of(body: &FBox) -> CellKey
 // The cell of a level that a point lies in.
 fn cell_on(level: u8, at: &Point) -> CellKey
     requires { level < LEVELS }
-    ensures { result ≡ cell_on level at.now }
+    ensures value { result ≡ cell_on level at.now }
+    ensures high { result.z ≤ℤ pos 1048576 }
 {
     CellKey {
         level,

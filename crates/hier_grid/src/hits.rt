@@ -5,6 +5,7 @@ ghost use Rattle.broad_index.specs.Members.{is_found};
 ghost use Rattle.slot_search.specs.Reach.{reach};
 
 use crate::kept_boxes::KeptBoxes;
+use crate::nearby::Nearby;
 use crate::partners::push_partners;
 use crate::slot_boxes::SlotBoxes;
 use broad_index::{Query, push_rising_slots};
@@ -24,12 +25,10 @@ pub(crate) fn push_hits(
 {
     kept.space_law();
     let region = query.region();
-    let mut places = Vec::new(alloc);
-    let mut candidates = Vec::new(alloc);
-    let end = kept.levels_end();
-    kept.push_from(0, end, &region, &mut 0, &mut places, &mut candidates)?;
+    let mut near = Nearby::new(alloc);
+    kept.push_candidates(&region, &mut near)?;
     let mut hits = Vec::new(alloc);
-    push_found(kept.boxes(), query, &candidates, &mut hits)?;
+    push_found(kept.boxes(), query, &near.slots, &mut hits)?;
     push_rising_slots(&mut hits, out)
 }
 
@@ -65,21 +64,18 @@ pub(crate) fn push_reach(
     ensures ok { OnOk result (out.new.items ≡ out.old.items ++ reach kept.now slot) }
     ensures err { OnErr result (out.new.items ≡ out.old.items) }
 {
-    let mut looked = 0;
-    let mut places = Vec::new(alloc);
-    let mut candidates = Vec::new(alloc);
-    let end = kept.levels_end();
-    kept.push_from(0, end, body, &mut looked, &mut places, &mut candidates)?;
+    let mut near = Nearby::new(alloc);
+    kept.push_candidates(body, &mut near)?;
     let mut partners = Vec::new(alloc);
     push_partners(
         kept.boxes(),
         slot,
         body,
         true,
-        &candidates,
-        &mut looked,
+        &near.slots,
+        &mut near.looked,
         &mut partners,
     )?;
     push_rising_slots(&mut partners, out)?;
-    Ok(u32::try_from(looked).unwrap_or(u32::MAX))
+    Ok(u32::try_from(near.looked).unwrap_or(u32::MAX))
 }

@@ -1,13 +1,14 @@
 ghost use Rattle.std.specs.Prelude.{◌≡◌, ℕ, ◌<◌, ◌≤◌, true, false, Some, IsTrue, IfOk, OnOk};
 ghost use Rattle.std.specs.FinMap as map;
 ghost use Rattle.fixed_box.specs.Bounds.{Bounds, meets};
-ghost use Rattle.hier_grid.specs.Grid.{AreKeyed};
-ghost use Rattle.hier_grid.specs.Search.{HasAfter, HasKeyed, HasMet, HasMetIn, HasMore, IsAbove, IsBare};
+ghost use Rattle.hier_grid.specs.Grid.{AreKeyed, IsSized};
+ghost use Rattle.hier_grid.specs.Search.{HasMetIn, IsAbove, IsBare, NearsAfter, NearsIn, NearsLevel, StaysNearby};
 ghost use Rattle.broad_index.specs.Space.{space};
 
 use crate::cell::cell_of;
 use crate::leveled_boxes::LeveledBoxes;
-use crate::near_cells::{count_beside, push_after, push_beside, push_cell};
+use crate::near_cells::{count_beside, push_after, push_beside, visit_rows};
+use crate::nearby::Nearby;
 use crate::slot_boxes::SlotBoxes;
 use cell_table::{CellKey, CellTable, LEVELS};
 use fixed_box::{FBox, NoMemory, SLOTS};
@@ -66,6 +67,13 @@ impl KeptBoxes {
     pub(crate) fn space_law(&self)
         ensures { (slot : ℕ) (b : Bounds) → map.get self.now slot ≡ Some b → IsTrue (meets space b) }
     {
+        self.sized_law();
+    }
+
+    // A law for proofs, with nothing to run: each box is shorter than the cells of its level.
+    fn sized_law(&self)
+        ensures { (slot : ℕ) (b : Bounds) → map.get self.now slot ≡ Some b → IsSized b }
+    {
         // what a value keeps is known where it is read
         let _boxes = &self.boxes;
     }
@@ -99,40 +107,31 @@ impl KeptBoxes {
         self.boxes.take(slot);
     }
 
-    /// Appends the slots in a cell.
-    pub(crate) fn push_in(&self, cell: &CellKey, out: &mut Vec<u32>) -> Result<(), NoMemory>
-        ensures { OnOk result (HasKeyed self.now cell.now out.new.items) }
-    {
-        push_cell(&self.cells, cell, out)?;
-        Ok(())
-    }
-
-    /// Appends slots, and among them all whose boxes meet a box of their own level and lie in cells after its cell. Where
-    /// the level has few boxes those in cells before it are among them too.
+    /// Lists slots and rows of cells, and among them all boxes of a level that meet a box of it and lie in cells after its
+    /// cell. Where the level has few boxes those in cells before it are among them too.
     pub(crate) fn push_after(
         &self,
         level: u8,
         body: &FBox,
-        looked: &mut u64,
-        places: &mut Vec<u32>,
-        out: &mut Vec<u32>,
+        near: &mut Nearby,
     ) -> Result<(), NoMemory>
         requires { level < LEVELS }
-        ensures { OnOk result (HasAfter self.now level body.now out.new.items) }
+        ensures { OnOk result (NearsAfter self.now level body.now near.new) }
     {
         if self.has_few(level, body) {
-            self.scan(level, body, looked, places, out)
+            self.scan(level, body, near)
         } else {
-            self.push_after_cell(level, body, out)
+            self.push_after_cell(level, body, near)
         }
     }
 
-    // Appends the slots of a level in cells beside a region after the cell of its lower corner.
-    fn push_after_cell(&self, level: u8, body: &FBox, out: &mut Vec<u32>) -> Result<(), NoMemory>
+    // Lists the rows of cells of a level beside a region after the cell of its lower corner.
+    fn push_after_cell(&self, level: u8, body: &FBox, near: &mut Nearby) -> Result<(), NoMemory>
         requires { level < LEVELS }
-        ensures { OnOk result (HasAfter self.now level body.now out.new.items) }
+        ensures { OnOk result (NearsAfter self.now level body.now near.new) }
     {
-        push_after(&self.cells, level, body, out)?;
+        self.sized_law();
+        push_after(level, body, &mut near.rows)?;
         Ok(())
     }
 
@@ -151,46 +150,47 @@ impl KeptBoxes {
         end
     }
 
-    /// Appends slots, and among them all whose boxes meet a region and have a level from one on and below an end.
+    /// Appends slots, and among them all whose boxes meet a region.
+    pub(crate) fn push_candidates(&self, region: &FBox, near: &mut Nearby) -> Result<(), NoMemory>
+        ensures { OnOk result (HasMetIn self.now 0 LEVELS region.now near.new.slots.items) }
+    {
+        self.push_from(0, self.levels_end(), region, near)?;
+        visit_rows(&self.cells, &near.rows, &mut near.slots)?;
+        Ok(())
+    }
+
+    /// Lists slots and rows of cells, and among them all boxes that meet a region and have a level from one on and below an
+    /// end.
     pub(crate) fn push_from(
         &self,
         first: u8,
         end: u8,
         region: &FBox,
-        looked: &mut u64,
-        places: &mut Vec<u32>,
-        out: &mut Vec<u32>,
+        near: &mut Nearby,
     ) -> Result<(), NoMemory>
         requires { end ≤ LEVELS }
-        ensures more { OnOk result (HasMore out.old.items out.new.items) }
-        ensures found { OnOk result (HasMetIn self.now first end region.now out.new.items) }
+        ensures more { OnOk result (StaysNearby near.old near.new) }
+        ensures found { OnOk result (NearsIn self.now first end region.now near.new) }
     {
         'levels: for level in first..end {
-            self.push_candidates(level, region, looked, places, out)?;
+            self.push_near(level, region, near)?;
         }
         Ok(())
     }
 
-    // Appends slots, and among them all of a level whose boxes meet a region.
-    fn push_candidates(
-        &self,
-        level: u8,
-        region: &FBox,
-        looked: &mut u64,
-        places: &mut Vec<u32>,
-        out: &mut Vec<u32>,
-    ) -> Result<(), NoMemory>
+    // Lists slots or rows of cells, and among them all boxes of a level that meet a region.
+    fn push_near(&self, level: u8, region: &FBox, near: &mut Nearby) -> Result<(), NoMemory>
         requires { level < LEVELS }
-        ensures more { OnOk result (HasMore out.old.items out.new.items) }
-        ensures found { OnOk result (HasMet self.now level region.now out.new.items) }
+        ensures more { OnOk result (StaysNearby near.old near.new) }
+        ensures found { OnOk result (NearsLevel self.now level region.now near.new) }
     {
         if !self.has_some(level) {
             return Ok(());
         }
         if self.has_few(level, region) {
-            self.scan(level, region, looked, places, out)
+            self.scan(level, region, near)
         } else {
-            self.push_from_cells(level, region, out)
+            self.push_from_cells(level, region, near)
         }
     }
 
@@ -210,29 +210,27 @@ impl KeptBoxes {
     }
 
     // Appends the slots of a level whose boxes meet a region. Each box of the level is compared, and counted.
-    fn scan(
-        &self,
-        level: u8,
-        region: &FBox,
-        looked: &mut u64,
-        places: &mut Vec<u32>,
-        out: &mut Vec<u32>,
-    ) -> Result<(), NoMemory>
+    fn scan(&self, level: u8, region: &FBox, near: &mut Nearby) -> Result<(), NoMemory>
         requires { level < LEVELS }
-        ensures more { OnOk result (HasMore out.old.items out.new.items) }
-        ensures found { OnOk result (HasMet self.now level region.now out.new.items) }
+        ensures more { OnOk result (StaysNearby near.old near.new) }
+        ensures found { OnOk result (NearsLevel self.now level region.now near.new) }
     {
-        *looked = looked.saturating_add(u64::from(self.cells.level_len(level)));
-        self.boxes.scan(level, region, places, out)
+        near.looked = near
+            .looked
+            .saturating_add(u64::from(self.cells.level_len(level)));
+        self.boxes
+            .scan(level, region, &mut near.places, &mut near.slots)?;
+        Ok(())
     }
 
-    // Appends the slots of a level in cells beside a region.
-    fn push_from_cells(&self, level: u8, region: &FBox, out: &mut Vec<u32>) -> Result<(), NoMemory>
+    // Lists the rows of cells of a level beside a region.
+    fn push_from_cells(&self, level: u8, region: &FBox, near: &mut Nearby) -> Result<(), NoMemory>
         requires { level < LEVELS }
-        ensures more { OnOk result (HasMore out.old.items out.new.items) }
-        ensures found { OnOk result (HasMet self.now level region.now out.new.items) }
+        ensures more { OnOk result (StaysNearby near.old near.new) }
+        ensures found { OnOk result (NearsLevel self.now level region.now near.new) }
     {
-        push_beside(&self.cells, level, region, out)?;
+        self.sized_law();
+        push_beside(level, region, &mut near.rows)?;
         Ok(())
     }
 }

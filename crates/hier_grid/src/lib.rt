@@ -2,13 +2,16 @@
 //! Collision Detection*, 2005, 7.2).
 #![tactic(auto)]
 
+mod bucket_boxes;
 mod cell;
+mod cell_row;
 mod grid;
 mod hits;
 mod kept_boxes;
 mod level_row;
 mod leveled_boxes;
 mod near_cells;
+mod nearby;
 mod pair_search;
 mod partners;
 mod slot_boxes;

@@ -1,49 +1,40 @@
 ghost use Rattle.std.specs.Prelude.{◌≡◌, ℤ, pos, ◌+ℤ◌, ◌-ℤ◌, ◌<◌, ◌≤ℤ◌, ◌<ℤ◌, OnOk};
 ghost use Rattle.cell_table.specs.declared.cell_key.CellKey as key;
-ghost use Rattle.hier_grid.specs.Cells.{cell_at, cell_on, IsAfter, IsBeside};
-ghost use Rattle.hier_grid.specs.Search.{HasCell, HasMore};
+ghost use Rattle.hier_grid.specs.Cells.{cell_at, cell_on, IsAfter, IsBeside, IsInRow, IsInRows};
+ghost use Rattle.hier_grid.specs.Search.{HasCell, HasMore, HasRows};
 
 use crate::cell::cell_at;
+use crate::cell_row::CellRow;
 use cell_table::{CellKey, CellTable, LEVELS};
 use fixed_box::{FBox, Fix, NoMemory};
 
-/// Appends the slots in the cells of a level beside a region: from the cell before that of its lower corner, since a box
+/// Appends the rows of cells of a level beside a region: from the cell before that of its lower corner, since a box
 /// reaches at most into the next cell, to that of its upper corner.
-pub(crate) fn push_beside(
-    cells: &CellTable,
-    level: u8,
-    region: &FBox,
-    out: &mut Vec<u32>,
-) -> Result<(), NoMemory>
+pub(crate) fn push_beside(level: u8, region: &FBox, rows: &mut Vec<CellRow>) -> Result<(), NoMemory>
     requires { level < LEVELS }
-    ensures more { OnOk result (HasMore out.old.items out.new.items) }
-    ensures found { OnOk result ((k : key.CellKey) → k.level ≡ level → IsBeside level region.now k → HasCell cells.now k out.new.items) }
+    ensures more { OnOk result (HasRows rows.old.items rows.new.items) }
+    ensures found { OnOk result ((k : key.CellKey) → k.level ≡ level → IsBeside level region.now k → IsInRows rows.new.items k) }
 {
     push_block(
-        cells,
         &first_beside(level, region),
         &end_beside(level, region),
-        out,
+        rows,
     )?;
     Ok(())
 }
 
-/// Appends the slots in those cells beside a region that come after the cell of its lower corner in the order of x, y
+/// Appends the rows of those cells beside a region that come after the cell of its lower corner in the order of x, y
 /// and z: about half of them.
-pub(crate) fn push_after(
-    cells: &CellTable,
-    level: u8,
-    region: &FBox,
-    out: &mut Vec<u32>,
-) -> Result<(), NoMemory>
+pub(crate) fn push_after(level: u8, region: &FBox, rows: &mut Vec<CellRow>) -> Result<(), NoMemory>
     requires { level < LEVELS }
-    ensures { OnOk result ((k : key.CellKey) → k.level ≡ level → IsBeside level region.now k
-        → IsAfter k (cell_on level region.now.lo) → HasCell cells.now k out.new.items) }
+    ensures more { OnOk result (HasRows rows.old.items rows.new.items) }
+    ensures found { OnOk result ((k : key.CellKey) → k.level ≡ level → IsBeside level region.now k
+        → IsAfter k (cell_on level region.now.lo) → IsInRows rows.new.items k) }
 {
     let end = end_beside(level, region);
-    push_row(cells, &after_on_z(level, region), &end, out)?;
-    push_plane(cells, &after_on_y(level, region), &end, out)?;
-    push_block(cells, &after_on_x(level, region), &end, out)?;
+    push_row(&after_on_z(level, region), &end, rows)?;
+    push_plane(&after_on_y(level, region), &end, rows)?;
+    push_block(&after_on_x(level, region), &end, rows)?;
     Ok(())
 }
 
@@ -59,64 +50,65 @@ pub(crate) fn count_beside(level: u8, region: &FBox) -> u64
     x.saturating_mul(y).saturating_mul(z)
 }
 
-// Appends the slots in the cells from one corner on, below another, and others that share their buckets.
-fn push_block(
-    cells: &CellTable,
-    from: &CellKey,
-    end: &CellKey,
-    out: &mut Vec<u32>,
-) -> Result<(), NoMemory>
-    ensures more { OnOk result (HasMore out.old.items out.new.items) }
+// Appends the rows of the cells from one corner on, below another.
+fn push_block(from: &CellKey, end: &CellKey, rows: &mut Vec<CellRow>) -> Result<(), NoMemory>
+    ensures more { OnOk result (HasRows rows.old.items rows.new.items) }
     ensures found { OnOk result ((x y z : ℤ) → from.now.x ≤ℤ x → x <ℤ end.now.x → from.now.y ≤ℤ y → y <ℤ end.now.y
-        → from.now.z ≤ℤ z → z <ℤ end.now.z → HasCell cells.now (record from.now { x = x; y = y; z = z }) out.new.items) }
+        → from.now.z ≤ℤ z → z <ℤ end.now.z → IsInRows rows.new.items (record from.now { x = x; y = y; z = z })) }
 {
     'block: for x in from.x..end.x {
-        push_plane(cells, &with_x(from, x), end, out)?;
+        push_plane(&with_x(from, x), end, rows)?;
     }
     Ok(())
 }
 
 // The same at one x.
-fn push_plane(
-    cells: &CellTable,
-    from: &CellKey,
-    end: &CellKey,
-    out: &mut Vec<u32>,
-) -> Result<(), NoMemory>
-    ensures more { OnOk result (HasMore out.old.items out.new.items) }
+fn push_plane(from: &CellKey, end: &CellKey, rows: &mut Vec<CellRow>) -> Result<(), NoMemory>
+    ensures more { OnOk result (HasRows rows.old.items rows.new.items) }
     ensures found { OnOk result ((y z : ℤ) → from.now.y ≤ℤ y → y <ℤ end.now.y → from.now.z ≤ℤ z → z <ℤ end.now.z
-        → HasCell cells.now (record from.now { y = y; z = z }) out.new.items) }
+        → IsInRows rows.new.items (record from.now { y = y; z = z })) }
 {
     'plane: for y in from.y..end.y {
-        push_row(cells, &with_y(from, y), end, out)?;
+        push_row(&with_y(from, y), end, rows)?;
     }
     Ok(())
 }
 
 // The same at one x and y.
-fn push_row(
-    cells: &CellTable,
-    from: &CellKey,
-    end: &CellKey,
-    out: &mut Vec<u32>,
-) -> Result<(), NoMemory>
-    ensures more { OnOk result (HasMore out.old.items out.new.items) }
-    ensures found { OnOk result ((z : ℤ) → from.now.z ≤ℤ z → z <ℤ end.now.z → HasCell cells.now (record from.now { z = z }) out.new.items) }
+fn push_row(from: &CellKey, end: &CellKey, rows: &mut Vec<CellRow>) -> Result<(), NoMemory>
+    ensures more { OnOk result (HasRows rows.old.items rows.new.items) }
+    ensures found { OnOk result ((z : ℤ) → from.now.z ≤ℤ z → z <ℤ end.now.z → IsInRows rows.new.items (record from.now { z = z })) }
 {
-    cells.visit_row(from, end.z, out)?;
+    rows.push(CellRow {
+        key: *from,
+        end: end.z,
+    })?;
     Ok(())
 }
 
-/// Appends the slots in a cell, and those that share its bucket.
-pub(crate) fn push_cell(
+/// Appends the slots in the cells of some rows, and others that share their buckets.
+pub(crate) fn visit_rows(
     cells: &CellTable,
-    key: &CellKey,
+    rows: &[CellRow],
     out: &mut Vec<u32>,
 ) -> Result<(), NoMemory>
     ensures more { OnOk result (HasMore out.old.items out.new.items) }
-    ensures found { OnOk result (HasCell cells.now key.now out.new.items) }
+    ensures found { OnOk result ((k : key.CellKey) → IsInRows rows.now k → HasCell cells.now k out.new.items) }
 {
-    cells.visit_bucket(key, out)?;
+    let mut rest = rows;
+    'rows: while let [row, more @ ..] = rest {
+        visit_row(cells, row, out)?;
+        rest = more;
+    }
+    Ok(())
+}
+
+// The same of one row.
+fn visit_row(cells: &CellTable, row: &CellRow, out: &mut Vec<u32>) -> Result<(), NoMemory>
+    ensures more { OnOk result (HasMore out.old.items out.new.items) }
+    ensures found { OnOk result ((k : key.CellKey) → IsInRow row.now k → HasCell cells.now k out.new.items) }
+{
+    cells.visit_row(&row.key, row.end, out)?;
     Ok(())
 }
 

@@ -1,23 +1,27 @@
-ghost use Rattle.std.specs.Prelude.{◌≡◌, ◌<◌, ◌≤◌, Some, OnOk};
+ghost use Rattle.std.specs.Prelude.{◌≡◌, ◌<◌, ◌≤◌, pos, ◌≤ℤ◌, Some, OnOk};
 ghost use Rattle.std.specs.FinMap as map;
 ghost use Rattle.fixed_box.specs.Bounds.{level_of};
-ghost use Rattle.hier_grid.specs.Cells.{cell_of};
-ghost use Rattle.hier_grid.specs.Search.{IsSound, HasPairs, IsAbove, FindsFrom, FindsFor, FindsOwn, FindsOthers, FindsRun};
+ghost use Rattle.hier_grid.specs.Buckets.{HasBuckets};
+ghost use Rattle.hier_grid.specs.Cells.{IsInRow};
+ghost use Rattle.hier_grid.specs.Search.{IsSound, HasPairs, IsAbove, FindsFrom, FindsFor, FindsOthers, FindsRun};
 
+use crate::bucket_boxes::{BucketBoxes, SlotBox};
 use crate::cell::cell_of;
+use crate::cell_row::CellRow;
 use crate::kept_boxes::KeptBoxes;
+use crate::nearby::Nearby;
 use crate::partners::push_pairs;
 use broad_index::Pair;
 use cell_table::{CellKey, LEVELS};
-use fixed_box::{FBox, NoMemory};
+use fixed_box::NoMemory;
 use std::alloc::Global;
 
 /// The pairs that were found, in any order, and room for the searches of slots.
 #[derive(Drop)]
 pub(crate) struct Findings {
     pub(crate) pairs: Vec<Pair>,
-    candidates: Vec<u32>,
-    places: Vec<u32>,
+    boxes: BucketBoxes,
+    near: Nearby,
 }
 
 impl Findings {
@@ -25,8 +29,8 @@ impl Findings {
     pub(crate) fn new(alloc: Global) -> Findings {
         Findings {
             pairs: Vec::new(alloc),
-            candidates: Vec::new(alloc),
-            places: Vec::new(alloc),
+            boxes: BucketBoxes::new(alloc),
+            near: Nearby::new(alloc),
         }
     }
 }
@@ -40,135 +44,119 @@ pub(crate) fn find_run(
     ensures { OnOk result (FindsRun kept.now slots.now found.new.pairs.items) }
 {
     found.pairs.clear();
+    if slots.is_empty() {
+        return Ok(0);
+    }
+    found.boxes.fill(kept)?;
+    found.near.looked = 0;
     let end = kept.levels_end();
-    let mut looked = 0;
     let mut rest = slots;
     'slots: while let [slot, more @ ..] = rest {
-        find_for(kept, *slot, end, &mut looked, found)?;
+        find_for(
+            kept,
+            &found.boxes,
+            *slot,
+            end,
+            &mut found.near,
+            &mut found.pairs,
+        )?;
         rest = more;
     }
-    Ok(looked)
+    Ok(found.near.looked)
 }
 
 // Finds the pairs of a slot with its partners, if it is present.
 fn find_for(
     kept: &KeptBoxes,
+    boxes: &BucketBoxes,
     slot: u32,
     end: u8,
-    looked: &mut u64,
-    found: &mut Findings,
+    near: &mut Nearby,
+    pairs: &mut Vec<Pair>,
 ) -> Result<(), NoMemory>
+    requires filled { HasBuckets kept.now boxes.now }
     requires bound { end ≤ LEVELS }
     requires above { IsAbove kept.now end }
-    requires sound { IsSound kept.now found.old.pairs.items }
-    ensures sound { OnOk result (IsSound kept.now found.new.pairs.items) }
-    ensures more { OnOk result (HasPairs found.old.pairs.items found.new.pairs.items) }
-    ensures found { OnOk result (FindsFor kept.now slot found.new.pairs.items) }
+    requires sound { IsSound kept.now pairs.old.items }
+    ensures sound { OnOk result (IsSound kept.now pairs.new.items) }
+    ensures more { OnOk result (HasPairs pairs.old.items pairs.new.items) }
+    ensures found { OnOk result (FindsFor kept.now slot pairs.new.items) }
 {
     let Some(body) = kept.boxes().box_of(slot) else {
         return Ok(());
     };
-    find_from(kept, slot, &body, end, looked, found)?;
+    find_from(kept, boxes, &SlotBox { slot, body }, end, near, pairs)?;
     Ok(())
 }
 
 // Finds the pairs of a slot with those partners that it is to find.
 fn find_from(
     kept: &KeptBoxes,
-    slot: u32,
-    body: &FBox,
+    boxes: &BucketBoxes,
+    own: &SlotBox,
     end: u8,
-    looked: &mut u64,
-    found: &mut Findings,
+    near: &mut Nearby,
+    pairs: &mut Vec<Pair>,
 ) -> Result<(), NoMemory>
-    requires own { map.get kept.now slot ≡ Some body.now }
+    requires filled { HasBuckets kept.now boxes.now }
+    requires own { map.get kept.now own.now.slot ≡ Some own.now.body }
     requires bound { end ≤ LEVELS }
     requires above { IsAbove kept.now end }
-    requires sound { IsSound kept.now found.old.pairs.items }
-    ensures sound { OnOk result (IsSound kept.now found.new.pairs.items) }
-    ensures more { OnOk result (HasPairs found.old.pairs.items found.new.pairs.items) }
-    ensures found { OnOk result (FindsFrom kept.now slot body.now found.new.pairs.items) }
+    requires sound { IsSound kept.now pairs.old.items }
+    ensures sound { OnOk result (IsSound kept.now pairs.new.items) }
+    ensures more { OnOk result (HasPairs pairs.old.items pairs.new.items) }
+    ensures found { OnOk result (FindsFrom kept.now own.now.slot own.now.body pairs.new.items) }
 {
-    let cell = cell_of(body);
-    find_own(kept, slot, body, &cell, looked, found)?;
-    find_others(kept, slot, body, cell.level, end, looked, found)?;
+    let cell = cell_of(&own.body);
+    boxes.find_in_row(own, false, &row_of(&cell), &mut near.looked, pairs)?;
+    find_others(kept, boxes, own, cell.level, end, near, pairs)?;
     Ok(())
 }
 
-// Finds the pairs of a slot with higher slots of its cell.
-fn find_own(
-    kept: &KeptBoxes,
-    slot: u32,
-    body: &FBox,
-    cell: &CellKey,
-    looked: &mut u64,
-    found: &mut Findings,
-) -> Result<(), NoMemory>
-    requires own { map.get kept.now slot ≡ Some body.now }
-    requires cell { cell.now ≡ cell_of body.now }
-    requires sound { IsSound kept.now found.old.pairs.items }
-    ensures sound { OnOk result (IsSound kept.now found.new.pairs.items) }
-    ensures more { OnOk result (HasPairs found.old.pairs.items found.new.pairs.items) }
-    ensures found { OnOk result (FindsOwn kept.now slot body.now found.new.pairs.items) }
+// The row of one cell.
+fn row_of(cell: &CellKey) -> CellRow
+    requires { cell.now.z ≤ℤ pos 1048576 }
+    ensures { IsInRow result cell.now }
 {
-    found.candidates.clear();
-    kept.push_in(cell, &mut found.candidates)?;
-    push_pairs(
-        kept.boxes(),
-        slot,
-        body,
-        false,
-        &found.candidates,
-        looked,
-        &mut found.pairs,
-    )?;
-    Ok(())
+    CellRow {
+        key: *cell,
+        end: cell.z + 1,
+    }
 }
 
 // Finds the pairs of a slot with its partners in later cells of its level and at the levels above it.
 fn find_others(
     kept: &KeptBoxes,
-    slot: u32,
-    body: &FBox,
+    boxes: &BucketBoxes,
+    own: &SlotBox,
     level: u8,
     end: u8,
-    looked: &mut u64,
-    found: &mut Findings,
+    near: &mut Nearby,
+    pairs: &mut Vec<Pair>,
 ) -> Result<(), NoMemory>
-    requires own { map.get kept.now slot ≡ Some body.now }
+    requires filled { HasBuckets kept.now boxes.now }
+    requires own { map.get kept.now own.now.slot ≡ Some own.now.body }
     requires low { level < LEVELS }
-    requires level { level ≡ level_of body.now }
+    requires level { level ≡ level_of own.now.body }
     requires bound { end ≤ LEVELS }
     requires above { IsAbove kept.now end }
-    requires sound { IsSound kept.now found.old.pairs.items }
-    ensures sound { OnOk result (IsSound kept.now found.new.pairs.items) }
-    ensures more { OnOk result (HasPairs found.old.pairs.items found.new.pairs.items) }
-    ensures found { OnOk result (FindsOthers kept.now slot body.now found.new.pairs.items) }
+    requires sound { IsSound kept.now pairs.old.items }
+    ensures sound { OnOk result (IsSound kept.now pairs.new.items) }
+    ensures more { OnOk result (HasPairs pairs.old.items pairs.new.items) }
+    ensures found { OnOk result (FindsOthers kept.now own.now.slot own.now.body pairs.new.items) }
 {
-    found.candidates.clear();
-    kept.push_after(
-        level,
-        body,
-        looked,
-        &mut found.places,
-        &mut found.candidates,
-    )?;
-    kept.push_from(
-        level + 1,
-        end,
-        body,
-        looked,
-        &mut found.places,
-        &mut found.candidates,
-    )?;
+    near.clear();
+    kept.push_after(level, &own.body, near)?;
+    kept.push_from(level + 1, end, &own.body, near)?;
     push_pairs(
         kept.boxes(),
-        slot,
-        body,
+        own.slot,
+        &own.body,
         true,
-        &found.candidates,
-        looked,
-        &mut found.pairs,
+        &near.slots,
+        &mut near.looked,
+        pairs,
     )?;
+    boxes.find_in_rows(own, &near.rows, &mut near.looked, pairs)?;
     Ok(())
 }

@@ -62,8 +62,8 @@ fn is_partner(boxes: &SlotBoxes, slot: u32, body: &FBox, any: bool, other: u32) 
     is_sought(slot, any, other) & boxes.meets(other, body)
 }
 
-// Whether another slot may be a partner.
-fn is_sought(slot: u32, any: bool, other: u32) -> bool
+/// Whether another slot may be a partner.
+pub(crate) fn is_sought(slot: u32, any: bool, other: u32) -> bool
     ensures { result ≡ (not (other == slot) && (any || nat_lt slot other)) }
 {
     (other != slot) & (any | (slot < other))

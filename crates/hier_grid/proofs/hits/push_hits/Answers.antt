@@ -11,7 +11,6 @@ returns-clause-ok c =
     let slots = c.deref.result.now in
     let is : c.push_found.new.out.items ≡ filter (is_found kept c.args.query.now) slots = search rules in
     let met : HasMetIn kept 0 11 c.region-region.result slots =
-    subst (HasMetIn kept 0 11 c.region-region.result) (sym c.deref.ensures.value)
-    (λ q b e from low m. c.in_ok-push_from.ensures.found q b e from (c.levels_end-end.ensures.above q b e) m) in
+    subst (HasMetIn kept 0 11 c.region-region.result) (sym c.deref.ensures.value) c.in_ok-push_candidates.ensures in
     c.push_rising_slots.ensures.found kept c.args.query.now
     (λ k. ap (λ l. has_slot l k) is ∙ hits_among kept c.args.query.now c.region-region.result slots c.space_law.ensures c.region-region.ensures met k)

@@ -11,7 +11,6 @@ returns-clause-ok c =
     let slots = c.deref.result.now in
     let is : c.push_partners.new.out.items ≡ filter (is_partner kept c.args.slot c.args.body.now true) slots = search rules in
     let met : HasMetIn kept 0 11 c.args.body.now slots =
-    subst (HasMetIn kept 0 11 c.args.body.now) (sym c.deref.ensures.value)
-    (λ q b e from low m. c.in_ok-push_from.ensures.found q b e from (c.levels_end-end.ensures.above q b e) m) in
+    subst (HasMetIn kept 0 11 c.args.body.now) (sym c.deref.ensures.value) c.in_ok-push_candidates.ensures in
     c.in_ok-push_rising_slots.ensures.reach kept c.args.slot
     (λ k. ap (λ l. has_slot l k) is ∙ reach_among kept c.args.slot c.args.body.now slots c.requires met k)

@@ -1,18 +1,19 @@
--- The visit appends all slots of the row.
-use Rattle.std.proofs.Common.{subst, w32, SFits, rules}
+-- The row is the last one.
+use Rattle.std.proofs.Common.{sym, subst, refl, w32, to_z, of_z, SFits, rules}
 use Rattle.std.proofs.Math.Facts.{to_z-of_z}
-use Rattle.cell_table.specs.Cells.{VisitsRow}
-use Rattle.hier_grid.proofs.SlotLemmas.{row_visited, row_more}
+use Rattle.std.specs.Prelude.{◌<ℤ◌}
+use Rattle.hier_grid.specs.Cells.{IsInRows}
+use Rattle.hier_grid.proofs.CellRowLemmas.{rows_more, row_last}
 use Rattle.hier_grid.proofs.near_cells.push_row.Goals as goal
 
 pub returns-clause-more : goal.returns-clause-more
-returns-clause-more c =
-    row_more c.args.cells.now c.args.from.now _ c.args.out.now.items c.visit_row.new.out.items c.in_ok-visit_row.ensures.ok
+returns-clause-more c k h = subst (λ rows. IsInRows rows k) (sym c.in_ok-push.ensures.items) (rows_more c.args.rows.now.items _ k h)
 
 pub returns-clause-found : goal.returns-clause-found
-returns-clause-found c =
-    let old = c.args.out.now.items in
-    let new = c.visit_row.new.out.items in
-    let fits : SFits w32 c.args.end.now.z = search rules in
-    row_visited c.args.cells.now c.args.from.now c.args.end.now.z old new
-    (subst (λ z. VisitsRow c.args.cells.now c.args.from.now z old new) (to_z-of_z fits) c.in_ok-visit_row.ensures.ok)
+returns-clause-found c z lo lt =
+    let k = record c.args.from.now { z = z } in
+    let end = c.args.end.now.z in
+    let fits : SFits w32 end = search rules in
+    subst (λ rows. IsInRows rows k) (sym c.in_ok-push.ensures.items)
+    (row_last c.args.rows.now.items (record { key = c.args.from.now; end = to_z w32 (of_z w32 end) }) k
+    (record { low = lo; high = subst (λ e. z <ℤ e) (sym (to_z-of_z fits)) lt; column = refl }))

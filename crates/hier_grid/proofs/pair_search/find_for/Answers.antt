@@ -8,4 +8,4 @@ use Rattle.hier_grid.proofs.pair_search.find_for.Goals as goal
 pub returns-clause-found : goal.returns-clause-found
 returns-clause-found c body own =
     let here : get c.args.kept.now c.args.slot ≡ Some c.in-Some.body = search rules in
-    subst (λ b. FindsFrom c.args.kept.now c.args.slot b c.find_from.new.found.pairs.items) (some_is (sym here ∙ own)) c.in_ok-find_from.ensures.found
+    subst (λ b. FindsFrom c.args.kept.now c.args.slot b c.find_from.new.pairs.items) (some_is (sym here ∙ own)) c.in_ok-find_from.ensures.found

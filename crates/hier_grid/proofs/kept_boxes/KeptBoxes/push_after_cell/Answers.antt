@@ -1,11 +1,9 @@
--- All cells beside the body that come after its cell were visited.
-use Rattle.std.proofs.Common.{subst}
-use Rattle.hier_grid.specs.Search.{HasAfter}
-use Rattle.hier_grid.proofs.GridLemmas.{met_after}
+-- All cells beside the body that come after its cell are in the rows.
+use Rattle.std.proofs.Common.{inr}
+use Rattle.hier_grid.specs.Cells.{cell_of}
+use Rattle.hier_grid.proofs.GridLemmas.{met_beside}
 use Rattle.hier_grid.proofs.kept_boxes.KeptBoxes.push_after_cell.Goals as goal
 
 pub returns : goal.returns
-returns c =
-    subst (λ m. HasAfter m c.args.level c.args.body.now c.push_after.new.out.items) c.self.view_is
-    (met_after c.self.inside.boxes c.self.inside.cells c.args.level c.args.body.now c.push_after.new.out.items c.self.invariant
-    c.in_ok-push_after.ensures)
+returns c q b e l after m =
+    inr (c.in_ok-push_after.ensures.found (cell_of b) l (met_beside c.args.level c.args.body.now b (c.sized_law.ensures q b e) l m) after)

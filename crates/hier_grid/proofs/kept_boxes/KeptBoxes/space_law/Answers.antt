@@ -1,7 +1,5 @@
 -- Each box was put in from space.
-use Rattle.std.proofs.Common.{ap, ◌∙◌}
-use Rattle.std.specs.FinMap.{get}
 use Rattle.hier_grid.proofs.kept_boxes.KeptBoxes.space_law.Goals as goal
 
 pub returns : goal.returns
-returns c q b e = (c.self.invariant.sized q b (ap (λ m. get m q) c.self.view_is ∙ e)).in_space
+returns c q b e = (c.sized_law.ensures q b e).in_space

@@ -6,7 +6,7 @@ use Rattle.hier_grid.proofs.kept_boxes.KeptBoxes.take.Goals as goal
 
 pub take-requires : goal.take-requires
 take-requires c =
-    same_slots c.self.inside.boxes c.self.inside.cells c.args.slot c.self.invariant ∙ ap (λ m. contains_key m c.args.slot) c.self.view_is ∙ c.requires
+    same_slots c.self.inside.boxes c.self.inside.cells c.args.slot c.self.invariant.keyed ∙ ap (λ m. contains_key m c.args.slot) c.self.view_is ∙ c.requires
 
 pub invariant_of-self : goal.invariant_of-self
 invariant_of-self c = rw (c.take.ensures, c.take-2.ensures) (grid_take c.self.inside.boxes c.self.inside.cells c.args.slot c.self.invariant)

@@ -1,0 +1,103 @@
+-- Boxes beside their slots: what is found in a stretch of them, and which slots a stretch has.
+use Rattle.std.proofs.Common.{◌≡◌, ℕ, zero, suc, ◌+◌, ◌<◌, ◌≤◌, Bool, true, false, cond, not, ◌&&◌, ◌||◌, ◌==◌, nat_lt, List, [], ◌∷◌, ◌++◌, map, length, take, drop}
+use Rattle.std.proofs.Common.{get_or, Some, refl, sym, ap, ◌∙◌, arith, subst}
+use Rattle.std.specs.List.{filter, drop-map, take-map}
+use Rattle.std.proofs.lemmas.List.Elements.{All-append, All-cons, All-drop, All-nil, All-take}
+use Rattle.std.proofs.lemmas.List.{append_assoc, length-map, map-append}
+use Rattle.std.proofs.lemmas.Bool.Decides.{nat_tests}
+use Rattle.std.specs.Ordering.{nat_cmp}
+use Rattle.std.specs.FinMap.{FinMap, get}
+use Rattle.fixed_box.specs.Bounds.{Bounds, meets}
+use Rattle.broad_index.specs.declared.pair.Pair.{Pair}
+use Rattle.broad_index.specs.Members.{has_pair, has_slot, both_meet}
+use Rattle.broad_index.specs.Touched.{ordered}
+use Rattle.hier_grid.specs.declared.bucket_boxes.BucketBoxes.{BucketBoxes}
+use Rattle.hier_grid.specs.declared.bucket_boxes.SlotBox.{SlotBox}
+use Rattle.hier_grid.specs.Buckets.{AreOf, HasBuckets, is_met, met_pairs}
+use Rattle.hier_grid.specs.Search.{is_partner, IsSound}
+use Rattle.hier_grid.proofs.RunLemmas.{parted, rest_of}
+use Rattle.hier_grid.proofs.PartnerLemmas.{found_pairs, sound_pairs, pair_in}
+
+-- the slots of a list of boxes beside their slots
+abbrev pub slots_of : List SlotBox → List ℕ
+slots_of es = map (λ e. e.slot) es
+
+-- the box beside a slot is met where the slot is a partner
+met_one : (bodies : FinMap nat_cmp Bounds) (own : SlotBox) (any : Bool) (e : SlotBox) → get bodies e.slot ≡ Some e.body
+    → is_met own any e ≡ is_partner bodies own.slot own.body any e.slot
+met_one bodies own any e h = ap (λ o. not (e.slot == own.slot) && (any || nat_lt own.slot e.slot) && both_meet (Some own.body) o) (sym h)
+
+met_is : (bodies : FinMap nat_cmp Bounds) (own : SlotBox) (any : Bool) (es : List SlotBox) → AreOf bodies es
+    → met_pairs own any es ≡ found_pairs bodies own.slot own.body any (slots_of es)
+met_is bodies own any [] h = refl
+met_is bodies own any (e ∷ es) h =
+    ap (λ t. map (λ (x : SlotBox). ordered own.slot x.slot) (cond t (e ∷ filter (is_met own any) es) (filter (is_met own any) es)))
+    (met_one bodies own any e (h 0 e (omega arith)))
+    ∙ either (is_partner bodies own.slot own.body any e.slot) (met_is bodies own any es (λ i d l. h (suc i) d (omega arith)))
+  where
+    either : (t : Bool) → met_pairs own any es ≡ found_pairs bodies own.slot own.body any (slots_of es)
+        → map (λ (x : SlotBox). ordered own.slot x.slot) (cond t (e ∷ filter (is_met own any) es) (filter (is_met own any) es))
+        ≡ map (ordered own.slot) (cond t (e.slot ∷ filter (is_partner bodies own.slot own.body any) (slots_of es))
+        (filter (is_partner bodies own.slot own.body any) (slots_of es)))
+    either true rest = ap (λ ps. ordered own.slot e.slot ∷ ps) rest
+    either false rest = rest
+
+pub sound_met : (bodies : FinMap nat_cmp Bounds) (own : SlotBox) (any : Bool) (es : List SlotBox) (old : List Pair) → AreOf bodies es
+    → get bodies own.slot ≡ Some own.body → IsSound bodies old → IsSound bodies (old ++ met_pairs own any es)
+sound_met bodies own any es old h mine s =
+    subst (λ ps. IsSound bodies (old ++ ps)) (sym (met_is bodies own any es h)) (sound_pairs bodies own.slot own.body any (slots_of es) old mine s)
+
+pub pair_met : (bodies : FinMap nat_cmp Bounds) (own : SlotBox) (any : Bool) (es : List SlotBox) (old : List Pair) (q : ℕ) (b : Bounds) → AreOf bodies es
+    → get bodies q ≡ Some b → meets own.body b ≡ true → not (q == own.slot) ≡ true → (any || nat_lt own.slot q) ≡ true
+    → has_slot (slots_of es) q ≡ true → has_pair (old ++ met_pairs own any es) (ordered own.slot q) ≡ true
+pair_met bodies own any es old q b h e m other due i =
+    ap (λ ps. has_pair (old ++ ps) (ordered own.slot q)) (met_is bodies own any es h)
+    ∙ pair_in bodies own.slot own.body any (slots_of es) old q b e m other due i
+
+-- what stands at a place of a list is in a stretch of it that has this place
+in_stretch : (xs : List ℕ) (from count place : ℕ) → from ≤ place → place < from + count → place < length xs
+    → has_slot (take count (drop from xs)) (get_or xs place 0) ≡ true
+in_stretch [] from count place le lt l = absurd (omega arith)
+in_stretch (x ∷ xs) (suc from) count zero le lt l = absurd (omega arith)
+in_stretch (x ∷ xs) (suc from) count (suc place) le lt l = in_stretch xs from count place (omega arith) (omega arith) (omega arith)
+in_stretch (x ∷ xs) zero zero place le lt l = absurd (omega arith)
+in_stretch (x ∷ xs) zero (suc count) zero le lt l =
+    let here : (x == x) ≡ true = grind (arith, nat_tests) in ap (λ t. t || has_slot (take count xs) x) here
+in_stretch (x ∷ xs) zero (suc count) (suc place) le lt l =
+    ap (λ t. (get_or xs place 0 == x) || t) (in_stretch xs zero count place (omega arith) (omega arith) (omega arith)) ∙ or_true (get_or xs place 0 == x)
+  where
+    or_true : (b : Bool) → (b || true) ≡ true
+    or_true true = refl
+    or_true false = refl
+
+-- the same of a stretch of boxes beside their slots
+pub slot_in_stretch : (es : List SlotBox) (slots : List ℕ) (from count place q : ℕ) → slots_of es ≡ slots → from ≤ place → place < from + count
+    → place < length slots → get_or slots place 0 ≡ q → has_slot (slots_of (take count (drop from es))) q ≡ true
+slot_in_stretch es slots from count place q same le lt l is =
+    ap (λ xs. has_slot xs q) (sym (take-map (λ (e : SlotBox). e.slot) count (drop from es))
+    ∙ ap (take count) (sym (drop-map (λ (e : SlotBox). e.slot) from es) ∙ ap (drop from) same))
+    ∙ ap (has_slot (take count (drop from slots))) (sym is)
+    ∙ in_stretch slots from count place le lt l
+
+pub of_stretch : (bodies : FinMap nat_cmp Bounds) (es : List SlotBox) (from count : ℕ) → AreOf bodies es → AreOf bodies (take count (drop from es))
+of_stretch bodies es from count h =
+    All-take (λ e. get bodies e.slot ≡ Some e.body) count (drop from es) (All-drop (λ e. get bodies e.slot ≡ Some e.body) from es h)
+
+-- ---- one more box beside its slot
+pub of_more : (bodies : FinMap nat_cmp Bounds) (es : List SlotBox) (e : SlotBox) → AreOf bodies es → get bodies e.slot ≡ Some e.body
+    → AreOf bodies (es ++ e ∷ [])
+of_more bodies es e h here =
+    let P : SlotBox → Type 0 = λ x. get bodies x.slot ≡ Some x.body in All-append P es (e ∷ []) h (All-cons P e [] here (All-nil P))
+
+pub slots_more : (es : List SlotBox) (e : SlotBox) (rest slots : List ℕ) → 1 ≤ length rest → e.slot ≡ get_or rest 0 0 → slots_of es ++ rest ≡ slots
+    → slots_of (es ++ e ∷ []) ++ rest_of rest ≡ slots
+slots_more es e rest slots l at h =
+    ap (λ xs. xs ++ rest_of rest) (map-append (λ (x : SlotBox). x.slot) es (e ∷ []))
+    ∙ append_assoc (slots_of es) (e.slot ∷ []) (rest_of rest)
+    ∙ ap (λ x. slots_of es ++ x ∷ rest_of rest) at
+    ∙ ap (λ xs. slots_of es ++ xs) (sym (parted rest l))
+    ∙ h
+
+-- as many boxes as slots
+pub even : (bodies : FinMap nat_cmp Bounds) (boxes : BucketBoxes) → HasBuckets bodies boxes → length boxes.entries.items ≡ length boxes.list.slots
+even bodies boxes h = sym (length-map boxes.entries.items (λ (e : SlotBox). e.slot)) ∙ ap length h.same

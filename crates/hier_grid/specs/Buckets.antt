@@ -1,0 +1,40 @@
+-- Definitions: boxes beside their slots by bucket, and what is found among them.
+use Rattle.std.specs.Prelude.{◌≡◌, ℕ, Bool, true, not, ◌&&◌, ◌||◌, ◌==◌, nat_lt, List, map, filter, Some, All}
+use Rattle.std.specs.Ordering.{nat_cmp}
+use Rattle.std.specs.FinMap.{FinMap, get}
+use Rattle.fixed_box.specs.Bounds.{Bounds, meets}
+use Rattle.broad_index.specs.declared.pair.Pair.{Pair}
+use Rattle.broad_index.specs.Members.{has_pair}
+use Rattle.broad_index.specs.Touched.{ordered}
+use Rattle.cell_table.specs.declared.cell_key.CellKey.{CellKey}
+use Rattle.cell_table.specs.Listed.{Lists}
+use Rattle.hier_grid.specs.declared.bucket_boxes.BucketBoxes.{BucketBoxes}
+use Rattle.hier_grid.specs.declared.bucket_boxes.SlotBox.{SlotBox}
+use Rattle.hier_grid.specs.Cells.{cell_of}
+use Rattle.hier_grid.specs.Grid.{AreKeyed}
+
+-- beside each slot stands its box
+abbrev pub AreOf : FinMap nat_cmp Bounds → List SlotBox → Type 0
+AreOf bodies entries = All (λ e. get bodies e.slot ≡ Some e.body) entries
+
+-- all boxes, in the order in which the slots of their cells are listed
+pub record HasBuckets (bodies : FinMap nat_cmp Bounds) (boxes : BucketBoxes) : Type 0 where
+  pub cells : FinMap nat_cmp CellKey
+  pub keyed : AreKeyed bodies cells
+  pub listed : Lists cells boxes.list
+  pub same : map (λ e. e.slot) boxes.entries.items ≡ boxes.list.slots
+  pub right : AreOf bodies boxes.entries.items
+
+-- a partner: another slot, any such one or only a higher one, whose box meets the slot's
+abbrev pub is_met : SlotBox → Bool → SlotBox → Bool
+is_met own any e = not (e.slot == own.slot) && (any || nat_lt own.slot e.slot) && meets own.body e.body
+
+-- a slot's pairs with its partners among others
+abbrev pub met_pairs : SlotBox → Bool → List SlotBox → List Pair
+met_pairs own any entries = map (λ e. ordered own.slot e.slot) (filter (is_met own any) entries)
+
+-- the pairs of a slot with its partners in some cells were found
+abbrev pub FindsIn : FinMap nat_cmp Bounds → SlotBox → Bool → (CellKey → Type 0) → List Pair → Type 0
+FindsIn bodies own any IsThere found =
+    (q : ℕ) (b : Bounds) → get bodies q ≡ Some b → IsThere (cell_of b) → meets own.body b ≡ true → not (q == own.slot) ≡ true
+    → (any || nat_lt own.slot q) ≡ true → has_pair found (ordered own.slot q) ≡ true
