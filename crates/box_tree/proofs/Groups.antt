@@ -1,7 +1,9 @@
 -- The steps of a descent with a group of boxes.
-use Rattle.std.proofs.Common.{◌≡◌, ℕ, zero, suc, ◌+◌, ◌*◌, ◌/◌, ◌%◌, ◌<◌, ◌≤◌, ◌==◌, ◌||◌, max, Bool, true, false, not, cond, Option, None, Some, List, [], ◌∷◌}
+use Rattle.std.proofs.Common.{◌≡◌, ℕ, zero, suc, ◌+◌, ◌*◌, ◌/◌, ◌%◌, ◌^◌, ◌<◌, ◌≤◌, ◌==◌, ◌||◌, max, Bool, true, false, not}
+use Rattle.std.proofs.Common.{cond, Option, None, Some, List, [], ◌∷◌}
 use Rattle.std.proofs.Common.{◌++◌, option_map, map, length, get_or, take, refl, sym, ap, ◌∙◌, subst, arith}
-use Rattle.std.specs.Prelude.{count_ones}
+use Rattle.std.specs.Prelude.{count_ones, drop}
+use Rattle.std.proofs.Math.Nat.{pow-succ', div-div-eq-div-mul}
 use Rattle.std.specs.List.{filter, All}
 use Rattle.std.specs.Simd.Lanes.{mask_l}
 use Rattle.std.proofs.lemmas.Simd.{ones-mask_l}
@@ -96,7 +98,7 @@ right_lower h k l r i = let e : k ≡ 1 + max (height l) (height r) = i.height_i
 
 -- Bits
 
-take_all : {X : Type 0} (n : ℕ) (xs : List X) → length xs ≤ n → take n xs ≡ xs
+pub take_all : {X : Type 0} (n : ℕ) (xs : List X) → length xs ≤ n → take n xs ≡ xs
 take_all zero [] l = refl
 take_all zero (x ∷ xs) l = absurd (omega arith)
 take_all (suc n) [] l = refl
@@ -137,6 +139,37 @@ picked_found h (e ∷ es) =
 pub picked_none : (es : List (ℕ × Bounds)) → picked 0 es ≡ []
 picked_none [] = refl
 picked_none (e ∷ es) = picked_none es
+
+-- those before the lowest bit are passed by
+pub skipped : (g n : ℕ) (es : List (ℕ × Bounds)) → ((i : ℕ) → i < g → n / 2 ^ i % 2 ≡ 0) → picked n es ≡ picked (n / 2 ^ g) (drop g es)
+skipped zero n es z = ap (λ m. picked m es) (omega arith)
+skipped (suc g) n [] z = refl
+skipped (suc g) n (e ∷ es) z =
+    let even : n % 2 ≡ 0 = let h = z 0 (omega arith) in omega (arith, h) in
+    let twice : (i : ℕ) → n / 2 / 2 ^ i ≡ n / 2 ^ suc i = λ i. div-div-eq-div-mul n 2 (2 ^ i) ∙ ap (λ m. n / m) (sym (pow-succ' 2 i)) in
+    ap (λ r. cond (r == 1) (e.0 ∷ picked (n / 2) es) (picked (n / 2) es)) even
+    ∙ skipped g (n / 2) es (λ i lt. ap (λ m. m % 2) (twice i) ∙ z (suc i) (omega arith))
+    ∙ ap (λ m. picked m (drop g es)) (twice g)
+
+-- and the next one is picked
+pub next_picked : (g n : ℕ) (e : ℕ × Bounds) (es more : List (ℕ × Bounds)) → ((i : ℕ) → i < g → n / 2 ^ i % 2 ≡ 0) → n / 2 ^ g % 2 ≡ 1
+    → drop g es ≡ e ∷ more → picked n es ≡ e.0 ∷ picked (n / 2 ^ g / 2) more
+next_picked g n e es more z one is =
+    skipped g n es z ∙ ap (picked (n / 2 ^ g)) is
+    ∙ ap (λ r. cond (r == 1) (e.0 ∷ picked (n / 2 ^ g / 2) more) (picked (n / 2 ^ g / 2) more)) one
+
+-- Bits past the last of a group pick none.
+pub past_last : (g n : ℕ) (es : List (ℕ × Bounds)) → ((i : ℕ) → i < g → n / 2 ^ i % 2 ≡ 0) → drop g es ≡ [] → picked n es ≡ []
+past_last g n es z is = skipped g n es z ∙ ap (picked (n / 2 ^ g)) is
+
+-- the pairs of a slot with one more
+pub other_on : (slot k : ℕ) (ks : List ℕ) → ordered_pairs slot (filter (λ s. not (s == slot)) (k ∷ ks))
+    ≡ ordered_pairs slot (filter (λ s. not (s == slot)) (k ∷ [])) ++ ordered_pairs slot (filter (λ s. not (s == slot)) ks)
+other_on slot k ks =
+    elim (not (k == slot)) as
+    (λ t. ordered_pairs slot (cond t (k ∷ filter (λ s. not (s == slot)) ks) (filter (λ s. not (s == slot)) ks))
+    ≡ ordered_pairs slot (cond t (k ∷ []) []) ++ ordered_pairs slot (filter (λ s. not (s == slot)) ks))
+    [ true ↦ refl | false ↦ refl ]
 
 -- how many of a group meet a box
 abbrev met_count : Bounds → List (ℕ × Bounds) → ℕ

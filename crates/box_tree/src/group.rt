@@ -1,4 +1,4 @@
-ghost use Rattle.std.specs.Prelude.{◌≡◌, ◌==◌, ◌<◌, ◌≤◌, ◌++◌, not, map, filter, length, None, OnOk, IfOk, IsSome, IsTrue, slice_index_or};
+ghost use Rattle.std.specs.Prelude.{◌≡◌, ◌==◌, ◌<◌, ◌≤◌, ◌++◌, [], ◌∷◌, drop, not, map, filter, length, None, OnOk, IfOk, IsSome, IsTrue, slice_index_or};
 ghost use Rattle.std.specs.List.{All};
 ghost use Rattle.fixed_box.specs.Bounds.{encloses};
 ghost use Rattle.broad_index.specs.Touched.{ordered_pairs};
@@ -240,14 +240,31 @@ fn push_picked(
     let mut bits = mask;
     let mut rest = group;
     'bits: while bits != 0 {
-        let [(other, _), more @ ..] = rest else {
+        // those before the next bit are passed by at once
+        let gap = bits.trailing_zeros();
+        let [(other, _), more @ ..] = behind(rest, gap as usize) else {
             break;
         };
-        if bits % 2 == 1 && *other != slot {
-            found.push(Pair::ordered(slot, *other))?;
-        }
-        bits /= 2;
+        push_other(slot, *other, found)?;
+        bits = (bits >> gap) / 2;
         rest = more;
+    }
+    Ok(())
+}
+
+// What stands behind so many of a group.
+fn behind(group: &[(u32, FBox)], count: usize) -> &[(u32, FBox)]
+    ensures { result.now ≡ drop count group.now }
+{
+    &group[count.min(group.len())..]
+}
+
+// Appends the pair of two slots, if they aren't one.
+fn push_other(slot: u32, other: u32, found: &mut Vec<Pair>) -> Result<(), NoMemory>
+    ensures { OnOk result (found.new.items ≡ found.old.items ++ ordered_pairs slot (filter (λ s. not (s == slot)) (other ∷ []))) }
+{
+    if other != slot {
+        found.push(Pair::ordered(slot, other))?;
     }
     Ok(())
 }

@@ -44,7 +44,8 @@ descend_together-open_together-requires t c =
     (left_lower c.in-Inner.hull c.in-Inner.height o.1 o.2 o.6) in
     let right = lower c.args.nodes.now c.args.bodies.now c.args.at c.in-Inner.right c.in-Inner.left c.in-Inner.right c.in-Inner.height c.in-Inner.hull o.2 o.5 e
     (right_lower c.in-Inner.hull c.in-Inner.height o.1 o.2 o.6) in (
-      subst (λ m. 2 * max (height_shown (view_in c.args.nodes.now c.in-Inner.left)) (height_shown (view_in c.args.nodes.now c.in-Inner.right)) + 1 < m) c.decreases
+      subst (λ m. 2 * max (height_shown (view_in c.args.nodes.now c.in-Inner.left)) (height_shown (view_in c.args.nodes.now c.in-Inner.right)) + 1 < m)
+          c.decreases
           (omega arith),
       (c.requires.laws, ((h.0, (c.in-Inner.height, o)), (c.requires.boxes, (c.requires.whole, c.requires.few)))),
     )
