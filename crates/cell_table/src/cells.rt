@@ -161,8 +161,8 @@ pub(crate) fn put_rings(next: &[u32], starts: &mut [u32], slots: &mut [u32]) -> 
     len
 }
 
-// Writes the slots that a walk meets from a place on, and answers the place behind them. The first node is written though
-// it may be no slot: most rings have none or one, and so those take no branch that would be foretold wrong.
+// Writes the slots that a walk meets from a place on, and answers the place behind them. The first node is written even
+// where it is no slot, and only counted if it is one: a branch on it, taken in half of the rings, would cost more.
 fn put_ring(next: &[u32], first: u32, place: usize, slots: &mut [u32]) -> usize
     requires next { length next.now ≡ NODES }
     requires first { StartsRing next.now first }
@@ -172,14 +172,14 @@ fn put_ring(next: &[u32], first: u32, place: usize, slots: &mut [u32]) -> usize
 {
     slots[place] = first;
     let mut len = place + usize::from(first < SLOTS);
-    let mut node = next[first as usize];
+    let mut later = next[first as usize];
     'ring: for _step in 1..SLOTS {
-        if node >= SLOTS {
+        if later >= SLOTS {
             break;
         }
-        slots[len] = node;
+        slots[len] = later;
         len += 1;
-        node = next[node as usize];
+        later = next[later as usize];
     }
     len
 }

@@ -19,30 +19,30 @@ ring-preserved c =
     let n = SLOTS - c.ring._step in
     let m = SLOTS - (c.ring._step + 1) in
     let e : n ≡ suc m = omega (arith, c.ring-test.true) in
-    let lt : c.ring.node < SLOTS = omega (arith, c.if-node-ge-SLOTS.false) in
+    let lt : c.ring.later < SLOTS = omega (arith, c.if-later-ge-SLOTS.false) in
     let i = c.ring.invariant in
     let len = length-set c.args.slots.now c.args.place c.args.first in
-    let more = ap length (walk_more next n m c.ring.node lt e) in
+    let more = ap length (walk_more next n m c.ring.later lt e) in
     record {
-      room = put_room next n m c.ring.node c.ring.len _ lt e i.room;
-      met = put_met next c.ring.slots n m c.ring.node c.ring.len _ lt e (omega (arith, i.room, more, c.requires.room, c.ring.auto.slots, len)) i.met;
+      room = put_room next n m c.ring.later c.ring.len _ lt e i.room;
+      met = put_met next c.ring.slots n m c.ring.later c.ring.len _ lt e (omega (arith, i.room, more, c.requires.room, c.ring.auto.slots, len)) i.met;
     }
 
 pub returns-after-ring-clause-len : goal.returns-after-ring-clause-len
 returns-after-ring-clause-len c =
     let e : SLOTS - c.ring._step ≡ 0 = omega (arith, c.ring-test.false) in
-    let none = ap length (ap (λ n. walk c.args.next.now n c.ring.node) e ∙ walk_none c.args.next.now c.ring.node) in
+    let none = ap length (ap (λ n. walk c.args.next.now n c.ring.later) e ∙ walk_none c.args.next.now c.ring.later) in
     omega (arith, none, c.ring.invariant.room)
 
 pub returns-after-ring-clause-met : goal.returns-after-ring-clause-met
 returns-after-ring-clause-met c =
-    meet_out c.args.next.now (SLOTS - c.ring._step) c.ring.node _ _ (omega (arith, c.ring-test.false)) c.ring.invariant.met
+    meet_out c.args.next.now (SLOTS - c.ring._step) c.ring.later _ _ (omega (arith, c.ring-test.false)) c.ring.invariant.met
 
-pub returns-then-node-ge-SLOTS-clause-len : goal.returns-then-node-ge-SLOTS-clause-len
-returns-then-node-ge-SLOTS-clause-len c =
-    let none = ap length (walk_end c.args.next.now (SLOTS - c.ring._step) c.ring.node (omega (arith, c.if-node-ge-SLOTS.true))) in
+pub returns-then-later-ge-SLOTS-clause-len : goal.returns-then-later-ge-SLOTS-clause-len
+returns-then-later-ge-SLOTS-clause-len c =
+    let none = ap length (walk_end c.args.next.now (SLOTS - c.ring._step) c.ring.later (omega (arith, c.if-later-ge-SLOTS.true))) in
     omega (arith, none, c.ring.invariant.room)
 
-pub returns-then-node-ge-SLOTS-clause-met : goal.returns-then-node-ge-SLOTS-clause-met
-returns-then-node-ge-SLOTS-clause-met c =
-    meet_done c.args.next.now (SLOTS - c.ring._step) c.ring.node _ _ (omega (arith, c.if-node-ge-SLOTS.true)) c.ring.invariant.met
+pub returns-then-later-ge-SLOTS-clause-met : goal.returns-then-later-ge-SLOTS-clause-met
+returns-then-later-ge-SLOTS-clause-met c =
+    meet_done c.args.next.now (SLOTS - c.ring._step) c.ring.later _ _ (omega (arith, c.if-later-ge-SLOTS.true)) c.ring.invariant.met

@@ -6,6 +6,6 @@ use Rattle.cell_table.proofs.cells.put_ring.Given as goal
 
 abbrev pub invariant-ring : goal.invariant-ring
 invariant-ring l = record {
-  room : l.len + length (walk l.next (SLOTS - l._step) l.node) ≡ l.place + length (walk l.next SLOTS l.first);
-  met : take l.len l.slots ++ walk l.next (SLOTS - l._step) l.node ≡ take l.place l.fn.slots ++ walk l.next SLOTS l.first;
+  room : l.len + length (walk l.next (SLOTS - l._step) l.later) ≡ l.place + length (walk l.next SLOTS l.first);
+  met : take l.len l.slots ++ walk l.next (SLOTS - l._step) l.later ≡ take l.place l.fn.slots ++ walk l.next SLOTS l.first;
 }
