@@ -50,7 +50,9 @@ unfolding rings_to
 rings_none N = refl
 
 pub rings_len : (N : List ℕ) (n : ℕ) → length (rings_to N (n + 1)) ≡ length (rings_to N n) + length (ring_in N n)
-rings_len N n = let e : n + 1 ≡ suc n = omega arith in ap (λ m. length (rings_to N m)) e ∙ ap length (rings_more N n) ∙ length-append (rings_to N n) (ring_in N n)
+rings_len N n =
+    let e : n + 1 ≡ suc n = omega arith in
+    ap (λ m. length (rings_to N m)) e ∙ ap length (rings_more N n) ∙ length-append (rings_to N n) (ring_in N n)
 
 -- what follows the rings of the first b buckets
 rest_of : (N : List ℕ) (b n : ℕ) → b ≤ n → (rest : List ℕ) × (rings_to N n ≡ rings_to N b ++ rest)
