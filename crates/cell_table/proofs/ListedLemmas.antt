@@ -1,5 +1,5 @@
 -- What is listed of a table.
-use Rattle.std.proofs.Common.{◌≡◌, ◌≢◌, ℕ, zero, suc, ◌+◌, ◌*◌, ◌<◌, ◌≤◌, Bool, true, false, cond, eqb, ◌==◌, ◌||◌, nat_lt, List, [], ◌∷◌, ◌++◌, length, get_or, set}
+use Rattle.std.proofs.Common.{◌≡◌, ◌≢◌, ℕ, zero, suc, ◌+◌, ◌<◌, ◌≤◌, Bool, true, false, eqb, ◌==◌, ◌||◌, List, [], ◌∷◌, ◌++◌, length, get_or, set}
 use Rattle.std.proofs.Common.{Result, Ok, Err, OnErr, Option, None, Some, is_some, refl, sym, ap, ◌∙◌, subst, arith, inl, inr, append-nil, append_assoc}
 use Rattle.std.specs.Ordering.{nat_cmp}
 use Rattle.std.specs.FinMap.{empty, get-empty}
@@ -8,14 +8,14 @@ use Rattle.std.proofs.lemmas.Bool.Decides.{nat_tests}
 use Rattle.std.proofs.lemmas.Grind.{get_or_default_zero}
 use Rattle.std.proofs.lemmas.List.{length-append, get_or_append_left, get_or-append-add, get_or_past, get_or-set_other, get_or-set_same}
 use Rattle.fixed_box.specs.declared.TheConstants.{SLOTS}
-use Rattle.fixed_box.specs.Links.{Distinct, Below}
+use Rattle.fixed_box.specs.Links.{Distinct}
 use Rattle.fixed_box.specs.LinkLaws.{Fresh-append, length-le}
 use Rattle.fixed_box.specs.SlotMap.{map_of}
 use Rattle.fixed_box.specs.SlotMapLaws.{get_map}
 use Rattle.cell_table.specs.declared.TheConstants.{BUCKETS}
 use Rattle.cell_table.specs.declared.cell_key.CellKey.{CellKey}
 use Rattle.cell_table.specs.Cells.{IsDistinct, has}
-use Rattle.cell_table.specs.Kept.{IsKept, AreRings, AreStarts, bucket_of, in_bucket, ring_in, rings_to, walk}
+use Rattle.cell_table.specs.Kept.{IsKept, AreRings, AreStarts, bucket_of, in_bucket, ring_in, rings_to}
 use Rattle.cell_table.specs.Listed.{Lists, Stands}
 use Rattle.cell_table.proofs.EachLemmas.{has_contains, distinct_has, some_passes, bucketed}
 use Rattle.cell_table.proofs.KeptLemmas.{bucket_below}
@@ -49,23 +49,10 @@ pub rings_none : (N : List ℕ) → rings_to N 0 ≡ []
 unfolding rings_to
 rings_none N = refl
 
-walk_few : (N : List ℕ) (n u : ℕ) → length (walk N n u) ≤ n
-unfolding walk
-walk_few N zero u = omega arith
-walk_few N (suc n) u =
-    elim (nat_lt u SLOTS) as (λ b. length (cond b (u ∷ walk N n (get_or N u 0)) []) ≤ suc n) [
-      | true ↦ let r = walk_few N n (get_or N u 0) in omega arith
-      | false ↦ omega arith
-    ]
-
-pub rings_few : (N : List ℕ) (n : ℕ) → length (rings_to N n) ≤ n * SLOTS
-rings_few N zero = let e = ap length (rings_none N) in omega (arith, e)
-rings_few N (suc n) =
-    let e = ap length (rings_more N n) in
-    let l = length-append (rings_to N n) (ring_in N n) in
-    let w = walk_few N SLOTS (get_or N (SLOTS + n) 0) in
-    let r = rings_few N n in
-    omega (arith, e, l, w, r)
+pub rings_len : (N : List ℕ) (n : ℕ) → length (rings_to N (n + 1)) ≡ length (rings_to N n) + length (ring_in N n)
+rings_len N n =
+    let e : n + 1 ≡ suc n = omega arith in
+    ap (λ m. length (rings_to N m)) e ∙ ap length (rings_more N n) ∙ length-append (rings_to N n) (ring_in N n)
 
 -- what follows the rings of the first b buckets
 rest_of : (N : List ℕ) (b n : ℕ) → b ≤ n → (rest : List ℕ) × (rings_to N n ≡ rings_to N b ++ rest)
@@ -164,13 +151,15 @@ module _ (keys : List (Option CellKey)) (N P L : List ℕ) (k : IsKept keys N P 
         | inr e ↦ e
       ]))
 
+  pub rings_few : (n : ℕ) → n ≤ BUCKETS → length (rings_to N n) ≤ SLOTS
+  rings_few n le = length-le SLOTS (rings_to N n) (rings_distinct n le) (below_from SLOTS (rings_to N n) (λ s h.
+      let m = rings_members n s le h in let l = within_keys keys m.0 s m.2 in omega (arith, l, k.keys_len)))
+
   pub rings_listed : (starts slots : List ℕ) → AreRings N starts slots → Lists (map_of keys) (record { starts = starts; slots = slots })
   rings_listed starts slots a =
       let distinct : Distinct slots = subst Distinct (sym a.slots_are) (rings_distinct BUCKETS (omega arith)) in
       let member : (s : ℕ) → has slots s ≡ true → (b : ℕ) × (b < BUCKETS) × (in_bucket keys b s ≡ true) =
       λ s h. rings_members BUCKETS s (omega arith) (sym (ap (λ l. has l s) a.slots_are) ∙ h) in
-      let below : Below SLOTS slots =
-      below_from SLOTS slots (λ s h. let m = member s h in let l = within_keys keys m.0 s m.2 in omega (arith, l, k.keys_len)) in
       record {
         whole = λ s key h.
             let b = bucket_of key in
@@ -189,7 +178,7 @@ module _ (keys : List (Option CellKey)) (N P L : List ℕ) (k : IsKept keys N P 
         present = λ place lt. let m = member (get_or slots place 0) (has_place slots place lt) in
             ap is_some (get_map keys (get_or slots place 0)) ∙ some_passes (λ c. bucket_of c == m.0) (get_or keys (get_or slots place 0) None) m.2;
         once = distinct_has slots distinct;
-        few = length-le SLOTS slots distinct below;
+        few = let n = ap length a.slots_are in let l = rings_few BUCKETS (omega arith) in omega (arith, n, l);
       }
 
 pub rings_started : (N starts slots : List ℕ) → AreRings N starts slots → AreStarts starts slots

@@ -1,10 +1,10 @@
 -- Rings of links in arrays, one for each bucket.
 use Rattle.std.proofs.Common.{◌≡◌, ◌≢◌, ℕ, zero, suc, ◌+◌, ◌<◌, ◌≤◌, Bool, List, [], ◌∷◌, ◌++◌, length, get_or, set, Option}
-use Rattle.std.proofs.Common.{None, Some, cond, ◌||◌, ◌==◌, refl, sym, ap, ◌∙◌, arith, subst, append-nil, append_assoc, false, true, inl, inr, nat_lt}
-use Rattle.std.proofs.lemmas.List.{get_or-set_same, get_or-set_other, length-set}
+use Rattle.std.proofs.Common.{None, Some, cond, ◌||◌, ◌==◌, refl, sym, ap, ◌∙◌, arith, subst, append-nil, append_assoc, false, true, inl, inr, nat_lt, take}
+use Rattle.std.proofs.lemmas.List.{get_or-set_same, get_or-set_other, length-set, take_more_set, take-set}
 use Rattle.std.specs.List.{filter}
 use lib.Dec.{eqb}
-use Rattle.std.proofs.lemmas.Bool.{cases_eq, false≢true, true≢false}
+use Rattle.std.proofs.lemmas.Bool.{cases_eq, cases_lt, false≢true, true≢false}
 use Rattle.std.proofs.lemmas.Bool.Decides.{nat_tests}
 use Rattle.fixed_box.specs.declared.TheConstants.{SLOTS}
 use Rattle.cell_table.specs.declared.TheConstants.{BUCKETS}
@@ -15,7 +15,7 @@ use Rattle.fixed_box.specs.Links.{Fresh, Distinct, Below, Links}
 use Rattle.fixed_box.specs.LinkLaws.{Fresh-append, Fresh-left, Fresh-right, Distinct-left, Distinct-right, Distinct-apart, Distinct-without}
 use Rattle.fixed_box.specs.LinkLaws.{Below-left, Below-right, Below-weaker, length-le, frame_next, frame_prev, before_end, retarget_last}
 use Rattle.fixed_box.specs.LinkLaws.{retarget_first, Links-append, Links-left, Links-right, after_start}
-use Rattle.cell_table.specs.Kept.{Ring, bucket_of, in_bucket, meets_test, walk, put_next, put_prev, take_next, take_prev}
+use Rattle.cell_table.specs.Kept.{Ring, StartsRing, bucket_of, in_bucket, meets_test, walk, put_next, put_prev, take_next, take_prev}
 
 -- ---- members
 same_tie : (x y : ℕ) → x ≡ y → eqb x y ≡ true
@@ -351,6 +351,48 @@ meet_done N n u out goal le h = sym (append-nil out) ∙ ap (λ l. out ++ l) (sy
 
 pub meet_out : (N : List ℕ) (n u : ℕ) (out goal : List ℕ) → n ≡ 0 → out ++ walk N n u ≡ goal → out ≡ goal
 meet_out N n u out goal e h = sym (append-nil out) ∙ ap (λ l. out ++ l) (sym (ap (λ z. walk N z u) e ∙ walk_none N u)) ∙ h
+
+-- one step of a walk that is written in place
+pub put_room : (N : List ℕ) (n m u len total : ℕ) → u < SLOTS → n ≡ suc m → len + length (walk N n u) ≡ total
+    → len + 1 + length (walk N m (get_or N u 0)) ≡ total
+put_room N n m u len total lt e h = let l = ap length (walk_more N n m u lt e) in omega (arith, l, h)
+
+pub put_met : (N slots : List ℕ) (n m u len : ℕ) (goal : List ℕ) → u < SLOTS → n ≡ suc m → len < length slots → take len slots ++ walk N n u ≡ goal
+    → take (len + 1) (set slots len u) ++ walk N m (get_or N u 0) ≡ goal
+put_met N slots n m u len goal lt e inside h =
+    ap (λ l. l ++ walk N m (get_or N u 0)) (take_more_set slots len u inside) ∙ meet_more N n m u (take len slots) goal lt e h
+
+-- its first node, which may be no slot
+pub record Put (N slots : List ℕ) (u place r : ℕ) : Type 0 where
+  pub room : place + r + length (walk N 8191 (get_or N u 0)) ≡ place + length (walk N SLOTS u)
+  pub met : take (place + r) (set slots place u) ++ walk N 8191 (get_or N u 0) ≡ take place slots ++ walk N SLOTS u
+
+pub put_first : (N slots : List ℕ) (u place r : ℕ) → StartsRing N u → (u < SLOTS → r ≡ 1) → (SLOTS ≤ u → r ≡ 0) → place < length slots → Put N slots u place r
+put_first N slots u place r s one zero_is inside = elim (cases_lt u SLOTS) as (λ _. Put N slots u place r) [
+  | inl lt ↦ subst (Put N slots u place) (sym (one lt)) (record {
+    room = put_room N SLOTS 8191 u place (place + length (walk N SLOTS u)) lt refl refl;
+    met = put_met N slots SLOTS 8191 u place (take place slots ++ walk N SLOTS u) lt refl inside refl;
+  })
+  | inr le ↦
+      let none = walk_end N SLOTS u le in
+      let ended = walk_end N 8191 (get_or N u 0) (s.closed le) in
+      let z : place + 0 ≡ place = omega arith in
+      subst (Put N slots u place) (sym (zero_is le)) (record {
+        room = let a = ap length none in let b = ap length ended in omega (arith, a, b);
+        met = ap (λ i. take i (set slots place u) ++ walk N 8191 (get_or N u 0)) z ∙ ap (λ l. l ++ walk N 8191 (get_or N u 0)) (take-set slots place u)
+            ∙ ap (λ l. take place slots ++ l) (ended ∙ sym none);
+      })
+]
+
+-- what the node of a bucket leads to
+pub ring_starts : (keys : List (Option CellKey)) (N P : List ℕ) (b : ℕ) → Ring keys N P b → length keys ≡ SLOTS → b < BUCKETS
+    → StartsRing N (get_or N (SLOTS + b) 0)
+ring_starts keys N P b r kl bl =
+    record { below = put_inside keys N P b r kl bl; closed = closes (SLOTS + b) r.slots r.linked (ring_below keys N P b r kl) }
+  where
+    closes : (u : ℕ) (xs : List ℕ) → Links N P u xs u → Below SLOTS xs → SLOTS ≤ get_or N u 0 → SLOTS ≤ get_or N (get_or N u 0) 0
+    closes u [] l below le = let e = ap (λ i. get_or N i 0) l.0 in omega (arith, e, le)
+    closes u (x ∷ xs) l below le = absurd (omega (arith, l.0, below.0, le))
 
 -- what either of two lists has
 pub has_left : (xs ys : List ℕ) (k : ℕ) → has xs k ≡ true → has (xs ++ ys) k ≡ true

@@ -77,6 +77,11 @@ pub record Rings (next : List ℕ) (key : CellKey) (end : ℤ) (old new : List �
   pub whole : (z : ℤ) (s : ℕ) → key.z ≤ℤ z → z <ℤ end → has (ring_of next (record key { z = z })) s ≡ true → has slots s ≡ true
   pub linked : (s : ℕ) → has slots s ≡ true → IsLinked next s
 
+-- a node that a walk of a ring starts at: a slot, or a bucket's node, which no slot follows
+pub record StartsRing (next : List ℕ) (u : ℕ) : Type 0 where
+  pub below : u < NODES
+  pub closed : SLOTS ≤ u → SLOTS ≤ slice_index next u
+
 -- the slots in the rings of the first n buckets
 unfoldable pub rings_to : List ℕ → ℕ → List ℕ
 rings_to next zero = []

@@ -21,7 +21,7 @@ pub record Stands (slots : List ℕ) (from to slot : ℕ) : Type 0 where
   pub inside : place < length slots
   pub is : slice_index slots place ≡ slot
 
--- exactly the slots that have keys are listed, each once, and in the stretch of its key's bucket
+-- Exactly the slots that have keys are listed, each once and in the stretch of its key's bucket.
 pub record Lists (cells : FinMap nat_cmp CellKey) (list : Listed) : Type 0 where
   pub whole : (slot : ℕ) (key : CellKey) → get cells slot ≡ Some key
       → Stands list.slots (slice_index list.starts (bucket_of key)) (slice_index list.starts (bucket_of key + 1)) slot

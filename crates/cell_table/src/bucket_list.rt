@@ -5,7 +5,7 @@ ghost use Rattle.cell_table.specs.Listed.{Lists, HasRow};
 
 use crate::buckets::bucket_of;
 use crate::{BUCKETS, CellKey, CellTable, RowPlaces};
-use fixed_box::NoMemory;
+use fixed_box::{NoMemory, SLOTS};
 use std::alloc::Global;
 use std::marker::Model;
 
@@ -106,8 +106,10 @@ fn list_slots(
     ensures slots { OnOk result (Lists cells.now (record { starts = starts.new.items; slots = slots.new.items })) }
 {
     starts.resize(BUCKETS as usize + 1, 0)?;
-    slots.clear();
-    cells.push_buckets(starts.as_mut_slice(), slots)
+    slots.resize(SLOTS as usize + 1, 0)?;
+    let len = cells.put_buckets(starts.as_mut_slice(), slots.as_mut_slice());
+    slots.truncate(len);
+    Ok(())
 }
 
 // How many cells there are from a place on and below another.

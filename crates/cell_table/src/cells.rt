@@ -1,8 +1,8 @@
-ghost use Rattle.std.specs.Prelude.{◌≡◌, ℕ, ◌+◌, ◌<◌, ◌≤◌, ◌++◌, ◌==◌, None, [], IfOk, OnOk, OnErr, length, take, drop, vec_len, slice_index, slice_index_or};
+ghost use Rattle.std.specs.Prelude.{◌≡◌, ℕ, ◌+◌, ◌<◌, ◌≤◌, ◌++◌, ◌==◌, None, IfOk, OnOk, OnErr, length, take, drop, vec_len, slice_index, slice_index_or};
 ghost use Rattle.std.specs.Ordering.{nat_cmp};
 ghost use Rattle.std.specs.List.Sorted.{IsPermutation, IsSorted};
 ghost use Rattle.cell_table.specs.Cells.{same_cell};
-ghost use Rattle.cell_table.specs.Kept.{bucket_of, walk, picked, at, meets_test, slots_from, ring_of, Rings, AreRings};
+ghost use Rattle.cell_table.specs.Kept.{bucket_of, walk, picked, at, meets_test, slots_from, ring_of, rings_to, Rings, AreRings, StartsRing};
 
 use crate::buckets::{bucket_of, is_same};
 use crate::rings::NODES;
@@ -142,23 +142,46 @@ pub(crate) fn push_bucket(next: &[u32], key: &CellKey, out: &mut Vec<u32>) -> Re
     push_ring(next, next[(SLOTS + bucket_of(key)) as usize], out)
 }
 
-// Lists the slots of each bucket, one bucket after the other, and writes where each bucket's slots start, and the end.
-pub(crate) fn push_rings(
-    next: &[u32],
-    starts: &mut [u32],
-    slots: &mut Vec<u32>,
-) -> Result<(), NoMemory>
+// Writes the slots of each bucket, one bucket after the other, and where each bucket's slots start, and answers the end.
+// There is room for one slot more than there can be.
+pub(crate) fn put_rings(next: &[u32], starts: &mut [u32], slots: &mut [u32]) -> usize
     requires next { length next.now ≡ NODES }
     requires starts { length starts.old ≡ BUCKETS + 1 }
-    requires slots { slots.old.items ≡ [] }
-    ensures { OnOk result (AreRings next.now starts.new slots.new.items) }
+    requires slots { length slots.old ≡ SLOTS + 1 }
+    requires rings { (b : ℕ) → b < BUCKETS → StartsRing next.now (slice_index next.now (SLOTS + b)) }
+    requires few { (b : ℕ) → b ≤ BUCKETS → length (rings_to next.now b) ≤ SLOTS }
+    ensures { AreRings next.now starts.new (take result slots.new) }
 {
+    let mut len = 0;
     'buckets: for bucket in 0..BUCKETS {
-        starts[bucket as usize] = slots.len() as u32;
-        push_ring(next, next[(SLOTS + bucket) as usize], slots)?;
+        starts[bucket as usize] = len as u32;
+        len = put_ring(next, next[(SLOTS + bucket) as usize], len, slots);
     }
-    starts[BUCKETS as usize] = slots.len() as u32;
-    Ok(())
+    starts[BUCKETS as usize] = len as u32;
+    len
+}
+
+// Writes the slots that a walk meets from a place on, and answers the place behind them. The first node is written even
+// where it is no slot, and only counted if it is one: a branch on it, taken in half of the rings, would cost more.
+fn put_ring(next: &[u32], first: u32, place: usize, slots: &mut [u32]) -> usize
+    requires next { length next.now ≡ NODES }
+    requires first { StartsRing next.now first }
+    requires room { place + length (walk next.now SLOTS first) < length slots.old }
+    ensures len { result ≡ place + length (walk next.now SLOTS first) }
+    ensures met { take result slots.new ≡ take place slots.old ++ walk next.now SLOTS first }
+{
+    slots[place] = first;
+    let mut len = place + usize::from(first < SLOTS);
+    let mut later = next[first as usize];
+    'ring: for _step in 1..SLOTS {
+        if later >= SLOTS {
+            break;
+        }
+        slots[len] = later;
+        len += 1;
+        later = next[later as usize];
+    }
+    len
 }
 
 // Appends the slots that a walk meets. What was there stays, after an `Err` too.

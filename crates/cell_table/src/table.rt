@@ -1,4 +1,4 @@
-ghost use Rattle.std.specs.Prelude.{◌≡◌, ◌+◌, ◌<◌, ◌++◌, [], true, false, IfOk, OnOk, OnErr, length};
+ghost use Rattle.std.specs.Prelude.{◌≡◌, ◌+◌, ◌<◌, ◌++◌, true, false, IfOk, OnOk, OnErr, length, take};
 ghost use Rattle.std.specs.FinMap as map;
 ghost use Rattle.cell_table.specs.Cells.{slots_in, slots_at, Visits, VisitsBucket, VisitsRow};
 ghost use Rattle.cell_table.specs.Kept.{AreStarts};
@@ -6,7 +6,7 @@ ghost use Rattle.cell_table.specs.Listed.{Lists};
 
 use crate::buckets::bucket_of;
 use crate::cells::{
-    no_counts, no_keys, push_bucket, push_cell, push_level, push_rings, push_row, sort_from,
+    no_counts, no_keys, push_bucket, push_cell, push_level, push_row, put_rings, sort_from,
 };
 use crate::rings::{link, nodes, unlink};
 use crate::{BUCKETS, CellKey, LEVELS};
@@ -156,18 +156,15 @@ impl CellTable {
         pushed
     }
 
-    // Lists the slots of each bucket, one bucket after the other, and writes where each bucket's slots start, and the end.
-    pub(crate) fn push_buckets(
-        &self,
-        starts: &mut [u32],
-        slots: &mut Vec<u32>,
-    ) -> Result<(), NoMemory>
+    // Writes the slots of each bucket, one bucket after the other, and where each bucket's slots start, and answers the
+    // end. There is room for one slot more than there can be.
+    pub(crate) fn put_buckets(&self, starts: &mut [u32], slots: &mut [u32]) -> usize
         requires starts { length starts.old ≡ BUCKETS + 1 }
-        requires slots { slots.old.items ≡ [] }
-        ensures starts { OnOk result (AreStarts starts.new slots.new.items) }
-        ensures slots { OnOk result (Lists self.now (record { starts = starts.new; slots = slots.new.items })) }
+        requires slots { length slots.old ≡ SLOTS + 1 }
+        ensures starts { AreStarts starts.new (take result slots.new) }
+        ensures slots { Lists self.now (record { starts = starts.new; slots = take result slots.new }) }
     {
-        push_rings(&self.next, starts, slots)
+        put_rings(&self.next, starts, slots)
     }
 
     /// Appends the slots whose keys have a level, rising, by a walk over all slots. After `NoMemory` `out` is as before.
