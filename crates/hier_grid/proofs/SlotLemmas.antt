@@ -10,7 +10,7 @@ use Rattle.std.specs.Ordering.{nat_cmp}
 use Rattle.std.specs.FinMap.{FinMap}
 use Rattle.broad_index.specs.Members.{has_slot}
 use Rattle.cell_table.specs.declared.cell_key.CellKey.{CellKey}
-use Rattle.cell_table.specs.Cells.{has, VisitsBucket, VisitsRow}
+use Rattle.cell_table.specs.Cells.{has, VisitsRow}
 use Rattle.hier_grid.specs.Search.{HasMore, HasCell}
 
 pub more_left : (old more : List ℕ) → HasMore old (old ++ more)
@@ -59,13 +59,6 @@ all_among p slots h q = has_filtered p slots q ∙ elim (p q) as (λ b. (b ≡ t
 pub has_slot_is : (xs : List ℕ) (q : ℕ) → has xs q ≡ has_slot xs q
 has_slot_is [] q = refl
 has_slot_is (x ∷ xs) q = let t : (x == q) ≡ (q == x) = grind (arith, nat_tests) in ap (λ b. b || has xs q) t ∙ ap (λ b. (q == x) || b) (has_slot_is xs q)
-
-pub bucket_visited : (cells : FinMap nat_cmp CellKey) (key : CellKey) (old new : List ℕ) → VisitsBucket cells key old new → HasCell cells key new
-bucket_visited cells key old new v q h =
-    ap (λ l. has_slot l q) v.appended ∙ more_right old v.slots q (sym (has_slot_is v.slots q) ∙ v.bucket.members q h)
-
-pub bucket_more : (cells : FinMap nat_cmp CellKey) (key : CellKey) (old new : List ℕ) → VisitsBucket cells key old new → HasMore old new
-bucket_more cells key old new v q h = ap (λ l. has_slot l q) v.appended ∙ more_left old v.slots q h
 
 pub row_visited : (cells : FinMap nat_cmp CellKey) (key : CellKey) (end : ℤ) (old new : List ℕ) → VisitsRow cells key end old new
     → (z : ℤ) → key.z ≤ℤ z → z <ℤ end → HasCell cells (record key { z = z }) new

@@ -88,13 +88,7 @@ IsSound bodies pairs = (p : Pair) → has_pair pairs p ≡ true → is_near bodi
 abbrev pub HasPairs : List Pair → List Pair → Type 0
 HasPairs old new = (p : Pair) → has_pair old p ≡ true → has_pair new p ≡ true
 
--- the pairs of a slot with higher slots of its cell were found
-abbrev pub FindsOwn : FinMap nat_cmp Bounds → ℕ → Bounds → List Pair → Type 0
-FindsOwn bodies slot body found =
-    (q : ℕ) (b : Bounds) → get bodies q ≡ Some b → meets body b ≡ true → not (q == slot) ≡ true → (cell_of b ≡ cell_of body) × (slot < q)
-    → has_pair found (ordered slot q) ≡ true
-
--- its pairs with boxes of higher levels or in later cells were found
+-- the pairs of a slot with boxes of higher levels or in later cells were found
 abbrev pub FindsOthers : FinMap nat_cmp Bounds → ℕ → Bounds → List Pair → Type 0
 FindsOthers bodies slot body found =
     (q : ℕ) (b : Bounds) → get bodies q ≡ Some b → meets body b ≡ true → not (q == slot) ≡ true → IsOther body b → has_pair found (ordered slot q) ≡ true

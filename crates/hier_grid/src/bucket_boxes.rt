@@ -73,6 +73,7 @@ impl BucketBoxes {
 
     /// Finds the pairs of a slot with its partners in a row of cells, either any or those with higher slots alone. Each box
     /// of the row is compared, and counted.
+    #[inline(always)]
     pub(crate) fn find_in_row(
         &self,
         own: &SlotBox,

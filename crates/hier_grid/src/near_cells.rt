@@ -74,15 +74,17 @@ fn push_plane(from: &CellKey, end: &CellKey, rows: &mut Vec<CellRow>) -> Result<
     Ok(())
 }
 
-// The same at one x and y.
+// The same at one x and y. A row of no cell is left out.
 fn push_row(from: &CellKey, end: &CellKey, rows: &mut Vec<CellRow>) -> Result<(), NoMemory>
     ensures more { OnOk result (HasRows rows.old.items rows.new.items) }
     ensures found { OnOk result ((z : ℤ) → from.now.z ≤ℤ z → z <ℤ end.now.z → IsInRows rows.new.items (record from.now { z = z })) }
 {
-    rows.push(CellRow {
-        key: *from,
-        end: end.z,
-    })?;
+    if from.z < end.z {
+        rows.push(CellRow {
+            key: *from,
+            end: end.z,
+        })?;
+    }
     Ok(())
 }
 

@@ -1,3 +1,5 @@
+ghost use Rattle.std.specs.Prelude.{◌≡◌, []};
+
 use crate::cell_row::CellRow;
 use std::alloc::Global;
 
@@ -23,7 +25,10 @@ impl Nearby {
     }
 
     /// Forgets what was near.
-    pub(crate) fn clear(&mut self) {
+    pub(crate) fn clear(&mut self)
+        ensures slots { self.new.slots.items ≡ [] }
+        ensures rows { self.new.rows.items ≡ [] }
+    {
         self.slots.clear();
         self.rows.clear();
     }

@@ -6,11 +6,11 @@ use Rattle.hier_grid.specs.Cells.{IsInRows}
 use Rattle.hier_grid.proofs.CellRowLemmas.{rows_more, row_last}
 use Rattle.hier_grid.proofs.near_cells.push_row.Goals as goal
 
-pub returns-clause-more : goal.returns-clause-more
-returns-clause-more c k h = subst (λ rows. IsInRows rows k) (sym c.in_ok-push.ensures.items) (rows_more c.args.rows.now.items _ k h)
+pub returns-in_ok-push-clause-more : goal.returns-in_ok-push-clause-more
+returns-in_ok-push-clause-more c k h = subst (λ rows. IsInRows rows k) (sym c.in_ok-push.ensures.items) (rows_more c.args.rows.now.items _ k h)
 
-pub returns-clause-found : goal.returns-clause-found
-returns-clause-found c z lo lt =
+pub returns-in_ok-push-clause-found : goal.returns-in_ok-push-clause-found
+returns-in_ok-push-clause-found c z lo lt =
     let k = record c.args.from.now { z = z } in
     let end = c.args.end.now.z in
     let fits : SFits w32 end = search rules in
