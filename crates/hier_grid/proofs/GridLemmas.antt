@@ -70,7 +70,8 @@ some_map None = refl
 some_map (Some b) = refl
 
 -- a slot has a cell where it has a box
-pub same_slots : (bodies : FinMap nat_cmp Bounds) (cells : FinMap nat_cmp CellKey) (s : ℕ) → AreKeyed bodies cells → contains_key cells s ≡ contains_key bodies s
+pub same_slots : (bodies : FinMap nat_cmp Bounds) (cells : FinMap nat_cmp CellKey) (s : ℕ) → AreKeyed bodies cells
+    → contains_key cells s ≡ contains_key bodies s
 same_slots bodies cells s keyed = ap is_some (keyed s) ∙ some_map (get bodies s)
 
 -- The cell of a box that meets a region is beside it.

@@ -12,6 +12,7 @@ use Rattle.hier_grid.specs.declared.bucket_boxes.BucketBoxes.{BucketBoxes}
 use Rattle.hier_grid.specs.declared.bucket_boxes.SlotBox.{SlotBox}
 use Rattle.hier_grid.specs.Cells.{cell_of}
 use Rattle.hier_grid.specs.Grid.{AreKeyed}
+use Rattle.hier_grid.specs.Search.{IsSound}
 
 -- beside each slot stands its box
 abbrev pub AreOf : FinMap nat_cmp Bounds → List SlotBox → Type 0
@@ -33,8 +34,13 @@ is_met own any e = not (e.slot == own.slot) && (any || nat_lt own.slot e.slot) &
 abbrev pub met_pairs : SlotBox → Bool → List SlotBox → List Pair
 met_pairs own any entries = map (λ e. ordered own.slot e.slot) (filter (is_met own any) entries)
 
--- the pairs of a slot with its partners in some cells were found
-abbrev pub FindsIn : FinMap nat_cmp Bounds → SlotBox → Bool → (CellKey → Type 0) → List Pair → Type 0
-FindsIn bodies own any IsThere found =
-    (q : ℕ) (b : Bounds) → get bodies q ≡ Some b → IsThere (cell_of b) → meets own.body b ≡ true → not (q == own.slot) ≡ true
-    → (any || nat_lt own.slot q) ≡ true → has_pair found (ordered own.slot q) ≡ true
+-- where all that was found is right it still is, whichever boxes were copied
+abbrev pub StaysSound : BucketBoxes → SlotBox → List Pair → List Pair → Type 0
+StaysSound boxes own old new =
+    (bodies : FinMap nat_cmp Bounds) → HasBuckets bodies boxes → get bodies own.slot ≡ Some own.body → IsSound bodies old → IsSound bodies new
+
+-- the pairs of a slot with its partners in some cells were found, whichever boxes were copied
+abbrev pub FindsIn : BucketBoxes → SlotBox → Bool → (CellKey → Type 0) → List Pair → Type 0
+FindsIn boxes own any IsThere found =
+    (bodies : FinMap nat_cmp Bounds) → HasBuckets bodies boxes → (q : ℕ) (b : Bounds) → get bodies q ≡ Some b → IsThere (cell_of b)
+    → meets own.body b ≡ true → not (q == own.slot) ≡ true → (any || nat_lt own.slot q) ≡ true → has_pair found (ordered own.slot q) ≡ true

@@ -1,10 +1,8 @@
-ghost use Rattle.std.specs.Prelude.{◌≡◌, ◌++◌, true, Some, OnOk, All, length, map as mapped};
-ghost use Rattle.std.specs.Ordering.{nat_cmp};
+ghost use Rattle.std.specs.Prelude.{◌≡◌, ◌++◌, true, OnOk, All, length, map as mapped};
 ghost use Rattle.std.specs.FinMap as map;
-ghost use Rattle.fixed_box.specs.Bounds.{Bounds};
 ghost use Rattle.hier_grid.specs.Cells.{IsInRow, IsInRows};
-ghost use Rattle.hier_grid.specs.Buckets.{AreOf, FindsIn, HasBuckets, is_met, met_pairs};
-ghost use Rattle.hier_grid.specs.Search.{HasPairs, IsSound};
+ghost use Rattle.hier_grid.specs.Buckets.{AreOf, FindsIn, HasBuckets, StaysSound, is_met, met_pairs};
+ghost use Rattle.hier_grid.specs.Search.{HasPairs};
 
 use crate::cell_row::CellRow;
 use crate::kept_boxes::KeptBoxes;
@@ -57,11 +55,9 @@ impl BucketBoxes {
         pairs: &mut Vec<Pair>,
     ) -> Result<(), NoMemory>
         requires { length self.now.entries.items ≡ length self.now.list.slots }
-        ensures sound { OnOk result ((bodies : map.FinMap nat_cmp Bounds) → HasBuckets bodies self.now → map.get bodies own.now.slot ≡ Some own.now.body
-            → IsSound bodies pairs.old.items → IsSound bodies pairs.new.items) }
+        ensures sound { OnOk result (StaysSound self.now own.now pairs.old.items pairs.new.items) }
         ensures more { OnOk result (HasPairs pairs.old.items pairs.new.items) }
-        ensures found { OnOk result ((bodies : map.FinMap nat_cmp Bounds) → HasBuckets bodies self.now
-            → FindsIn bodies own.now true (IsInRows rows.now) pairs.new.items) }
+        ensures found { OnOk result (FindsIn self.now own.now true (IsInRows rows.now) pairs.new.items) }
     {
         let mut rest = rows;
         'rows: while let [row, more @ ..] = rest {
@@ -83,11 +79,9 @@ impl BucketBoxes {
         pairs: &mut Vec<Pair>,
     ) -> Result<(), NoMemory>
         requires { length self.now.entries.items ≡ length self.now.list.slots }
-        ensures sound { OnOk result ((bodies : map.FinMap nat_cmp Bounds) → HasBuckets bodies self.now → map.get bodies own.now.slot ≡ Some own.now.body
-            → IsSound bodies pairs.old.items → IsSound bodies pairs.new.items) }
+        ensures sound { OnOk result (StaysSound self.now own.now pairs.old.items pairs.new.items) }
         ensures more { OnOk result (HasPairs pairs.old.items pairs.new.items) }
-        ensures found { OnOk result ((bodies : map.FinMap nat_cmp Bounds) → HasBuckets bodies self.now
-            → FindsIn bodies own.now any (IsInRow row.now) pairs.new.items) }
+        ensures found { OnOk result (FindsIn self.now own.now any (IsInRow row.now) pairs.new.items) }
     {
         let places = self.list.row(&row.key, row.end);
         *looked = looked.saturating_add((places.to - places.from + places.wrapped) as u64);

@@ -6,7 +6,8 @@ use Rattle.hier_grid.proofs.kept_boxes.KeptBoxes.put.Goals as goal
 
 pub put-requires-clause-absent : goal.put-requires-clause-absent
 put-requires-clause-absent c =
-    same_slots c.self.inside.boxes c.self.inside.cells c.args.slot c.self.invariant.keyed ∙ ap (λ m. contains_key m c.args.slot) c.self.view_is ∙ c.requires.absent
+    same_slots c.self.inside.boxes c.self.inside.cells c.args.slot c.self.invariant.keyed
+    ∙ ap (λ m. contains_key m c.args.slot) c.self.view_is ∙ c.requires.absent
 
 pub invariant_of-self : goal.invariant_of-self
 invariant_of-self c =

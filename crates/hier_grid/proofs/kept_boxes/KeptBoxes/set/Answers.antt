@@ -6,7 +6,8 @@ use Rattle.hier_grid.proofs.kept_boxes.KeptBoxes.set.Goals as goal
 
 pub rekey-requires-clause-present : goal.rekey-requires-clause-present
 rekey-requires-clause-present c =
-    same_slots c.self.inside.boxes c.self.inside.cells c.args.slot c.self.invariant.keyed ∙ ap (λ m. contains_key m c.args.slot) c.self.view_is ∙ c.requires.present
+    same_slots c.self.inside.boxes c.self.inside.cells c.args.slot c.self.invariant.keyed
+    ∙ ap (λ m. contains_key m c.args.slot) c.self.view_is ∙ c.requires.present
 
 pub invariant_of-self : goal.invariant_of-self
 invariant_of-self c =
