@@ -25,6 +25,9 @@ use std::marker::Model;
 /// at half of the cells about it, and in one cell from the lower slot. Where a level has fewer boxes than cells lie beside
 /// a box, all of them are compared with it in place of a look at those cells.
 ///
+/// A search copies all boxes once in the order of the buckets of their cells, in 28 bytes each, and so does each piece of
+/// `pairs_with`. That walks over 16,384 buckets, however few boxes there are.
+///
 /// Only `new`, `pairs`, `pairs_with` and `hits` take memory; `add`, `shift` and `leave` take a time that doesn't grow with
 /// the number of boxes.
 #[derive(Drop)]
