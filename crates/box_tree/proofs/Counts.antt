@@ -26,6 +26,9 @@ raised_again a c s = grind (arith)
 pub raised_none : (a : ℕ) → a < 2 ^ 64 → raised a 0 ≡ a
 raised_none a lt = grind (arith)
 
+pub raised_fits : (a n m : ℕ) → n ≡ raised a m → n < 2 ^ 64
+raised_fits a n m e = grind (arith)
+
 pub raised_on : (f : ℕ → ℕ) (a c x : ℕ) (xs : List ℕ) → c ≡ f x → raised (raised a c) (sum (map f xs)) ≡ raised a (sum (map f (x ∷ xs)))
 raised_on f a c x xs e =
     raised_again a c (sum (map f xs))

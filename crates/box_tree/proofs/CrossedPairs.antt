@@ -31,14 +31,14 @@ has_append [] ys p = refl
 has_append (x ∷ xs) ys p = ap (λ b. same_pair p x || b) (has_append xs ys p) ∙ or_assoc (same_pair p x) (has_pair xs p) (has_pair ys p)
 
 -- two entries meet, and are those of a pair
-abbrev hit : Pair → ℕ × Bounds → ℕ × Bounds → Bool
+abbrev pub hit : Pair → ℕ × Bounds → ℕ × Bounds → Bool
 hit p x e = meets x.1 e.1 && (not (e.0 == x.0) && same_pair p (ordered x.0 e.0))
 
-abbrev any_row : Pair → ℕ × Bounds → List (ℕ × Bounds) → Bool
+abbrev pub any_row : Pair → ℕ × Bounds → List (ℕ × Bounds) → Bool
 any_row p x [] = false
 any_row p x (e ∷ es) = hit p x e || any_row p x es
 
-abbrev any_cross : Pair → List (ℕ × Bounds) → List (ℕ × Bounds) → Bool
+abbrev pub any_cross : Pair → List (ℕ × Bounds) → List (ℕ × Bounds) → Bool
 any_cross p [] es = false
 any_cross p (x ∷ xs) es = any_row p x es || any_cross p xs es
 
@@ -67,7 +67,7 @@ module _ (p : Pair) where
         | false ↦ rest
       ]
 
-  crossed_has : (es xs : List (ℕ × Bounds)) → has_pair (crossed es xs) p ≡ any_cross p xs es
+  pub crossed_has : (es xs : List (ℕ × Bounds)) → has_pair (crossed es xs) p ≡ any_cross p xs es
   crossed_has es [] = refl
   crossed_has es (x ∷ xs) =
       has_append (ordered_pairs x.0 (others_met es x)) (crossed es xs) p

@@ -25,7 +25,7 @@ use Rattle.tree_nodes.specs.Tree.{Tree, Leaf, tip, fork, top, leaves, height, bo
 use Rattle.tree_nodes.specs.Tree.{Balanced, IsRefitted, IsTreeIn, Within}
 use Rattle.box_tree.specs.Boxes.{marked_slots, raised}
 use Rattle.box_tree.specs.Descent.{entry_of, exact, exact_in, IsInside, IsInsideIn, IsLeafInside}
-use Rattle.box_tree.specs.Group.{others_met, crossed, below, all_below, all_visits_in, picked, Adds, IsShown, IsBelow, meets_shown, AreParts, BoxLaws, OpenedAs}
+use Rattle.box_tree.specs.Group.{others_met, crossed, below, all_below, all_visits_in, picked, Adds, IsShown, IsBelow, BoxLaws, OpenedAs}
 use Rattle.box_tree.proofs.Descents.{exact_append}
 use Rattle.box_tree.proofs.Counts.{raised_again}
 use Rattle.box_tree.proofs.CrossedPairs.{crossed_append, crossed_either, has_append}
@@ -60,16 +60,9 @@ pub opened_inner : (o : Option Tree) (bodies : List (Option Bounds)) (at left ri
     → (n : ℕ) × (l : Tree) × (r : Tree) × (t ≡ fork n h k l r) × IsBelow o bodies left l × IsBelow o bodies right r × IsRefitted h k l r
 opened_inner o bodies at left right k h t b e = opened o bodies at (Inner left right h k) t b e
 
-none_below : (n s : ℕ) (f : Bounds) (es : List (ℕ × Bounds)) → all_below (tip n s f) es ≡ 0
+pub none_below : (n s : ℕ) (f : Bounds) (es : List (ℕ × Bounds)) → all_below (tip n s f) es ≡ 0
 none_below n s f [] = refl
 none_below n s f (e ∷ es) = let rest = none_below n s f es in omega arith
-
--- nobody looks below a leaf
-pub leaf_below : (o : Option Tree) (bodies : List (Option Bounds)) (at slot : ℕ) (f : Bounds) (t : Tree) (es : List (ℕ × Bounds)) → IsBelow o bodies at t
-    → view_in o at ≡ Some (LeafNode slot f) → all_below t es ≡ 0
-leaf_below o bodies at slot f t es b e =
-    let own : (n : ℕ) × (t ≡ tip n slot f) × IsLeafInside bodies slot f = opened o bodies at (LeafNode slot f) t b e in
-    ap (λ u. all_below u es) own.1 ∙ none_below own.0 slot f es
 
 pub seen : (o : Option Tree) (bodies : List (Option Bounds)) (at : ℕ) (t : Tree) → IsBelow o bodies at t → view_in o at ≡ Some (view_of t)
 seen o bodies at t b = ap (view_in o) b.at_is ∙ shown_top o t b.shown
@@ -77,10 +70,6 @@ seen o bodies at t b = ap (view_in o) b.at_is ∙ shown_top o t b.shown
 height_top : (t : Tree) → height_shown (Some (view_of t)) ≡ height t
 height_top (tip n s f) = refl
 height_top (fork n h k l r) = refl
-
-meets_top : (b : Bounds) (t : Tree) → meets b (bounds t) ≡ meets_shown b (Some (view_of t))
-meets_top b (tip n s f) = refl
-meets_top b (fork n h k l r) = refl
 
 -- a child is lower
 pub lower : (o : Option Tree) (bodies : List (Option Bounds)) (at down left right k : ℕ) (h : Bounds) (t : Tree) → IsBelow o bodies down t
@@ -109,7 +98,7 @@ length_boxes [] = refl
 length_boxes (e ∷ es) = ap suc (length_boxes es)
 
 -- the bits of a group's boxes that meet one
-abbrev bits_of : Bounds → List (ℕ × Bounds) → ℕ
+abbrev pub bits_of : Bounds → List (ℕ × Bounds) → ℕ
 bits_of h es = mask_l (map (meets h) (map (λ (e : ℕ × Bounds). e.1) es))
 
 pub group_bits : (h : Bounds) (boxes : List Bounds) (es : List (ℕ × Bounds)) (mask : ℕ) → boxes ≡ map (λ (e : ℕ × Bounds). e.1) es → length es ≤ 8
@@ -185,7 +174,7 @@ ones_met : (h : Bounds) (es : List (ℕ × Bounds)) → count_ones (bits_of h es
 ones_met h es = ones-mask_l (meets h) (map (λ (e : ℕ × Bounds). e.1) es) ∙ count_met h es
 
 -- None of a group meets a box.
-abbrev Quiet : Bounds → List (ℕ × Bounds) → Type 0
+abbrev pub Quiet : Bounds → List (ℕ × Bounds) → Type 0
 Quiet h [] = Unit {0}
 Quiet h (e ∷ es) = (meets h e.1 ≡ false) × Quiet h es
 
@@ -193,7 +182,7 @@ no_bit : (b : Bool) (m : ℕ) → cond b 1 0 + 2 * m ≡ 0 → (b ≡ false) × 
 no_bit true m e = absurd (omega arith)
 no_bit false m e = (refl, omega arith)
 
-quiet_from : (h : Bounds) (es : List (ℕ × Bounds)) → bits_of h es ≡ 0 → Quiet h es
+pub quiet_from : (h : Bounds) (es : List (ℕ × Bounds)) → bits_of h es ≡ 0 → Quiet h es
 quiet_from h [] e = tt
 quiet_from h (x ∷ es) e = let n = no_bit (meets h x.1) (bits_of h es) e in (n.0, quiet_from h es n.1)
 
@@ -204,7 +193,7 @@ quiet_found h (e ∷ es) q =
     ap (λ m. map (λ (y : ℕ × Bounds). y.0) (cond m (e ∷ more) more)) q.0 ∙ quiet_found h es q.1
 
 module _ (w : BoxLaws) where
-  missed : (outer inner b : Bounds) → encloses outer inner ≡ true → meets outer b ≡ false → meets inner b ≡ false
+  pub missed : (outer inner b : Bounds) → encloses outer inner ≡ true → meets outer b ≡ false → meets inner b ≡ false
   missed outer inner b e m = w.either_way inner b ∙ (w.each (Region b)).missed outer inner e (w.either_way b outer ∙ m)
 
   quiet_inside : (outer inner : Bounds) → encloses outer inner ≡ true → (es : List (ℕ × Bounds)) → Quiet outer es → Quiet inner es
@@ -242,25 +231,22 @@ module _ (w : BoxLaws) where
       ap (λ m. cond m (visits l e.1 + visits r e.1) 0 + all_below (fork n h k l r) es) q.0
       ∙ (let rest = quiet_below (fork n h k l r) es q.1 in omega arith)
 
-  quiet_none : (bodies : List (Option Bounds)) (es : List (ℕ × Bounds)) (t : Tree) → Balanced t → IsInside bodies t → Quiet (bounds t) es
+  pub quiet_none : (bodies : List (Option Bounds)) (es : List (ℕ × Bounds)) (t : Tree) → Balanced t → IsInside bodies t → Quiet (bounds t) es
       → (crossed es (exact bodies (leaves t)) ≡ []) × (all_below t es ≡ 0)
   quiet_none bodies es t balanced inside q = (quiet_crossed bodies es t balanced inside q, quiet_below t es q)
 
   -- what the hull of a group misses none of the group meets
-  quiet_whole : (whole h : Bounds) → meets whole h ≡ false → (es : List (ℕ × Bounds)) → All (λ (e : ℕ × Bounds). encloses whole e.1 ≡ true) es → Quiet h es
-  quiet_whole whole h m [] around = tt
-  quiet_whole whole h m (e ∷ es) around = (
-    (w.each (Region h)).missed whole e.1 (around 0 e (omega arith)) (w.either_way h whole ∙ m),
-    quiet_whole whole h m es (λ k d lt. around (suc k) d (omega arith)),
-  )
-
-  -- where it misses a node, nothing is found there and nobody looks on
-  pub missed_together : (o : Option Tree) (bodies : List (Option Bounds)) (at : ℕ) (t : Tree) (es : List (ℕ × Bounds)) (whole : Bounds)
-      → IsBelow o bodies at t → All (λ (e : ℕ × Bounds). encloses whole e.1 ≡ true) es → meets_shown whole (view_in o at) ≡ false
-      → (crossed es (exact bodies (leaves t)) ≡ []) × (all_below t es ≡ 0)
-  missed_together o bodies at t es whole b around m =
-      let apart : meets whole (bounds t) ≡ false = meets_top whole t ∙ sym (ap (meets_shown whole) (seen o bodies at t b)) ∙ m in
-      quiet_none bodies es t b.balanced b.inside (quiet_whole whole (bounds t) apart es around)
+  -- so no bit is set
+  pub quiet_mask : (whole h : Bounds) (bs : List Bounds) → meets whole h ≡ false → All (λ (b : Bounds). encloses whole b ≡ true) bs → next_eight (meets h) 0 bs ≡ 0
+  quiet_mask whole h bs m around = at 8 bs around
+    where
+      at : (n : ℕ) (xs : List Bounds) → All (λ (b : Bounds). encloses whole b ≡ true) xs → mask_l (map (meets h) (take n xs)) ≡ 0
+      at zero xs all = refl
+      at (suc n) [] all = refl
+      at (suc n) (x ∷ xs) all =
+          let here : meets h x ≡ false = (w.each (Region h)).missed whole x (all 0 x (omega arith)) (w.either_way h whole ∙ m) in
+          let rest = at n xs (λ k d lt. all (suc k) d (omega arith)) in
+          ap (λ b. cond b 1 0 + 2 * mask_l (map (meets h) (take n xs))) here ∙ omega arith
 
   visits_below : (t : Tree) (b : Bounds) → visits t b ≡ 1 + below t b
   visits_below (tip n s f) b = refl
@@ -293,15 +279,6 @@ module _ (w : BoxLaws) where
       let s : below (fork n h k l r) e.1 + all_below (fork n h k l r) es
       ≡ (2 * c + (below l e.1 + below r e.1)) + (2 * met_count h es + (all_below l es + all_below r es)) = (λ i. a i + b i) in
       s ∙ omega arith
-
-  -- where no bit is set, nothing is found and nobody looks on
-  pub none_goes_on : (o : Option Tree) (bodies : List (Option Bounds)) (left right : ℕ) (es : List (ℕ × Bounds)) (mask : ℕ) (h : Bounds) (t : Tree)
-      → AreParts o bodies left right h t → mask ≡ bits_of h es → mask ≡ 0 → (crossed es (exact bodies (leaves t)) ≡ []) × (all_below t es ≡ 0)
-  none_goes_on o bodies left right es mask h t p em z =
-      let parts = p.1 in
-      quiet_none bodies es t (subst Balanced (sym parts.3) (parts.6, parts.4.balanced, parts.5.balanced))
-      (subst (IsInside bodies) (sym parts.3) (parts.4.inside, parts.5.inside))
-      (subst (λ u. Quiet (bounds u) es) (sym parts.3) (quiet_from h es (sym em ∙ z)))
 
   -- each bit is a look at both children
   pub looks_on : (es : List (ℕ × Bounds)) (n k mask ones : ℕ) (h : Bounds) (l r t : Tree) → t ≡ fork n h k l r → IsRefitted h k l r
@@ -373,7 +350,7 @@ root_below w (Some t) bodies at e tree inside = (
   },
 )
 
-rootless : (o : Option Tree) → option_map top o ≡ None → o ≡ None
+pub rootless : (o : Option Tree) → option_map top o ≡ None → o ≡ None
 rootless None e = refl
 rootless (Some t) e = cc
 
@@ -409,13 +386,6 @@ tops_and_below w t (e ∷ es) =
 
 pub group_visits : (w : BoxLaws) (o : Option Tree) (t : Tree) (es : List (ℕ × Bounds)) → o ≡ Some t → all_visits_in o es ≡ length es + all_below t es
 group_visits w o t es e = ap (λ u. all_visits_in u es) e ∙ tops_and_below w t es
-
-pub group_adds : (w : BoxLaws) (o : Option Tree) (bodies : List (Option Bounds)) (t : Tree) (es : List (ℕ × Bounds)) (old new : List Pair) → o ≡ Some t
-    → new ≡ old ++ crossed es (exact bodies (leaves t)) → Adds old new (crossed (exact_in bodies o) es)
-group_adds w o bodies t es old new at e p =
-    ap (λ ps. has_pair ps p) e ∙ has_append old (crossed es (exact bodies (leaves t))) p
-    ∙ ap (λ b. has_pair old p || b) (crossed_either p w.either_way es (exact bodies (leaves t)))
-    ∙ sym (ap (λ u. has_pair old p || has_pair (crossed (exact_in bodies u) es) p) at)
 
 -- One group more is searched for.
 

@@ -7,6 +7,8 @@ pub mod Soundness
 pub mod Changes
 pub mod Fats
 pub mod Groups
+pub mod Preorders
+pub mod GroupsDone
 pub mod Searching
 pub mod SharedSlots
 pub mod TouchedPairs

@@ -24,14 +24,14 @@ use Rattle.tree_nodes.specs.Tree.{Tree, Leaf, leaves, leaves_in, IsTreeIn}
 use Rattle.box_tree.specs.declared.touched.TheConstants.{FEWEST_GROUPED}
 use Rattle.box_tree.specs.Boxes.{Boxes, visits_for, cost, marked_slots, shared_slots, sought, raised, Finds}
 use Rattle.box_tree.specs.Descent.{entry_of, exact, exact_in}
-use Rattle.box_tree.specs.Group.{touched_of, all_visits_in, Adds}
+use Rattle.box_tree.specs.Group.{touched_of, crossed, all_visits_in, Adds, AreOf}
 use Rattle.box_tree.specs.Searches.{searches, shared_from, sought_from}
 use Rattle.box_tree.specs.Ties.{Sound}
 use Rattle.box_tree.proofs.Counts.{raised_again}
 use Rattle.box_tree.proofs.CrossedPairs.{has_append}
 use Rattle.box_tree.proofs.LeafTies.{some_there}
 use Rattle.box_tree.proofs.Searching.{ReachLaw, RenewingLaw, seen, exact_in_is, all_reached, searched_slots, marked_is, are_marked, marked_present, same_costs}
-use Rattle.box_tree.proofs.TouchedPairs.{AreOf, exact_in_own, touched_own, touched_marked, renewed_of}
+use Rattle.box_tree.proofs.TouchedPairs.{exact_in_own, touched_own, touched_marked, renewed_of, own_boxed, crossed_boxed}
 use Rattle.box_tree.proofs.TouchedSums.{touched_total}
 
 abbrev pub TouchedLaw : Type 0
@@ -146,16 +146,39 @@ module _ (o : Option Tree) (bodies fats : List (Option Bounds)) (numbers : List 
             ∙ touched_total o bodies fats numbers marks kept s
       ]
 
-  -- a search of them renews the pairs
-  pub renewed_run : ReachLaw → RenewingLaw → (slots : List ℕ) (before found : List Pair) → slots ≡ shared_from o bodies marks → before ≡ []
+  -- a search of the touched slots renews the pairs, in whichever order they come
+  pub renewed_run : ReachLaw → RenewingLaw → (slots : List ℕ) (before found : List Pair) → AreMarked (map_of bodies) marks slots → before ≡ []
       → Adds before found (gathered_with (searches bodies o slots)) → (old : List Pair) → AreKept (map_of bodies) marks old
       → Renewed (map_of bodies) marks old found
-  renewed_run law renewing slots before found es en adds old are =
-      let r = renewed_of o bodies fats numbers marks kept s law renewing slots (subst (AreMarked (map_of bodies) marks) (sym es) shared_marked) old are in
+  renewed_run law renewing slots before found marked en adds old are =
+      let r = renewed_of o bodies fats numbers marks kept s law renewing slots marked old are in
       record {
         kept_is = r.kept_is;
         found_is = λ p. adds p ∙ ap (λ ps. has_pair ps p || has_pair (gathered_with (searches bodies o slots)) p) en ∙ r.found_is p;
       }
+
+  -- the marked entries, in the order of the leaves
+  abbrev slots_along : List ℕ
+  slots_along = map (λ (e : ℕ × Bounds). e.0) entries
+
+  entries_own : AreOf bodies entries
+  entries_own = touched_own bodies marks (exact_in bodies o) (exact_in_own bodies o)
+
+  -- so does a search of their entries
+  pub renewed_along : ReachLaw → RenewingLaw → (touched : List (ℕ × Bounds)) (before found : List Pair) → touched ≡ entries → before ≡ []
+      → Adds before found (crossed (exact_in bodies o) touched) → (old : List Pair) → AreKept (map_of bodies) marks old
+      → Renewed (map_of bodies) marks old found
+  renewed_along law renewing touched before found et en adds =
+      renewed_run law renewing slots_along before found (touched_marked o bodies fats numbers marks kept s) en
+      (subst (Adds before found)
+      (ap (crossed (exact_in bodies o)) (et ∙ sym (own_boxed bodies entries entries_own)) ∙ crossed_boxed bodies o slots_along) adds)
+
+  pub along_own : (touched : List (ℕ × Bounds)) → touched ≡ entries → AreOf bodies touched
+  along_own touched et = subst (AreOf bodies) (sym et) entries_own
+
+  -- few are sought slot by slot
+  pub sought_marked : AreMarked (map_of bodies) marks (sought_from marks 0 bodies)
+  sought_marked = subst (AreMarked (map_of bodies) marks) (sym (marked_is marks bodies)) (are_marked marks (map_of bodies))
 
   module _ (v : Boxes) (looked : ℕ) (view : seen o bodies fats marks looked ≡ v) where
     own_shared : shared_from o bodies marks ≡ shared_slots (seen o bodies fats marks looked)

@@ -13,16 +13,11 @@ use Rattle.broad_index.specs.Members.{has_slot}
 use Rattle.broad_index.specs.Touched.{ordered_pairs, gathered_with, AreKept, AreMarked, Renewed}
 use Rattle.tree_nodes.specs.Tree.{Tree, Leaf, leaves}
 use Rattle.box_tree.specs.Descent.{entry_of, exact, exact_in}
-use Rattle.box_tree.specs.Group.{touched_of, crossed, all_visits_in}
+use Rattle.box_tree.specs.Group.{touched_of, crossed, all_visits_in, AreOf}
 use Rattle.box_tree.specs.Searches.{boxed, reached_by, reached_in, searches}
 use Rattle.box_tree.specs.Ties.{Sound}
 use Rattle.box_tree.proofs.LeafTies.{some_there}
 use Rattle.box_tree.proofs.Searching.{ReachLaw, RenewingLaw, has_marked, all_reached, searched_slots, exact_held}
-
--- each entry is the box of its slot
-abbrev pub AreOf : List (Option Bounds) → List (ℕ × Bounds) → Type 0
-AreOf bodies [] = Unit {0}
-AreOf bodies (e ∷ es) = (get_or bodies e.0 None ≡ Some e.1) × AreOf bodies es
 
 module _ (bodies : List (Option Bounds)) where
   entry_own : (s : ℕ) (p : Option Bounds) (es : List (ℕ × Bounds)) → get_or bodies s None ≡ p → AreOf bodies es → AreOf bodies (entry_of s p ++ es)
@@ -44,6 +39,16 @@ module _ (bodies : List (Option Bounds)) where
         | true ↦ (own.0, touched_own marks es own.1)
         | false ↦ touched_own marks es own.1
       ]
+
+  pub boxed_own : (slots : List ℕ) → AreOf bodies (boxed bodies slots)
+  boxed_own [] = tt
+  boxed_own (x ∷ xs) = entry_own x (get_or bodies x None) (boxed bodies xs) refl (boxed_own xs)
+
+  -- entries are the boxes of their slots
+  pub own_boxed : (es : List (ℕ × Bounds)) → AreOf bodies es → boxed bodies (map (λ (e : ℕ × Bounds). e.0) es) ≡ es
+  own_boxed [] own = refl
+  own_boxed (e ∷ es) own =
+      ap (λ p. entry_of e.0 p ++ boxed bodies (map (λ (x : ℕ × Bounds). x.0) es)) own.0 ∙ ap (λ xs. e ∷ xs) (own_boxed es own.1)
 
   crossed_entry : (o : Option Tree) (k : ℕ) (p : Option Bounds) (rest : List (ℕ × Bounds))
       → crossed (exact_in bodies o) (entry_of k p ++ rest) ≡ ordered_pairs k (reached_by bodies o k p) ++ crossed (exact_in bodies o) rest

@@ -25,6 +25,15 @@ abbrev pub crossed : List (ℕ × Bounds) → List (ℕ × Bounds) → List Pair
 crossed es [] = []
 crossed es (x ∷ xs) = ordered_pairs x.0 (others_met es x) ++ crossed es xs
 
+-- each entry is the box of its slot
+abbrev pub AreOf : List (Option Bounds) → List (ℕ × Bounds) → Type 0
+AreOf bodies [] = Unit {0}
+AreOf bodies (e ∷ es) = (slice_index_or bodies e.0 None ≡ Some e.1) × AreOf bodies es
+
+-- the entries whose slots are not done
+abbrev pub undone : List Bool → List (ℕ × Bounds) → List (ℕ × Bounds)
+undone done es = filter (λ e. not (slice_index_or done e.0 false)) es
+
 -- the pairs that a list has are those that another has, and more
 abbrev pub Adds : List Pair → List Pair → List Pair → Type 0
 Adds old new more = (p : Pair) → has_pair new p ≡ (has_pair old p || has_pair more p)
@@ -48,6 +57,11 @@ abbrev pub picked : ℕ → List (ℕ × Bounds) → List ℕ
 picked bits [] = []
 picked bits (e ∷ es) = if bits % 2 == 1 then e.0 ∷ picked (bits / 2) es else picked (bits / 2) es
 
+-- the pairs of a slot with those of entries whose bits are set, unless it is done
+abbrev pub left_pairs : List Bool → ℕ → ℕ → List (ℕ × Bounds) → List Pair
+left_pairs done slot bits es =
+    if slice_index_or done slot false then [] else ordered_pairs slot (filter (λ s. not (s == slot)) (picked bits es))
+
 -- each node shows under its number
 abbrev pub IsShown : Option Tree → Tree → Type 0
 IsShown o (tip n s f) = view_in o n ≡ Some (LeafNode s f)
@@ -60,12 +74,6 @@ pub record IsBelow (o : Option Tree) (bodies : List (Option Bounds)) (at : ℕ) 
   pub balanced : Balanced t
   pub inside : IsInside bodies t
 
--- whether a box meets the hull of a node, or the fat box of a leaf
-abbrev pub meets_shown : Bounds → Option NodeView → Bool
-meets_shown b None = false
-meets_shown b (Some (LeafNode slot fat)) = meets b fat
-meets_shown b (Some (Inner left right hull height)) = meets b hull
-
 -- what is known of boxes
 pub record BoxLaws : Type 0 where
   pub each : (q : Query) → Laws q
@@ -76,7 +84,3 @@ abbrev pub OpenedAs : Option Tree → List (Option Bounds) → NodeView → Tree
 OpenedAs o bodies (LeafNode slot fat) t = (n : ℕ) × (t ≡ tip n slot fat) × IsLeafInside bodies slot fat
 OpenedAs o bodies (Inner left right h k) t =
     (n : ℕ) × (l : Tree) × (r : Tree) × (t ≡ fork n h k l r) × IsBelow o bodies left l × IsBelow o bodies right r × IsRefitted h k l r
-
--- what a node with a hull and these children tells
-abbrev pub AreParts : Option Tree → List (Option Bounds) → ℕ → ℕ → Bounds → Tree → Type 0
-AreParts o bodies left right h t = (k : ℕ) × OpenedAs o bodies (Inner left right h k) t

@@ -1,5 +1,6 @@
 pub mod Boxes
 pub mod Descent
 pub mod Group
+pub mod Preorder
 pub mod Searches
 pub mod Ties

@@ -1,50 +1,52 @@
-ghost use Rattle.std.specs.Prelude.{◌≡◌, ◌==◌, ◌<◌, ◌≤◌, ◌++◌, [], ◌∷◌, drop, not, map, filter, length, None, OnOk, IfOk, IsSome, IsTrue, slice_index_or};
+ghost use Rattle.std.specs.Prelude.{◌≡◌, ◌==◌, ◌+◌, ◌<◌, ◌≤◌, ◌++◌, List, Option, [], ◌∷◌, drop, not, map, filter, length, OnOk, IfOk, IsTrue};
 ghost use Rattle.std.specs.List.{All};
-ghost use Rattle.fixed_box.specs.Bounds.{encloses};
+ghost use Rattle.fixed_box.specs.Bounds.{Bounds, encloses, meets};
 ghost use Rattle.broad_index.specs.Touched.{ordered_pairs};
 ghost use Rattle.lane_boxes.specs.Places.{next_eight};
-ghost use Rattle.tree_nodes.specs.Tree.{Tree, leaves, view_in};
+ghost use Rattle.tree_nodes.specs.Tree.{Tree, leaves};
 ghost use Rattle.box_tree.specs.Boxes.{raised};
-ghost use Rattle.box_tree.specs.Descent.{entry_of, exact, exact_in, IsInsideIn};
-ghost use Rattle.box_tree.specs.Group.{crossed, all_below, all_visits_in, picked, Adds, meets_shown, AreParts, IsBelow, BoxLaws};
+ghost use Rattle.box_tree.specs.Descent.{exact};
+ghost use Rattle.box_tree.specs.Group.{crossed, all_below, picked, left_pairs, undone, BoxLaws};
+ghost use Rattle.box_tree.specs.Preorder.{IsListed};
 
 use crate::descent::descent_law;
+use crate::preorder::{ListedNode, NodeKind};
+use crate::touched::is_marked;
 use broad_index::Pair;
 use fixed_box::{FBox, NoMemory, Point, box_laws};
 use lane_boxes::Columns;
 use std::alloc::Global;
-use tree_nodes::{NodeView, Nodes};
 
 // How many boxes descend together: as many as are tested at once.
 pub(crate) const GROUP: usize = 8;
 
-// Searches for a group in one descent. Appends the pairs of its boxes with those that they meet, and answers a number
-// raised by how many nodes a descent with each of them looks at. The columns are made those of the group.
+// Searches for a group at once. Appends the pairs of its boxes with those that they meet, but for those of slots that are
+// done, and answers a number raised by how many nodes a descent with each of them looks at. The columns are made those of the
+// group.
 pub(crate) fn search_group(
-    nodes: &Nodes,
-    bodies: &[Option<FBox>],
+    preorder: &[ListedNode],
+    done: &[bool],
     group: &[(u32, FBox)],
     boxes: &mut Columns,
     looked: u64,
     found: &mut Vec<Pair>,
 ) -> Result<u64, NoMemory>
-    requires inside { IsInsideIn bodies.now nodes.now }
+    requires list { (bodies : List (Option Bounds)) × (t : Tree) × IsListed bodies t preorder.now }
     requires boxes { length boxes.old.boxes ≡ length group.now }
     requires few { length group.now ≤ 8 }
     requires some { 0 < length group.now }
-    ensures ok { OnOk result (Adds found.old.items found.new.items (crossed (exact_in bodies.now nodes.now) group.now)) }
-    ensures count { IfOk result (λ n. n ≡ raised looked (all_visits_in nodes.now group.now)) }
+    ensures ok { (bodies : List (Option Bounds)) (t : Tree) → IsListed bodies t preorder.now →
+        OnOk result (found.new.items ≡ found.old.items ++ crossed group.now (undone done.now (exact bodies (leaves t)))) }
+    ensures count { (bodies : List (Option Bounds)) (t : Tree) → IsListed bodies t preorder.now →
+        IfOk result (λ n. n ≡ raised looked (length group.now + all_below t group.now)) }
     ensures boxes { length boxes.new.boxes ≡ length boxes.old.boxes }
 {
     box_law();
-    let Some(root) = nodes.root() else {
-        return Ok(looked);
-    };
     set_boxes(boxes, group);
     let whole = hull_of(group);
+    // each of them looks at the top
     let here = looked.saturating_add(group.len() as u64);
-    let near = is_near(nodes, root, &whole);
-    let all = descend_together(nodes, bodies, root, near, group, boxes, &whole, here, found)?;
+    let all = read_onwards(preorder, done, group, boxes, &whole, here, found)?;
     Ok(all)
 }
 
@@ -101,16 +103,12 @@ pub(crate) fn fit_group(boxes: &mut Columns, alloc: Global) -> Result<(), NoMemo
     Ok(())
 }
 
-// Descends with a group of boxes from a node on, where its hull is near. Appends the pairs of each leaf there with those of
-// the group that meet it, and answers a number raised by how many nodes below this one the boxes look at. It is done in
-// place, so that a node that the hull of the group misses costs no call.
-#[cycle(together)]
-#[inline(always)]
-fn descend_together(
-    nodes: &Nodes,
-    bodies: &[Option<FBox>],
-    at: usize,
-    near: bool,
+// Reads a list in preorder with a group of boxes, and jumps over what stands below a hull that none of them meets. Appends
+// the pairs of each leaf with those of the group that meet it, and answers a number raised by how many nodes below the top the
+// boxes look at.
+fn read_onwards(
+    preorder: &[ListedNode],
+    done: &[bool],
     group: &[(u32, FBox)],
     boxes: &Columns,
     whole: &FBox,
@@ -118,113 +116,78 @@ fn descend_together(
     found: &mut Vec<Pair>,
 ) -> Result<u64, NoMemory>
     requires laws { BoxLaws }
-    requires below { (t : Tree) × IsBelow nodes.now bodies.now at t }
-    requires near { near ≡ meets_shown whole.now (view_in nodes.now at) }
+    requires list { (bodies : List (Option Bounds)) × (t : Tree) × IsListed bodies t preorder.now }
     requires boxes { boxes.now.boxes ≡ map (λ e. e.1) group.now }
-    requires whole { All (λ e. IsTrue (encloses whole.now e.1)) group.now }
+    requires whole { All (λ b. IsTrue (encloses whole.now b)) boxes.now.boxes }
     requires few { length group.now ≤ 8 }
-    ensures ok { (t : Tree) → IsBelow nodes.now bodies.now at t →
-        OnOk result (found.new.items ≡ found.old.items ++ crossed group.now (exact bodies.now (leaves t))) }
-    ensures count { (t : Tree) → IsBelow nodes.now bodies.now at t → IfOk result (λ n. n ≡ raised looked (all_below t group.now)) }
-{
-    if !near {
-        return Ok(looked);
-    }
-    match nodes.node(at) {
-        NodeView::Leaf { slot, fat: _ } => {
-            push_met(bodies, *slot, group, boxes, found)?;
-            Ok(looked)
-        }
-        NodeView::Inner {
-            left,
-            right,
-            hull,
-            height: _,
-        } => {
-            let all = open_together(
-                nodes, bodies, *left, *right, hull, group, boxes, whole, looked, found,
-            )?;
-            Ok(all)
-        }
-    }
-}
-
-// The same below an inner node. Those of the group go on that meet its hull, and none else meets the hulls below it. So
-// whoever of the group meets a hull is still there. Both children are read before either is gone down into, so that the
-// one needn't wait for the other.
-#[cycle(together)]
-fn open_together(
-    nodes: &Nodes,
-    bodies: &[Option<FBox>],
-    left: usize,
-    right: usize,
-    hull: &FBox,
-    group: &[(u32, FBox)],
-    boxes: &Columns,
-    whole: &FBox,
-    looked: u64,
-    found: &mut Vec<Pair>,
-) -> Result<u64, NoMemory>
-    requires laws { BoxLaws }
-    requires parts { (t : Tree) × AreParts nodes.now bodies.now left right hull.now t }
-    requires boxes { boxes.now.boxes ≡ map (λ e. e.1) group.now }
-    requires whole { All (λ e. IsTrue (encloses whole.now e.1)) group.now }
-    requires few { length group.now ≤ 8 }
-    ensures ok { (t : Tree) → AreParts nodes.now bodies.now left right hull.now t →
-        OnOk result (found.new.items ≡ found.old.items ++ crossed group.now (exact bodies.now (leaves t))) }
-    ensures count { (t : Tree) → AreParts nodes.now bodies.now left right hull.now t →
+    ensures ok { (bodies : List (Option Bounds)) (t : Tree) → IsListed bodies t preorder.now →
+        OnOk result (found.new.items ≡ found.old.items ++ crossed group.now (undone done.now (exact bodies (leaves t)))) }
+    ensures count { (bodies : List (Option Bounds)) (t : Tree) → IsListed bodies t preorder.now →
         IfOk result (λ n. n ≡ raised looked (all_below t group.now)) }
 {
-    let mask = boxes.overlap_mask(0, hull);
-    if mask == 0 {
-        return Ok(looked);
+    let mut rest = preorder;
+    let mut number = looked;
+    'nodes: while let [node, more @ ..] = rest {
+        let mask = met_mask(boxes, whole, &node.bounds);
+        match node.kind {
+            NodeKind::Leaf { slot } => {
+                push_met(slot, mask, done, group, found)?;
+                rest = more;
+            }
+            NodeKind::Inner { below } => {
+                // each that meets the hull looks at both children
+                number = number.saturating_add(2 * u64::from(mask.count_ones()));
+                rest = if mask == 0 {
+                    nodes_behind(more, below)
+                } else {
+                    more
+                };
+            }
+        }
     }
-    // each of these looks at both children
-    let here = looked.saturating_add(2 * u64::from(mask.count_ones()));
-    let first = is_near(nodes, left, whole);
-    let second = is_near(nodes, right, whole);
-    let more = descend_together(nodes, bodies, left, first, group, boxes, whole, here, found)?;
-    let all = descend_together(
-        nodes, bodies, right, second, group, boxes, whole, more, found,
-    )?;
-    Ok(all)
+    Ok(number)
 }
 
-// Whether a box meets the hull of a node, or the fat box of a leaf. Where the hull of a group doesn't, no box of the group
-// meets anything below.
-#[inline]
-fn is_near(nodes: &Nodes, at: usize, whole: &FBox) -> bool
-    requires { IsSome (view_in nodes.now at) }
-    ensures { result ≡ meets_shown whole.now (view_in nodes.now at) }
+// Which of a group meet a box. Where the hull of the group doesn't, none does.
+#[inline(always)]
+fn met_mask(boxes: &Columns, whole: &FBox, bounds: &FBox) -> u8
+    requires laws { BoxLaws }
+    requires whole { All (λ b. IsTrue (encloses whole.now b)) boxes.now.boxes }
+    ensures { result ≡ next_eight (meets bounds.now) 0 boxes.now.boxes }
 {
-    match nodes.node(at) {
-        NodeView::Leaf { slot: _, fat } => whole.overlaps(fat),
-        NodeView::Inner {
-            left: _,
-            right: _,
-            hull,
-            height: _,
-        } => whole.overlaps(hull),
+    if whole.overlaps(bounds) {
+        boxes.overlap_mask(0, bounds)
+    } else {
+        0
     }
 }
 
-// Appends the pairs of the exact box of a slot with those of a group that meet it.
+// What stands behind so many nodes.
+#[inline]
+fn nodes_behind(nodes: &[ListedNode], count: u32) -> &[ListedNode]
+    ensures { result.now ≡ drop count nodes.now }
+{
+    &nodes[(count as usize).min(nodes.len())..]
+}
+
+// Appends the pairs of a slot with those of a group whose bits are set, but for itself, unless the slot is done.
+#[inline]
 fn push_met(
-    bodies: &[Option<FBox>],
     slot: u32,
+    mask: u8,
+    done: &[bool],
     group: &[(u32, FBox)],
-    boxes: &Columns,
     found: &mut Vec<Pair>,
 ) -> Result<(), NoMemory>
-    requires small { slot < length bodies.now }
-    requires boxes { boxes.now.boxes ≡ map (λ e. e.1) group.now }
-    requires few { length group.now ≤ 8 }
-    ensures { OnOk result (found.new.items ≡ found.old.items ++ crossed group.now (entry_of slot (slice_index_or bodies.now slot None))) }
+    ensures { OnOk result (found.new.items ≡ found.old.items ++ left_pairs done.now slot mask group.now) }
 {
-    let Some(body) = &bodies[slot as usize] else {
+    if mask == 0 {
         return Ok(());
-    };
-    push_picked(slot, boxes.overlap_mask(0, body), group, found)?;
+    }
+    if is_marked(slot, done) {
+        return Ok(());
+    }
+    push_picked(slot, mask, group, found)?;
     Ok(())
 }
 

@@ -6,6 +6,7 @@ mod descent;
 mod group;
 mod leaves;
 mod moved;
+mod preorder;
 mod query_law;
 mod renewal;
 mod search;

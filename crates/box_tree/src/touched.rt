@@ -1,24 +1,28 @@
-ghost use Rattle.std.specs.Prelude.{◌≡◌, ◌≤◌, ◌++◌, List, Option, ℕ, [], false, map, sum, filter, not, ◌==◌, length, None, OnOk, IfOk, slice_index_or};
+ghost use Rattle.std.specs.Prelude.{◌≡◌, ◌||◌, ◌≤◌, ◌++◌, List, Option, ℕ, [], true, false, map, sum, filter, not, ◌==◌, length, None, OnOk, IfOk, slice_index_or};
 ghost use Rattle.fixed_box.specs.Bounds.{Bounds};
 ghost use Rattle.fixed_box.specs.SlotMap.{map_of};
 ghost use Rattle.broad_index.specs.declared.pair.Pair.{Pair};
 ghost use Rattle.broad_index.specs.declared.query.Query.TheVariants.{Region};
 ghost use Rattle.broad_index.specs.Found.{found_of};
+ghost use Rattle.broad_index.specs.Held.{Holds};
+ghost use Rattle.broad_index.specs.Members.{has_slot};
 ghost use Rattle.broad_index.specs.Touched.{ordered_pairs, gathered_with, AreKept, Renewed};
 ghost use Rattle.fixed_box.specs.declared.TheConstants.{SLOTS};
 ghost use Rattle.tree_nodes.specs.Tree.{Tree, leaves, visits_in};
 ghost use Rattle.box_tree.specs.Boxes.{marked_slots, raised, visits_for};
 ghost use Rattle.box_tree.specs.Descent.{exact_in, IsInsideIn};
-ghost use Rattle.box_tree.specs.Group.{crossed, all_visits_in, Adds, IsBelow};
+ghost use Rattle.box_tree.specs.Group.{crossed, all_visits_in, Adds, AreOf, IsBelow};
+ghost use Rattle.box_tree.specs.Preorder.{preorder_in};
 ghost use Rattle.box_tree.specs.Searches.{boxed, searches, shared_from, sought_from};
 ghost use Rattle.box_tree.specs.Ties.{Sound};
 
 use crate::descent::descend;
 use crate::group::{GROUP, box_law, fit_group, search_group};
+use crate::preorder::{ListedNode, list_preorder, push_marked};
 use crate::renewal::Room;
 use crate::search::{push_others, push_sought, search_all};
 use broad_index::{Pair, Query, holding_laws, keeping_laws, push_ordered_pairs};
-use fixed_box::{FBox, NoMemory, box_laws};
+use fixed_box::{FBox, NoMemory, SLOTS, box_laws};
 use lane_boxes::Columns;
 use std::alloc::Global;
 use tree_nodes::{NodeView, Nodes};
@@ -27,13 +31,15 @@ use tree_nodes::{NodeView, Nodes};
 const FEWEST_GROUPED: usize = 1_024;
 
 // The same of a piece: if there are two such pieces, their slots stand in the order of the leaves.
-pub(crate) const FEWEST_IN_PIECE: usize = 512;
+const FEWEST_IN_PIECE: usize = 512;
 
 // Lists that a search keeps for their memory alone.
 #[derive(Drop)]
 pub(crate) struct SearchRoom {
+    preorder: Vec<ListedNode>,
     touched: Vec<(u32, FBox)>,
     boxes: Columns,
+    done: Vec<bool>,
     met: Vec<u32>,
     reached: Vec<u32>,
 }
@@ -41,8 +47,10 @@ pub(crate) struct SearchRoom {
 impl SearchRoom {
     pub(crate) fn new(alloc: Global) -> SearchRoom {
         SearchRoom {
+            preorder: Vec::new(alloc),
             touched: Vec::new(alloc),
             boxes: Columns::new(alloc),
+            done: Vec::new(alloc),
             met: Vec::new(alloc),
             reached: Vec::new(alloc),
         }
@@ -50,7 +58,7 @@ impl SearchRoom {
 }
 
 // Replaces the found pairs by those of touched slots with the boxes that theirs meet, and answers a number raised by how
-// many nodes a descent for each of them looks at.
+// many nodes a descent for each of them looks at. Many are searched for in groups, in the order of their leaves.
 pub(crate) fn search_touched(
     nodes: &Nodes,
     bodies: &[Option<FBox>],
@@ -69,17 +77,24 @@ pub(crate) fn search_touched(
     keeping_laws();
     room.found.clear();
     room.slots.clear();
-    push_shared(nodes, bodies, marks, &mut room.slots)?;
-    let number = search_run(
-        nodes,
-        bodies,
-        &room.slots,
-        FEWEST_GROUPED,
-        looked,
-        &mut room.search,
-        &mut room.found,
-    )?;
-    Ok(number)
+    push_sought(bodies, marks, &mut room.slots)?;
+    if room.slots.len() < FEWEST_GROUPED {
+        let few = search_slots(
+            nodes,
+            bodies,
+            &room.slots,
+            looked,
+            &mut room.search,
+            &mut room.found,
+        )?;
+        return Ok(few);
+    }
+    let search = &mut room.search;
+    list_preorder(nodes, bodies, &mut search.preorder)?;
+    search.touched.clear();
+    push_marked(&search.preorder, marks, &mut search.touched)?;
+    let many = search_groups(nodes, bodies, looked, search, &mut room.found)?;
+    Ok(many)
 }
 
 // Appends the touched slots that are present: many in the order of their leaves, so that those that lie together in space
@@ -111,46 +126,53 @@ pub(crate) fn push_shared(
 }
 
 // Appends the pairs of some slots with the boxes that theirs meet, and answers a number raised by how many nodes a descent
-// for each of them looks at. From the fewest on that are given, slots that stand side by side go in groups.
+// for each of them looks at. Many are searched for in groups, in the order in which they are given.
 pub(crate) fn search_run(
     nodes: &Nodes,
     bodies: &[Option<FBox>],
     slots: &[u32],
-    fewest: usize,
     looked: u64,
     room: &mut SearchRoom,
     found: &mut Vec<Pair>,
 ) -> Result<u64, NoMemory>
     requires inside { IsInsideIn bodies.now nodes.now }
+    requires held { Holds (map_of bodies.now) (exact_in bodies.now nodes.now) }
     ensures ok { OnOk result (Adds found.old.items found.new.items (gathered_with (searches bodies.now nodes.now slots.now))) }
     ensures count { IfOk result (λ n. n ≡ raised looked (sum (map (λ s. visits_for nodes.now (slice_index_or bodies.now s None)) slots.now))) }
 {
-    if slots.len() < fewest {
-        let number = search_all(
-            nodes,
-            bodies,
-            slots,
-            looked,
-            &mut room.met,
-            &mut room.reached,
-            found,
-        )?;
-        return Ok(number);
+    if slots.len() < FEWEST_IN_PIECE {
+        let few = search_slots(nodes, bodies, slots, looked, room, found)?;
+        return Ok(few);
     }
+    list_preorder(nodes, bodies, &mut room.preorder)?;
     room.touched.clear();
     push_boxes(bodies, slots, &mut room.touched)?;
-    fit_group(&mut room.boxes, *found.allocator())?;
-    let number = search_groups(
+    let many = search_groups(nodes, bodies, looked, room, found)?;
+    Ok(many)
+}
+
+// The same slot by slot.
+fn search_slots(
+    nodes: &Nodes,
+    bodies: &[Option<FBox>],
+    slots: &[u32],
+    looked: u64,
+    room: &mut SearchRoom,
+    found: &mut Vec<Pair>,
+) -> Result<u64, NoMemory>
+    requires { IsInsideIn bodies.now nodes.now }
+    ensures ok { OnOk result (found.new.items ≡ found.old.items ++ gathered_with (searches bodies.now nodes.now slots.now)) }
+    ensures count { IfOk result (λ n. n ≡ raised looked (sum (map (λ s. visits_for nodes.now (slice_index_or bodies.now s None)) slots.now))) }
+{
+    search_all(
         nodes,
         bodies,
-        &room.touched,
+        slots,
         looked,
-        &mut room.boxes,
         &mut room.met,
         &mut room.reached,
         found,
-    )?;
-    Ok(number)
+    )
 }
 
 // Appends each slot that has a box with it.
@@ -171,31 +193,97 @@ fn push_boxes(
     Ok(())
 }
 
-// Searches for touched boxes group by group, and for those that are left one by one. `met` and `others` are room.
+// Searches for the touched boxes of a room, whose list in preorder is that of the tree.
 fn search_groups(
     nodes: &Nodes,
     bodies: &[Option<FBox>],
+    looked: u64,
+    room: &mut SearchRoom,
+    found: &mut Vec<Pair>,
+) -> Result<u64, NoMemory>
+    requires inside { IsInsideIn bodies.now nodes.now }
+    requires held { Holds (map_of bodies.now) (exact_in bodies.now nodes.now) }
+    requires list { room.old.preorder.items ≡ preorder_in bodies.now nodes.now }
+    requires touched { AreOf bodies.now room.old.touched.items }
+    ensures ok { OnOk result (Adds found.old.items found.new.items (crossed (exact_in bodies.now nodes.now) room.old.touched.items)) }
+    ensures count { IfOk result (λ n. n ≡ raised looked (all_visits_in nodes.now room.old.touched.items)) }
+{
+    fit_group(&mut room.boxes, *found.allocator())?;
+    none_done(&mut room.done)?;
+    let number = search_by_groups(
+        nodes,
+        bodies,
+        &room.preorder,
+        &room.touched,
+        looked,
+        &mut room.boxes,
+        room.done.as_mut_slice(),
+        &mut room.met,
+        &mut room.reached,
+        found,
+    )?;
+    Ok(number)
+}
+
+// Makes a list of marks, one for each slot, with none set.
+fn none_done(done: &mut Vec<bool>) -> Result<(), NoMemory>
+    ensures len { OnOk result (length done.new.items ≡ SLOTS) }
+    ensures none { OnOk result ((k : ℕ) → slice_index_or done.new.items k false ≡ false) }
+{
+    done.clear();
+    done.resize(SLOTS as usize, false)?;
+    Ok(())
+}
+
+// Searches for touched boxes group by group, and for those that are left one by one. Each pair of two groups is found from
+// the later one alone. `met` and `others` are room.
+fn search_by_groups(
+    nodes: &Nodes,
+    bodies: &[Option<FBox>],
+    preorder: &[ListedNode],
     touched: &[(u32, FBox)],
     looked: u64,
     boxes: &mut Columns,
+    done: &mut [bool],
     met: &mut Vec<u32>,
     others: &mut Vec<u32>,
     found: &mut Vec<Pair>,
 ) -> Result<u64, NoMemory>
     requires inside { IsInsideIn bodies.now nodes.now }
+    requires held { Holds (map_of bodies.now) (exact_in bodies.now nodes.now) }
+    requires list { preorder.now ≡ preorder_in bodies.now nodes.now }
+    requires touched { AreOf bodies.now touched.now }
     requires boxes { length boxes.old.boxes ≡ 8 }
+    requires none { (k : ℕ) → slice_index_or done.old k false ≡ false }
     ensures ok { OnOk result (Adds found.old.items found.new.items (crossed (exact_in bodies.now nodes.now) touched.now)) }
     ensures count { IfOk result (λ n. n ≡ raised looked (all_visits_in nodes.now touched.now)) }
 {
+    box_law();
+    let Some(_top) = nodes.root() else {
+        return Ok(looked);
+    };
     let mut rest = touched;
     let mut number = looked;
     'groups: while rest.len() >= GROUP {
         let (group, more) = rest.split_at(GROUP);
-        number = search_group(nodes, bodies, group, boxes, number, found)?;
+        number = search_group(preorder, done, group, boxes, number, found)?;
+        set_done(group, done);
         rest = more;
     }
     let all = search_each(nodes, bodies, rest, number, met, others, found)?;
     Ok(all)
+}
+
+// Marks the slots of a group.
+fn set_done(group: &[(u32, FBox)], done: &mut [bool])
+    ensures { (k : ℕ) → slice_index_or done.new k false ≡ true →
+        (slice_index_or done.old k false || has_slot (map (λ e. e.0) group.now) k) ≡ true }
+{
+    let mut rest = group;
+    'group: while let [(slot, _), more @ ..] = rest {
+        set_mark(*slot, done);
+        rest = more;
+    }
 }
 
 // Searches for touched boxes one by one. `met` and `others` are room.
@@ -272,8 +360,18 @@ fn push_along(nodes: &Nodes, marks: &[bool], at: usize, out: &mut Vec<u32>) -> R
     }
 }
 
+// Marks a slot.
+fn set_mark(slot: u32, marks: &mut [bool])
+    ensures { (k : ℕ) → slice_index_or marks.new k false ≡ true → (slice_index_or marks.old k false || (k == slot)) ≡ true }
+{
+    let slot = slot as usize;
+    if slot < marks.len() {
+        marks[slot] = true;
+    }
+}
+
 // Whether a slot is marked.
-fn is_marked(slot: u32, marks: &[bool]) -> bool
+pub(crate) fn is_marked(slot: u32, marks: &[bool]) -> bool
     ensures { result ≡ slice_index_or marks.now slot false }
 {
     let slot = slot as usize;

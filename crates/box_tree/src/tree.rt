@@ -12,7 +12,7 @@ use crate::descent::descend;
 use crate::leaves::{add_leaf, drop_leaf, relink};
 use crate::renewal::{Room, renew};
 use crate::search::reach;
-use crate::touched::{FEWEST_IN_PIECE, SearchRoom, push_shared, search_run, search_touched};
+use crate::touched::{SearchRoom, push_shared, search_run, search_touched};
 use crate::{MARGIN, Moved};
 use broad_index::{
     BroadPhase, Pair, PairSeeker, Query, holding_laws, join_pieces, keeping_laws, member_laws,
@@ -297,15 +297,7 @@ impl PairSeeker for BoxTree {
         keeping_laws();
         let mut room = SearchRoom::new(alloc);
         let mut found = Vec::new(alloc);
-        let cost = search_run(
-            &self.nodes,
-            &self.bodies,
-            slots,
-            FEWEST_IN_PIECE,
-            0,
-            &mut room,
-            &mut found,
-        )?;
+        let cost = search_run(&self.nodes, &self.bodies, slots, 0, &mut room, &mut found)?;
         // in this thread, so that the pieces are only merged behind
         settle_pairs(&mut found);
         Ok((found, cost))

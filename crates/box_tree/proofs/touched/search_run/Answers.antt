@@ -1,25 +1,30 @@
 -- Searches for the boxes of slots are those for the slots.
-use Rattle.std.proofs.Common.{◌++◌, ◌∙◌, ap, subst}
+use Rattle.std.proofs.Common.{◌≡◌, ◌++◌, ◌∙◌, ap, sym, subst}
 use Rattle.box_tree.specs.Boxes.{raised}
 use Rattle.box_tree.specs.Descent.{exact_in}
-use Rattle.box_tree.specs.Group.{crossed, all_visits_in, Adds}
+use Rattle.box_tree.specs.Group.{crossed, all_visits_in, Adds, AreOf}
 use Rattle.box_tree.specs.Searches.{boxed}
-use Rattle.box_tree.proofs.TouchedPairs.{crossed_boxed, visits_boxed}
+use Rattle.box_tree.proofs.TouchedPairs.{boxed_own, crossed_boxed, visits_boxed}
 use Rattle.box_tree.proofs.touched.search_run.Goals as goal
+
+pub search_groups-requires-clause-touched : goal.search_groups-requires-clause-touched
+search_groups-requires-clause-touched c =
+    let bs = c.args.bodies.now in
+    subst (AreOf bs) (sym (c.in_ok-push_boxes.ensures ∙ ap (λ es. es ++ boxed bs c.args.slots.now) c.clear.ensures.items)) (boxed_own bs c.args.slots.now)
 
 pub returns-clause-ok : goal.returns-clause-ok
 returns-clause-ok c =
     let bs = c.args.bodies.now in
     subst (Adds c.args.found.now.items c.search_groups.new.found.items)
     (ap (crossed (exact_in bs c.args.nodes.now))
-    (c.deref.ensures.value ∙ c.in_ok-push_boxes.ensures ∙ ap (λ es. es ++ boxed bs c.args.slots.now) c.clear.ensures.items)
+    (c.in_ok-push_boxes.ensures ∙ ap (λ es. es ++ boxed bs c.args.slots.now) c.clear.ensures.items)
     ∙ crossed_boxed bs c.args.nodes.now c.args.slots.now)
-    c.in_ok-number-2.ensures.ok
+    c.in_ok-many.ensures.ok
 
 pub returns-clause-count : goal.returns-clause-count
 returns-clause-count c =
     let bs = c.args.bodies.now in
-    c.in_ok-number-2.ensures.count
+    c.in_ok-many.ensures.count
     ∙ ap (λ es. raised c.args.looked (all_visits_in c.args.nodes.now es))
-    (c.deref.ensures.value ∙ c.in_ok-push_boxes.ensures ∙ ap (λ es. es ++ boxed bs c.args.slots.now) c.clear.ensures.items)
+    (c.in_ok-push_boxes.ensures ∙ ap (λ es. es ++ boxed bs c.args.slots.now) c.clear.ensures.items)
     ∙ ap (raised c.args.looked) (visits_boxed bs c.args.nodes.now c.args.slots.now)

@@ -1,5 +1,9 @@
 -- A search of some slots finds their pairs.
-use Rattle.box_tree.proofs.Searching.{inside_of}
+use Rattle.std.proofs.Common.{sym, subst}
+use Rattle.fixed_box.specs.SlotMap.{map_of}
+use Rattle.broad_index.specs.Held.{Holds}
+use Rattle.box_tree.specs.Descent.{exact_in}
+use Rattle.box_tree.proofs.Searching.{inside_of, exact_held}
 use Rattle.box_tree.proofs.SharedSlots.{finds_viewed, finds_settled}
 use Rattle.box_tree.proofs.tree.BoxTreePairSeeker.seek_pairs.Goals as goal
 
@@ -9,6 +13,8 @@ search_run-requires c =
     record {
       inside = inside_of s.nodes s.bodies.items s.fats.items s.numbers.items s.marks.items s.kept.items c.self.invariant c.args.self.now s.looked
           c.self.view_is c.deref.result.now c.deref.ensures.value;
+      held = subst (λ bs. Holds (map_of bs) (exact_in bs s.nodes)) (sym c.deref.ensures.value)
+          (exact_held s.nodes s.bodies.items s.fats.items s.numbers.items s.marks.items s.kept.items c.self.invariant);
     }
 
 pub returns : goal.returns

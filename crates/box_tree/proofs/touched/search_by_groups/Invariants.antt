@@ -1,15 +1,19 @@
-use Rattle.std.proofs.Common.{◌≡◌, ◌<◌, ◌^◌, length, ◌||◌}
+use Rattle.std.proofs.Common.{◌≡◌, ◌<◌, ◌^◌, length, ◌||◌, true}
 use Rattle.broad_index.specs.declared.pair.Pair.{Pair}
 use Rattle.broad_index.specs.Members.{has_pair}
 use Rattle.box_tree.specs.Boxes.{raised}
 use Rattle.box_tree.specs.Descent.{exact_in}
-use Rattle.box_tree.specs.Group.{crossed, all_visits_in}
-use Rattle.box_tree.proofs.touched.search_groups.Given as goal
+use Rattle.box_tree.specs.Group.{crossed, all_visits_in, touched_of, AreOf}
+use Rattle.box_tree.proofs.touched.search_by_groups.Given as goal
 
 abbrev pub invariant-groups : goal.invariant-groups
 invariant-groups l = record {
   found : (p : Pair) → (has_pair l.found.items p || has_pair (crossed (exact_in l.bodies l.nodes) l.rest) p)
       ≡ (has_pair l.fn.found.items p || has_pair (crossed (exact_in l.bodies l.nodes) l.touched) p);
+  -- the pairs of slots that are done were found
+  older : (p : Pair) → has_pair (crossed (exact_in l.bodies l.nodes) (touched_of l.done (exact_in l.bodies l.nodes))) p ≡ true
+      → has_pair l.found.items p ≡ true;
+  own : AreOf l.bodies l.rest;
   count : raised l.number (all_visits_in l.nodes l.rest) ≡ raised l.fn.looked (all_visits_in l.nodes l.touched);
   fits : l.number < 2 ^ 64;
   boxes : length l.boxes.boxes ≡ 8;
