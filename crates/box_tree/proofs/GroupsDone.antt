@@ -83,7 +83,7 @@ module _ (p : Pair) where
   cross_done old new gs es [] from h = cc
   cross_done old new gs es (x ∷ xs) from h =
       by_mark (get_or new x.0 false) refl (subst (λ b. any_cross p (cond b (x ∷ touched_of new xs) (touched_of new xs)) es ≡ true) refl h)
-        (cross_done old new gs es xs from.1)
+      (cross_done old new gs es xs from.1)
     where
       later : (d : Bool) → (any_cross p (touched_of old xs) es || any_cross p gs es) ≡ true
           → (any_cross p (cond d (x ∷ touched_of old xs) (touched_of old xs)) es || any_cross p gs es) ≡ true
@@ -137,7 +137,7 @@ module _ (bodies : List (Option Bounds)) where
   all_from old new gs own marked [] are = tt
   all_from old new gs own marked (x ∷ xs) are = (
     λ h. ⊎_elim (λ was. inl was) (λ slot. inr (own_entry x gs own are.0 slot))
-    (or_cases (get_or old x.0 false) (has_slot (map (λ (e : ℕ × Bounds). e.0) gs) x.0) (marked x.0 h)),
+        (or_cases (get_or old x.0 false) (has_slot (map (λ (e : ℕ × Bounds). e.0) gs) x.0) (marked x.0 h)),
     all_from old new gs own marked xs are.1,
   )
 

@@ -6,6 +6,7 @@ ghost use Rattle.tree_nodes.specs.Stored.{Holds, StandsAt, Apart, KeepsKeys};
 ghost use Rattle.tree_nodes.specs.Tree.{Tree, count_of};
 
 use crate::NodeView;
+use crate::kin::Kin;
 use crate::node_slab::height_at;
 use crate::refitting::refit;
 use crate::rotation::rotate_up;
@@ -14,7 +15,7 @@ use slab::Slab;
 // Puts two trees below a node and rebalances it, for a call that added or dropped a leaf in one of them.
 pub(crate) fn adjust(
     slab: &mut Slab<NodeView>,
-    parents: &mut [usize],
+    kin: &mut [Kin],
     at: usize,
     left: usize,
     right: usize,
@@ -26,13 +27,13 @@ pub(crate) fn adjust(
         Holds slab.old v → Holds slab.new v }
     ensures keys { KeepsKeys slab.old slab.new }
 {
-    rebalance(slab, parents, at, left, right)
+    rebalance(slab, kin, at, left, right)
 }
 
 // Puts two trees below a node whose heights differ by at most two, and rotates where they differ by two.
 fn rebalance(
     slab: &mut Slab<NodeView>,
-    parents: &mut [usize],
+    kin: &mut [Kin],
     at: usize,
     left: usize,
     right: usize,
@@ -47,11 +48,11 @@ fn rebalance(
     let l = height_at(slab, left);
     let r = height_at(slab, right);
     if l > r + 1 {
-        return rotate_up(slab, parents, at, right, left);
+        return rotate_up(slab, kin, at, right, left);
     }
     if r > l + 1 {
-        return rotate_up(slab, parents, at, left, right);
+        return rotate_up(slab, kin, at, left, right);
     }
-    refit(slab, parents, at, left, right);
+    refit(slab, kin, at, left, right);
     at
 }

@@ -6,6 +6,7 @@ ghost use Rattle.tree_nodes.specs.Tree.{Tree, count_of, one, leaves_in};
 ghost use Rattle.fixed_box.specs.Bounds.{Bounds};
 
 use crate::adjusting::adjust;
+use crate::kin::Kin;
 use crate::nearness::by_distance;
 use crate::refitting::refit;
 use crate::{MOST_NODES, NodeView};
@@ -15,7 +16,7 @@ use slab::Slab;
 // Puts a leaf into the slab and its tree. Answers the leaf and the new root.
 pub(crate) fn insert_leaf(
     slab: &mut Slab<NodeView>,
-    parents: &mut [usize],
+    kin: &mut [Kin],
     root: Option<usize>,
     slot: u32,
     fat: FBox,
@@ -35,10 +36,7 @@ pub(crate) fn insert_leaf(
         None => (leaf, leaf),
         Some(at) => {
             let new_parent = slab.insert_reserved(NodeView::Leaf { slot, fat });
-            (
-                leaf,
-                insert_below(slab, parents, at, leaf, new_parent, &fat),
-            )
+            (leaf, insert_below(slab, kin, at, leaf, new_parent, &fat))
         }
     }
 }
@@ -46,7 +44,7 @@ pub(crate) fn insert_leaf(
 // Puts a leaf into a tree, below the nearer child at each node, with the new parent over it.
 fn insert_below(
     slab: &mut Slab<NodeView>,
-    parents: &mut [usize],
+    kin: &mut [Kin],
     at: usize,
     leaf: usize,
     new_parent: usize,
@@ -62,7 +60,7 @@ fn insert_below(
 {
     match slab[at] {
         NodeView::Leaf { slot: _, fat: _ } => {
-            refit(slab, parents, new_parent, at, leaf);
+            refit(slab, kin, new_parent, at, leaf);
             new_parent
         }
         NodeView::Inner {
@@ -72,8 +70,8 @@ fn insert_below(
             height: _,
         } => {
             let (down, stay) = by_distance(slab, left, right, fat);
-            let below = insert_below(slab, parents, down, leaf, new_parent, fat);
-            adjust(slab, parents, at, below, stay)
+            let below = insert_below(slab, kin, down, leaf, new_parent, fat);
+            adjust(slab, kin, at, below, stay)
         }
     }
 }

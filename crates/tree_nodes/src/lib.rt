@@ -5,6 +5,7 @@
 
 mod adjusting;
 mod insertion;
+mod kin;
 mod laws;
 mod leaf_key;
 mod median;

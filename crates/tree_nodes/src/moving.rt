@@ -5,6 +5,7 @@ ghost use Rattle.tree_nodes.specs.Path.{ToMove};
 ghost use Rattle.tree_nodes.specs.Stored.{Holds, SoundIn, tree_of, StandsAt, Apart, KeepsKeys};
 ghost use Rattle.tree_nodes.specs.Tree.{Tree, bounds, count_of, IsLeafOf};
 
+use crate::kin::Kin;
 use crate::node_slab::{bounds_at, replace};
 use crate::path::{Path, path_to};
 use crate::refitting::refit;
@@ -18,7 +19,7 @@ use std::alloc::Global;
 // Gives a leaf of the slab's tree another box, and refits the nodes above it.
 pub(crate) fn move_in_place(
     slab: &mut Slab<NodeView>,
-    parents: &mut [usize],
+    kin: &mut [Kin],
     root: Option<usize>,
     node: usize,
     fat: &FBox,
@@ -33,10 +34,10 @@ pub(crate) fn move_in_place(
     let Some(at) = root else {
         return;
     };
-    if resize(slab, parents, at, node, fat, MOST_HEIGHT) {
+    if resize(slab, kin, at, node, fat, MOST_HEIGHT) {
         return;
     }
-    move_from_root(slab, parents, root, node, fat, alloc);
+    move_from_root(slab, kin, root, node, fat, alloc);
 }
 
 // The same from the root down, along a path that is searched where the noted parents don't lead.
@@ -44,7 +45,7 @@ pub(crate) fn move_in_place(
 #[inline(never)]
 fn move_from_root(
     slab: &mut Slab<NodeView>,
-    parents: &mut [usize],
+    kin: &mut [Kin],
     root: Option<usize>,
     node: usize,
     fat: &FBox,
@@ -60,15 +61,15 @@ fn move_from_root(
         return;
     };
     let mut path: Path = SmallVec::new(alloc);
-    path_to(slab, parents, at, node, &mut path);
-    move_below(slab, parents, at, path.as_slice(), fat);
+    path_to(slab, kin, at, node, &mut path);
+    move_below(slab, kin, at, path.as_slice(), fat);
 }
 
 // Gives the leaf at the end of a path another box, and refits the nodes above it, up to one whose hull stays. Answers
 // whether the bounds of the top may be others now.
 fn move_below(
     slab: &mut Slab<NodeView>,
-    parents: &mut [usize],
+    kin: &mut [Kin],
     at: usize,
     path: &[usize],
     fat: &FBox,
@@ -98,10 +99,10 @@ fn move_below(
             let [next, rest @ ..] = path else {
                 return false;
             };
-            if !move_below(slab, parents, *next, rest, fat) {
+            if !move_below(slab, kin, *next, rest, fat) {
                 return false;
             }
-            refit(slab, parents, at, left, right);
+            refit(slab, kin, at, left, right);
             bounds_at(slab, at) != hull
         }
     }

@@ -7,6 +7,7 @@ ghost use Rattle.tree_nodes.specs.Moved.{moved, leaf_moved};
 ghost use Rattle.tree_nodes.specs.declared.node_view.NodeView.TheVariants.{Leaf as LeafNode};
 
 use crate::insertion::insert_leaf;
+use crate::kin::Kin;
 use crate::leaf_key::LeafKey;
 use crate::moving::move_in_place;
 use crate::node_slab::height_at;
@@ -34,9 +35,8 @@ pub struct Nodes {
     slab: Slab<NodeView>,
     root: Option<usize>,
     alloc: Global,
-    // Where the parent of each node stands. A way up or a path down that follows these is checked as it is walked, and
-    // searched afresh where they lead elsewhere, so no promise rests on them.
-    parents: Vec<usize>,
+    // For each node where its parent and its sibling stand.
+    kin: Vec<Kin>,
     // Room for a rebuild: the leaves, and the numbers of the inner nodes.
     keys: Vec<LeafKey>,
     inner: Vec<usize>,
@@ -69,7 +69,7 @@ impl Nodes {
             slab: Slab::with_capacity(alloc, MOST_NODES)?,
             root: None,
             alloc,
-            parents: vec![in alloc; 0usize; MOST_NODES]?,
+            kin: vec![in alloc; Kin::new(0, 0); MOST_NODES]?,
             keys: Vec::with_capacity(alloc, SLOTS as usize)?,
             inner: Vec::with_capacity(alloc, SLOTS as usize)?,
         })
@@ -86,7 +86,7 @@ impl Nodes {
             view_in self.new other ≡ Some (LeafNode s b) }
         ensures tree { IsTreeIn self.new }
     {
-        let (leaf, root) = insert_leaf(&mut self.slab, &mut self.parents, self.root, slot, fat);
+        let (leaf, root) = insert_leaf(&mut self.slab, &mut self.kin, self.root, slot, fat);
         self.root = Some(root);
         leaf
     }
@@ -100,13 +100,7 @@ impl Nodes {
             other ≢ node → view_in self.new other ≡ Some (LeafNode s b) }
         ensures tree { IsTreeIn self.new }
     {
-        self.root = remove_leaf(
-            &mut self.slab,
-            &mut self.parents,
-            self.root,
-            node,
-            self.alloc,
-        );
+        self.root = remove_leaf(&mut self.slab, &mut self.kin, self.root, node, self.alloc);
     }
 
     /// Gives a leaf another box in its place: each node keeps its number, its place and its height. The hulls above the
@@ -125,7 +119,7 @@ impl Nodes {
     {
         move_in_place(
             &mut self.slab,
-            &mut self.parents,
+            &mut self.kin,
             self.root,
             node,
             &fat,
@@ -148,7 +142,7 @@ impl Nodes {
     {
         let (root, count) = rebuild_tree(
             &mut self.slab,
-            &mut self.parents,
+            &mut self.kin,
             self.root,
             &mut self.keys,
             &mut self.inner,

@@ -4,6 +4,7 @@ ghost use Rattle.tree_nodes.specs.Tree.{Tree, view_at};
 ghost use Rattle.fixed_box.specs.Bounds.{Bounds};
 ghost use Rattle.tree_nodes.specs.declared.node_view.NodeView.TheVariants.{Leaf as LeafNode};
 
+use crate::kin::Kin;
 use crate::laws::tree_laws;
 use crate::{MOST_HEIGHT, NodeView};
 use fixed_box::FBox;
@@ -14,13 +15,7 @@ use smallvec::SmallVec;
 pub(crate) type Path = SmallVec<usize, 32>;
 
 // The path from the root to a leaf: the noted one where it leads there, else the one that a search finds.
-pub(crate) fn path_to(
-    slab: &Slab<NodeView>,
-    parents: &[usize],
-    root: usize,
-    node: usize,
-    path: &mut Path,
-)
+pub(crate) fn path_to(slab: &Slab<NodeView>, kin: &[Kin], root: usize, node: usize, path: &mut Path)
     requires tree { (t : Tree) × ToSearch slab.now root t ×
         (s : ℕ) × (b : Bounds) × (view_at t node ≡ Some (LeafNode s b)) }
     requires empty { path.old.items ≡ [] }
@@ -28,7 +23,7 @@ pub(crate) fn path_to(
     ensures { (t : Tree) (s : ℕ) (b : Bounds) → ToSearch slab.now root t → view_at t node ≡ Some (LeafNode s b) →
         Leads t path.new.items node }
 {
-    follow_parents(parents, root, node, path);
+    follow_parents(kin, root, node, path);
     if leads_to(slab, root, node, path.as_slice()) {
         return;
     }
@@ -40,7 +35,7 @@ pub(crate) fn path_to(
 }
 
 // The path down to a node, as the noted parents tell it.
-fn follow_parents(parents: &[usize], root: usize, node: usize, path: &mut Path)
+fn follow_parents(kin: &[Kin], root: usize, node: usize, path: &mut Path)
     requires empty { path.old.items ≡ [] }
     requires room { path.old.capacity ≡ 32 }
     ensures capacity { path.new.capacity ≡ path.old.capacity }
@@ -48,8 +43,8 @@ fn follow_parents(parents: &[usize], root: usize, node: usize, path: &mut Path)
     let mut at = node;
     'follow_parents: while at != root && path.len() < MOST_HEIGHT as usize {
         path.push_reserved(at);
-        at = match parents.get(at) {
-            Some(parent) => *parent,
+        at = match kin.get(at) {
+            Some(kin) => kin.parent(),
             None => root,
         };
     }

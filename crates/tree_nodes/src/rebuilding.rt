@@ -8,6 +8,7 @@ ghost use Rattle.tree_nodes.specs.Stored.{SoundIn, tree_of, KeepsKeys};
 ghost use Rattle.tree_nodes.specs.Tree.{Tree, leaves, leaves_in, height_in};
 
 use crate::NodeView;
+use crate::kin::Kin;
 use crate::leaf_key::{LeafKey, centre};
 use crate::median::divide;
 use crate::refitting::refit;
@@ -17,7 +18,7 @@ use slab::Slab;
 // room.
 pub(crate) fn rebuild_tree(
     slab: &mut Slab<NodeView>,
-    parents: &mut [usize],
+    kin: &mut [Kin],
     root: Option<usize>,
     keys: &mut Vec<LeafKey>,
     inner: &mut Vec<usize>,
@@ -42,7 +43,7 @@ pub(crate) fn rebuild_tree(
     gather(slab, at, keys, inner);
     order(inner);
     let count = keys.len();
-    (Some(build(slab, parents, keys, inner)), count)
+    (Some(build(slab, kin, keys, inner)), count)
 }
 
 // Appends the leaves of a tree, and the numbers of its inner nodes.
@@ -86,12 +87,7 @@ fn order(numbers: &mut Vec<usize>)
 
 // Builds a tree of some leaves from the top down, with half of them below each child, and answers its top. It writes to
 // the inner nodes alone, one fewer than there are leaves. As halves differ by at most one leaf, the tree is balanced.
-fn build(
-    slab: &mut Slab<NodeView>,
-    parents: &mut [usize],
-    keys: &mut [LeafKey],
-    inner: &[usize],
-) -> usize
+fn build(slab: &mut Slab<NodeView>, kin: &mut [Kin], keys: &mut [LeafKey], inner: &[usize]) -> usize
     requires { ToBuild slab.old (numbers keys.old) inner.now }
     ensures there { (t : Tree) × Built slab.old slab.new result (numbers keys.old) inner.now t }
     ensures others { (k : ℕ) → uses inner.now k ≡ 0 → get slab.new k ≡ get slab.old k }
@@ -104,8 +100,8 @@ fn build(
     divide(keys, middle);
     let (front, back) = keys.split_at_mut(middle);
     let (front_inner, back_inner) = rest.split_at(middle - 1);
-    let left = build(slab, parents, front, front_inner);
-    let right = build(slab, parents, back, back_inner);
-    refit(slab, parents, *at, left, right);
+    let left = build(slab, kin, front, front_inner);
+    let right = build(slab, kin, back, back_inner);
+    refit(slab, kin, *at, left, right);
     *at
 }

@@ -6,13 +6,14 @@ ghost use Rattle.tree_nodes.specs.Stored.{Holds, KeepsKeys};
 ghost use Rattle.tree_nodes.specs.Tree.{Tree, count_of};
 
 use crate::NodeView;
+use crate::kin::Kin;
 use crate::node_slab::{bounds_at, height_at, replace};
 use slab::Slab;
 
 // Puts two trees below a node, with the hull and the height that they give it.
 pub(crate) fn refit(
     slab: &mut Slab<NodeView>,
-    parents: &mut [usize],
+    kin: &mut [Kin],
     at: usize,
     left: usize,
     right: usize,
@@ -35,13 +36,13 @@ pub(crate) fn refit(
             height,
         },
     );
-    note_parent(parents, left, at);
-    note_parent(parents, right, at);
+    note_kin(kin, left, Kin::new(at, right));
+    note_kin(kin, right, Kin::new(at, left));
 }
 
-// Notes where the parent of a node stands.
-fn note_parent(parents: &mut [usize], key: usize, parent: usize) {
-    if let Some(place) = parents.get_mut(key) {
-        *place = parent;
+// Notes the kin of a node.
+fn note_kin(kin: &mut [Kin], key: usize, now: Kin) {
+    if let Some(place) = kin.get_mut(key) {
+        *place = now;
     }
 }

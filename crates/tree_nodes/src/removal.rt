@@ -8,6 +8,7 @@ ghost use Rattle.tree_nodes.specs.declared.node_view.NodeView.TheVariants.{Leaf 
 
 use crate::NodeView;
 use crate::adjusting::adjust;
+use crate::kin::Kin;
 use crate::path::{Path, path_to};
 use slab::Slab;
 use smallvec::SmallVec;
@@ -16,7 +17,7 @@ use std::alloc::Global;
 // Takes a leaf out of the slab and its tree. Answers the new root.
 pub(crate) fn remove_leaf(
     slab: &mut Slab<NodeView>,
-    parents: &mut [usize],
+    kin: &mut [Kin],
     root: Option<usize>,
     node: usize,
     alloc: Global,
@@ -33,14 +34,14 @@ pub(crate) fn remove_leaf(
         return None;
     };
     let mut path: Path = SmallVec::new(alloc);
-    path_to(slab, parents, at, node, &mut path);
-    remove_at(slab, parents, at, node, path.as_slice())
+    path_to(slab, kin, at, node, &mut path);
+    remove_at(slab, kin, at, node, path.as_slice())
 }
 
 // Takes the leaf at the end of a path out of the slab and its tree. Answers the new root.
 fn remove_at(
     slab: &mut Slab<NodeView>,
-    parents: &mut [usize],
+    kin: &mut [Kin],
     root: usize,
     node: usize,
     path: &[usize],
@@ -55,7 +56,7 @@ fn remove_at(
         slab.remove(root);
         return None;
     };
-    let (above, freed) = remove_below(slab, parents, root, *next, rest);
+    let (above, freed) = remove_below(slab, kin, root, *next, rest);
     slab.remove(node);
     slab.remove(freed);
     Some(above)
@@ -64,7 +65,7 @@ fn remove_at(
 // Takes the leaf at the end of a path out of a tree, and its parent with it. Answers the new top, and the parent.
 fn remove_below(
     slab: &mut Slab<NodeView>,
-    parents: &mut [usize],
+    kin: &mut [Kin],
     at: usize,
     next: usize,
     path: &[usize],
@@ -88,8 +89,8 @@ fn remove_below(
             let [after, rest @ ..] = path else {
                 return (stay, at);
             };
-            let (below, freed) = remove_below(slab, parents, down, *after, rest);
-            (adjust(slab, parents, at, below, stay), freed)
+            let (below, freed) = remove_below(slab, kin, down, *after, rest);
+            (adjust(slab, kin, at, below, stay), freed)
         }
     }
 }

@@ -7,6 +7,7 @@ ghost use Rattle.tree_nodes.specs.Tree.{Tree, top, count_of};
 ghost use Rattle.tree_nodes.specs.declared.resizing.Above.TheVariants.{Stays, Changes};
 
 use crate::NodeView;
+use crate::kin::Kin;
 use crate::node_slab::bounds_at;
 use fixed_box::FBox;
 use slab::Slab;
@@ -25,7 +26,7 @@ enum Above {
 // writes nothing before it stands at such a node or at the root: where they don't lead there, it answers false.
 pub(crate) fn resize(
     slab: &mut Slab<NodeView>,
-    parents: &[usize],
+    kin: &[Kin],
     root: usize,
     at: usize,
     bounds: &FBox,
@@ -41,7 +42,7 @@ pub(crate) fn resize(
         write_bounds(slab, at, bounds);
         return true;
     }
-    match change_above(slab, parents, at, bounds) {
+    match change_above(slab, kin, at, bounds) {
         Above::Stays => {
             write_bounds(slab, at, bounds);
             true
@@ -50,7 +51,7 @@ pub(crate) fn resize(
             if levels == 0 {
                 return false;
             }
-            if !resize(slab, parents, root, parent, &hull, levels - 1) {
+            if !resize(slab, kin, root, parent, &hull, levels - 1) {
                 return false;
             }
             write_bounds(slab, at, bounds);
@@ -60,18 +61,20 @@ pub(crate) fn resize(
     }
 }
 
-// The noted parent of a node that gets other bounds, where it is one, and its hull then.
-fn change_above(slab: &Slab<NodeView>, parents: &[usize], at: usize, bounds: &FBox) -> Above
+// The noted parent of a node that gets other bounds, where it has this child and the noted sibling, and its hull then.
+fn change_above(slab: &Slab<NodeView>, kin: &[Kin], at: usize, bounds: &FBox) -> Above
     requires { (t : Tree) × Sound slab.now t }
     ensures stays { (t : Tree) → Sound slab.now t → result ≡ Stays →
         (parent : ℕ) × (hull : Bounds) × Raises t at parent bounds.now hull hull }
     ensures changes { (t : Tree) (parent : ℕ) (raised : Bounds) → Sound slab.now t → result ≡ Changes parent raised →
         (hull : Bounds) × Raises t at parent bounds.now hull raised }
 {
-    let Some(noted) = parents.get(at) else {
+    let Some(own) = kin.get(at) else {
         return Above::Unknown;
     };
-    let parent = *noted;
+    // Both are read at once: the sibling needn't wait for the parent to tell its number.
+    let parent = own.parent();
+    let sibling = own.sibling();
     match slab.get(parent) {
         Some(
             NodeView::Inner {
@@ -82,12 +85,15 @@ fn change_above(slab: &Slab<NodeView>, parents: &[usize], at: usize, bounds: &FB
             },
         ) => {
             if *left == at {
-                let raised = bounds.union(&bounds_at(slab, *right));
-                return change_of(parent, hull, &raised);
-            }
-            if *right == at {
-                let raised = bounds_at(slab, *left).union(bounds);
-                return change_of(parent, hull, &raised);
+                if *right == sibling {
+                    let raised = bounds.union(&bounds_at(slab, sibling));
+                    return change_of(parent, hull, &raised);
+                }
+            } else if *right == at {
+                if *left == sibling {
+                    let raised = bounds_at(slab, sibling).union(bounds);
+                    return change_of(parent, hull, &raised);
+                }
             }
             Above::Unknown
         }

@@ -4,6 +4,7 @@ ghost use Rattle.tree_nodes.specs.Stored.{Holds, StandsAt, KeepsKeys};
 ghost use Rattle.tree_nodes.specs.Tree.{Tree, Balanced, top, height, count_of};
 
 use crate::NodeView;
+use crate::kin::Kin;
 use crate::node_slab::height_at;
 use crate::refitting::refit;
 use slab::Slab;
@@ -12,7 +13,7 @@ use slab::Slab;
 // goes down to the two lower trees.
 pub(crate) fn rotate_up(
     slab: &mut Slab<NodeView>,
-    parents: &mut [usize],
+    kin: &mut [Kin],
     at: usize,
     low: usize,
     high: usize,
@@ -26,7 +27,7 @@ pub(crate) fn rotate_up(
 {
     match slab[high] {
         NodeView::Leaf { slot: _, fat: _ } => {
-            refit(slab, parents, at, low, high);
+            refit(slab, kin, at, low, high);
             at
         }
         NodeView::Inner {
@@ -36,7 +37,7 @@ pub(crate) fn rotate_up(
             height: _,
         } => {
             let (below, above) = by_height(slab, left, right);
-            rotate(slab, parents, high, at, low, below, above);
+            rotate(slab, kin, high, at, low, below, above);
             high
         }
     }
@@ -59,7 +60,7 @@ fn by_height(slab: &Slab<NodeView>, left: usize, right: usize) -> (usize, usize)
 // refitted, the lower one first.
 pub(crate) fn rotate(
     slab: &mut Slab<NodeView>,
-    parents: &mut [usize],
+    kin: &mut [Kin],
     high: usize,
     at: usize,
     low: usize,
@@ -72,6 +73,6 @@ pub(crate) fn rotate(
     ensures kept { (t : Tree) → count_of t at ≡ 0 → count_of t high ≡ 0 → Holds slab.old t → Holds slab.new t }
     ensures keys { KeepsKeys slab.old slab.new }
 {
-    refit(slab, parents, at, low, left);
-    refit(slab, parents, high, at, right);
+    refit(slab, kin, at, low, left);
+    refit(slab, kin, high, at, right);
 }
