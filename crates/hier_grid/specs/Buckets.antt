@@ -1,10 +1,9 @@
 -- Definitions: boxes beside their slots by bucket, and what is found among them.
-use Rattle.std.specs.Prelude.{◌≡◌, ℕ, Bool, true, not, ◌&&◌, ◌||◌, ◌==◌, nat_lt, List, map, filter, Some, All}
+use Rattle.std.specs.Prelude.{◌≡◌, Bool, not, ◌&&◌, ◌||◌, ◌==◌, nat_lt, List, map, filter, Some, All}
 use Rattle.std.specs.Ordering.{nat_cmp}
 use Rattle.std.specs.FinMap.{FinMap, get}
 use Rattle.fixed_box.specs.Bounds.{Bounds, meets}
 use Rattle.broad_index.specs.declared.pair.Pair.{Pair}
-use Rattle.broad_index.specs.Members.{has_pair}
 use Rattle.broad_index.specs.Touched.{ordered}
 use Rattle.cell_table.specs.declared.cell_key.CellKey.{CellKey}
 use Rattle.cell_table.specs.Listed.{Lists}
@@ -12,7 +11,7 @@ use Rattle.hier_grid.specs.declared.bucket_boxes.BucketBoxes.{BucketBoxes}
 use Rattle.hier_grid.specs.declared.bucket_boxes.SlotBox.{SlotBox}
 use Rattle.hier_grid.specs.Cells.{cell_of}
 use Rattle.hier_grid.specs.Grid.{AreKeyed}
-use Rattle.hier_grid.specs.Search.{IsSound}
+use Rattle.hier_grid.specs.Search.{FindsWhere, IsSound}
 
 -- beside each slot stands its box
 abbrev pub AreOf : FinMap nat_cmp Bounds → List SlotBox → Type 0
@@ -42,5 +41,4 @@ StaysSound boxes own old new =
 -- the pairs of a slot with its partners in some cells were found, whichever boxes were copied
 abbrev pub FindsIn : BucketBoxes → SlotBox → Bool → (CellKey → Type 0) → List Pair → Type 0
 FindsIn boxes own any IsThere found =
-    (bodies : FinMap nat_cmp Bounds) → HasBuckets bodies boxes → (q : ℕ) (b : Bounds) → get bodies q ≡ Some b → IsThere (cell_of b)
-    → meets own.body b ≡ true → not (q == own.slot) ≡ true → (any || nat_lt own.slot q) ≡ true → has_pair found (ordered own.slot q) ≡ true
+    (bodies : FinMap nat_cmp Bounds) → HasBuckets bodies boxes → FindsWhere bodies own any (λ _ b. IsThere (cell_of b)) found

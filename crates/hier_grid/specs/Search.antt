@@ -7,6 +7,7 @@ use Rattle.broad_index.specs.declared.pair.Pair.{Pair}
 use Rattle.broad_index.specs.Members.{has_pair, has_slot, both_meet, is_near}
 use Rattle.broad_index.specs.Touched.{ordered}
 use Rattle.cell_table.specs.declared.cell_key.CellKey.{CellKey}
+use Rattle.hier_grid.specs.declared.bucket_boxes.SlotBox.{SlotBox}
 use Rattle.hier_grid.specs.declared.cell_row.CellRow.{CellRow}
 use Rattle.hier_grid.specs.declared.nearby.Nearby.{Nearby}
 use Rattle.hier_grid.specs.Cells.{cell_of, cell_on, IsAfter, IsInRows}
@@ -30,6 +31,10 @@ IsNearby near q b = (has_slot near.slots.items q ≡ true) ⊎ IsInRows near.row
 -- what was near still is
 abbrev pub StaysNearby : Nearby → Nearby → Type 0
 StaysNearby old new = (q : ℕ) (b : Bounds) → IsNearby old q b → IsNearby new q b
+
+-- what is near is in a list
+abbrev pub HasNearby : FinMap nat_cmp Bounds → Nearby → List ℕ → Type 0
+HasNearby bodies near slots = (q : ℕ) (b : Bounds) → get bodies q ≡ Some b → IsNearby near q b → has_slot slots q ≡ true
 
 -- the slots of a level whose boxes meet a region are in a list
 abbrev pub HasMet : FinMap nat_cmp Bounds → ℕ → Bounds → List ℕ → Type 0
@@ -87,6 +92,12 @@ IsSound bodies pairs = (p : Pair) → has_pair pairs p ≡ true → is_near bodi
 -- what was found is still there
 abbrev pub HasPairs : List Pair → List Pair → Type 0
 HasPairs old new = (p : Pair) → has_pair old p ≡ true → has_pair new p ≡ true
+
+-- the pairs of a slot with its partners there were found, either any or those with higher slots alone
+abbrev pub FindsWhere : FinMap nat_cmp Bounds → SlotBox → Bool → (ℕ → Bounds → Type 0) → List Pair → Type 0
+FindsWhere bodies own any IsThere found =
+    (q : ℕ) (b : Bounds) → get bodies q ≡ Some b → IsThere q b → meets own.body b ≡ true → not (q == own.slot) ≡ true → (any || nat_lt own.slot q) ≡ true
+    → has_pair found (ordered own.slot q) ≡ true
 
 -- the pairs of a slot with boxes of higher levels or in later cells were found
 abbrev pub FindsOthers : FinMap nat_cmp Bounds → ℕ → Bounds → List Pair → Type 0

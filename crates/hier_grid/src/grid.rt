@@ -25,8 +25,9 @@ use std::marker::Model;
 /// at half of the cells about it, and in one cell from the lower slot. Where a level has fewer boxes than cells lie beside
 /// a box, all of them are compared with it in place of a look at those cells.
 ///
-/// A search copies all boxes once in the order of the buckets of their cells, in 28 bytes each, and so does each piece of
-/// `pairs_with`. That walks over 16,384 buckets, however few boxes there are.
+/// A search from 1,024 slots or more, and so each such piece of `pairs_with`, copies all boxes once in the order of the
+/// buckets of their cells, in 28 bytes each. That walks over 16,384 buckets. A search from fewer slots, and a query, follow
+/// the links between the slots of a bucket instead.
 ///
 /// Only `new`, `pairs`, `pairs_with` and `hits` take memory; `add`, `shift` and `leave` take a time that doesn't grow with
 /// the number of boxes.

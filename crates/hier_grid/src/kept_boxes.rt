@@ -2,7 +2,7 @@ ghost use Rattle.std.specs.Prelude.{◌≡◌, ℕ, ◌<◌, ◌≤◌, true, fa
 ghost use Rattle.std.specs.FinMap as map;
 ghost use Rattle.fixed_box.specs.Bounds.{Bounds, meets};
 ghost use Rattle.hier_grid.specs.Grid.{AreKeyed, IsSized};
-ghost use Rattle.hier_grid.specs.Search.{HasMetIn, IsAbove, IsBare, NearsAfter, NearsIn, NearsLevel, StaysNearby};
+ghost use Rattle.hier_grid.specs.Search.{HasMetIn, HasNearby, IsAbove, IsBare, NearsAfter, NearsIn, NearsLevel, StaysNearby};
 ghost use Rattle.broad_index.specs.Space.{space};
 
 use crate::cell::cell_of;
@@ -155,6 +155,14 @@ impl KeptBoxes {
         ensures { OnOk result (HasMetIn self.now 0 LEVELS region.now near.new.slots.items) }
     {
         self.push_from(0, self.levels_end(), region, near)?;
+        self.push_rows(near)?;
+        Ok(())
+    }
+
+    /// Appends the slots in the rows of cells that are near, and others that share their buckets.
+    pub(crate) fn push_rows(&self, near: &mut Nearby) -> Result<(), NoMemory>
+        ensures { OnOk result (HasNearby self.now near.old near.new.slots.items) }
+    {
         visit_rows(&self.cells, &near.rows, &mut near.slots)?;
         Ok(())
     }

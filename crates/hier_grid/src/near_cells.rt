@@ -105,8 +105,12 @@ pub(crate) fn visit_rows(
     Ok(())
 }
 
-// The same of one row.
-fn visit_row(cells: &CellTable, row: &CellRow, out: &mut Vec<u32>) -> Result<(), NoMemory>
+/// The same of one row.
+pub(crate) fn visit_row(
+    cells: &CellTable,
+    row: &CellRow,
+    out: &mut Vec<u32>,
+) -> Result<(), NoMemory>
     ensures more { OnOk result (HasMore out.old.items out.new.items) }
     ensures found { OnOk result ((k : key.CellKey) → IsInRow row.now k → HasCell cells.now k out.new.items) }
 {

@@ -3,24 +3,17 @@ use Rattle.std.proofs.Common.{◌≡◌, true, sym, ◌∙◌, subst, inl, inr}
 use Rattle.broad_index.specs.Members.{has_pair}
 use Rattle.broad_index.specs.Touched.{ordered}
 use Rattle.hier_grid.specs.Cells.{IsInRow}
-use Rattle.hier_grid.proofs.BucketLemmas.{even}
 use Rattle.hier_grid.proofs.PartnerLemmas.{higher}
 use Rattle.hier_grid.proofs.pair_search.find_from.Goals as goal
 
-pub find_in_row-requires : goal.find_in_row-requires
-find_in_row-requires c = even c.args.kept.now c.args.boxes.now c.requires.filled
-
-pub find_others-requires-clause-sound : goal.find_others-requires-clause-sound
-find_others-requires-clause-sound c = c.in_ok-find_in_row.ensures.sound c.args.kept.now c.requires.filled c.requires.own c.requires.sound
-
 pub returns-clause-more : goal.returns-clause-more
-returns-clause-more c p h = c.in_ok-find_others.ensures.more p (c.in_ok-find_in_row.ensures.more p h)
+returns-clause-more c p h = c.in_ok-find_others.ensures.more p (c.in_ok-find_own.ensures.more p h)
 
 pub returns-clause-found : goal.returns-clause-found
 returns-clause-found c q b e m other due =
     let slot = c.args.own.now.slot in
     elim due as (λ _. has_pair c.find_others.new.pairs.items (ordered slot q) ≡ true) [
-      | inl same ↦ c.in_ok-find_others.ensures.more (ordered slot q) (c.in_ok-find_in_row.ensures.found c.args.kept.now c.requires.filled q b e
+      | inl same ↦ c.in_ok-find_others.ensures.more (ordered slot q) (c.in_ok-find_own.ensures.found q b e
           (subst (IsInRow c.row_of.result) (c.cell_of-cell.ensures.value ∙ sym same.0) c.row_of.ensures) m other (higher slot q same.1))
       | inr o ↦ c.in_ok-find_others.ensures.found q b e m other o
     ]

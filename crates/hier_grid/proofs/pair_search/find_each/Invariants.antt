@@ -1,15 +1,13 @@
 -- What is found is right, and each slot is among the rest or done.
 use Rattle.std.proofs.Common.{ℕ, ◌≡◌, ◌⊎◌, true, length}
 use Rattle.broad_index.specs.Members.{has_slot}
-use Rattle.hier_grid.specs.Buckets.{HasBuckets}
 use Rattle.hier_grid.specs.Search.{IsSound, FindsFor}
-use Rattle.hier_grid.proofs.pair_search.find_run.Given as goal
+use Rattle.hier_grid.proofs.pair_search.find_each.Given as goal
 
 abbrev pub invariant-slots : goal.invariant-slots
 invariant-slots l = record {
-  filled : HasBuckets l.kept l.found.boxes;
-  sound : IsSound l.kept l.found.pairs.items;
-  whole : (s : ℕ) → has_slot l.slots s ≡ true → (has_slot l.rest s ≡ true) ⊎ FindsFor l.kept s l.found.pairs.items;
+  sound : IsSound l.kept l.pairs.items;
+  whole : (s : ℕ) → has_slot l.slots s ≡ true → (has_slot l.rest s ≡ true) ⊎ FindsFor l.kept s l.pairs.items;
 }
 
 abbrev pub decreases-slots : goal.decreases-slots
