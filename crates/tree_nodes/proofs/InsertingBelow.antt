@@ -1,19 +1,20 @@
 -- Steps of an insertion down a tree and up again.
-use Rattle.std.proofs.Common.{◌≡◌, ℕ, ◌+◌, ◌<◌, ◌≤◌, max, Some, IsSome, [], ◌∷◌, ◌++◌, refl, sym, ap, ◌∙◌, subst}
+use Rattle.std.proofs.Common.{◌≡◌, ◌≢◌, ◌⊎◌, ℕ, ◌+◌, ◌<◌, ◌≤◌, max, Some, IsSome, [], ◌∷◌, ◌++◌, refl, sym, ap, ◌∙◌, subst}
 use Rattle.std.proofs.Common.{arith, ⊎_elim}
 use Rattle.std.proofs.lemmas.Bool.{cases_lt}
-use Rattle.std.proofs.lemmas.List.Sorted.{IsPermutation-sym, IsPermutation-trans}
+use Rattle.std.specs.List.Sorted.{IsPermutation}
+use Rattle.std.proofs.lemmas.List.Sorted.{IsPermutation-sym, IsPermutation-trans, IsPermutation-append_comm}
 use Rattle.std.proofs.lemmas.List.Sorted.{IsPermutation-append_left, IsPermutation-cons, IsPermutation-to_front}
 use Rattle.slab.specs.Slab.{Slab, get}
-use Rattle.fixed_box.specs.Bounds.{Bounds}
+use Rattle.fixed_box.specs.Bounds.{Bounds, hull}
 use Rattle.tree_nodes.specs.declared.node_view.NodeView.{NodeView}
-use Rattle.tree_nodes.specs.declared.node_view.NodeView.TheVariants.{Leaf}
+use Rattle.tree_nodes.specs.declared.node_view.NodeView.TheVariants.{Leaf, Inner}
 use Rattle.tree_nodes.specs.Parts.{Opened, SameLeaves, height_shown}
-use Rattle.tree_nodes.specs.Insertion.{ToInsert, Inserted}
+use Rattle.tree_nodes.specs.Insertion.{ToInsert, Inserted, IsSame, Alike}
 use Rattle.tree_nodes.specs.Moved.{refitted}
 use Rattle.tree_nodes.specs.Rotation.{Children, ToRebalance, rebalanced, BalancedNear, ToAdjust}
 use Rattle.tree_nodes.specs.Stored.{Holds, StandsAt}
-use Rattle.tree_nodes.specs.Tree.{Tree, tip, count_of, one, height, Balanced, leaves, Leaf as LeafOf}
+use Rattle.tree_nodes.specs.Tree.{Tree, tip, fork, top, bounds, count_of, one, height, Balanced, IsRefitted, leaves, Leaf as LeafOf}
 use Rattle.tree_nodes.proofs.Balance.{refitted_balanced, rebalanced_balanced}
 use Rattle.tree_nodes.proofs.Frames.{one_same}
 use Rattle.tree_nodes.proofs.Opened.{top_counted, height_in_slab}
@@ -157,3 +158,100 @@ below_low slab at down stay t d s p o =
     let b : height_shown (get slab down) ≡ height d = height_in_slab slab down d o.down_kept in
     let e : height t ≡ 1 + max (height d) (height s) = o.height_is in
     grind (arith)
+
+-- what a tree that was opened shows
+pub shown_by : (at k : ℕ) (hu : Bounds) (t d s : Tree) → (t ≡ fork at hu k d s) ⊎ (t ≡ fork at hu k s d) → (top t ≡ at) × (bounds t ≡ hu) × (height t ≡ k)
+shown_by at k hu t d s e = ⊎_elim (λ w. (ap top w, ap bounds w, ap height w)) (λ w. (ap top w, ap bounds w, ap height w)) e
+
+pub alike_of : (at k : ℕ) (hu : Bounds) (t d s w : Tree) → (t ≡ fork at hu k d s) ⊎ (t ≡ fork at hu k s d) → IsSame w at hu k → Alike t w
+alike_of at k hu t d s w e i =
+    let z = shown_by at k hu t d s e in
+    record { top_is = i.top_is ∙ sym z.0; bounds_is = i.bounds_is ∙ sym z.1; height_is = i.height_is ∙ sym z.2 }
+
+-- a number that neither the tree nor what goes into it has
+pub untouched : (old new : Slab NodeView) (at down stay below leaf new_parent slot : ℕ) (fat : Bounds) (t d s u : Tree) → Opened old at down stay t d s
+    → Inserted new below leaf new_parent slot fat d u → (k : ℕ) → count_of t k + (one leaf k + one new_parent k) ≡ 0
+    → (count_of d k + (one leaf k + one new_parent k) ≡ 0) × (k ≢ at) × (k ≢ below) × (k ≢ stay)
+untouched old new at down stay below leaf new_parent slot fat t d s u o g k none =
+    let e = o.counts_are k in
+    let w = g.counts_are k in (
+      omega arith,
+      (λ same. let one_at : one at k ≡ 1 = subst (λ x. one at x ≡ 1) (sym same) (one_same at) in omega arith),
+      (λ same. let top_there : 1 ≤ count_of u k = subst (λ x. 1 ≤ count_of u x) (g.kept.is_at ∙ sym same) (top_counted u) in omega arith),
+      (λ same. let top_there : 1 ≤ count_of s k = subst (λ x. 1 ≤ count_of s x) (o.stay_kept.is_at ∙ sym same) (top_counted s) in omega arith),
+    )
+
+-- The child that the leaf went into has the number, the bounds and the height that it had, so the node stays as it is.
+refitted_alike : (hu : Bounds) (k : ℕ) (d s u : Tree) → IsRefitted hu k d s → Alike d u → IsRefitted hu k u s
+refitted_alike hu k d s u i a = record {
+  hull_is = i.hull_is ∙ ap (λ b. hull b (bounds s)) (sym a.bounds_is);
+  height_is = i.height_is ∙ ap (λ m. 1 + max m (height s)) (sym a.height_is);
+  left_low = let x = i.left_low in let e = a.height_is in omega arith;
+  right_low = let x = i.right_low in let e = a.height_is in omega arith;
+}
+
+alike_refitted : (hu : Bounds) (k : ℕ) (d s u : Tree) → IsRefitted hu k s d → Alike d u → IsRefitted hu k s u
+alike_refitted hu k d s u i a = record {
+  hull_is = i.hull_is ∙ ap (λ b. hull (bounds s) b) (sym a.bounds_is);
+  height_is = i.height_is ∙ ap (λ m. 1 + max (height s) m) (sym a.height_is);
+  left_low = let x = i.left_low in let e = a.height_is in omega arith;
+  right_low = let x = i.right_low in let e = a.height_is in omega arith;
+}
+
+module _ (old new : Slab NodeView) (at k down stay below leaf new_parent slot : ℕ) (hu fat : Bounds) (t d s u : Tree) (p : StandsAt old at t) (bal : Balanced t)
+    (o : Opened old at down stay t d s) (g : Inserted new below leaf new_parent slot fat d u) (a : Alike d u)
+    (here : get new at ≡ get old at) (held : Holds new s) where
+  grown : IsPermutation (record { node = leaf; slot = slot; fat = fat } ∷ leaves t) (leaves u ++ leaves s)
+  grown =
+      let x : LeafOf = record { node = leaf; slot = slot; fat = fat } in
+      IsPermutation-trans (x ∷ leaves t) (x ∷ (leaves d ++ leaves s)) (leaves u ++ leaves s)
+      (IsPermutation-cons x (leaves t) (leaves d ++ leaves s) (IsPermutation-sym (leaves d ++ leaves s) (leaves t) o.leaves_are))
+      (IsPermutation-append_left (leaves s) (x ∷ leaves d) (leaves u) g.leaves_are)
+
+  still_left : t ≡ fork at hu k d s → (w : Tree) × Inserted new at leaf new_parent slot fat t w × Alike t w
+  still_left e =
+      let q = subst (StandsAt old at) e p in
+      let b = subst Balanced e bal in
+      let same : height t ≡ k = ap height e in (
+        fork at hu k u s,
+        record {
+          kept = record {
+            holds = (here ∙ q.holds.0 ∙ ap (λ m. Some (Inner m (top s) hu k)) (sym a.top_is), subst (Holds new) refl g.kept.holds, held);
+            is_at = refl;
+          };
+          leaves_are = grown;
+          counts_are = λ n. let f = o.counts_are n in let w = g.counts_are n in omega arith;
+          good = record {
+            balanced = (refitted_alike hu k d s u b.0 a, g.good.balanced, o.stay_balanced);
+            least = omega arith;
+            most = omega arith;
+          };
+        },
+        record { top_is = sym (ap top e); bounds_is = sym (ap bounds e); height_is = sym (ap height e) },
+      )
+
+  still_right : t ≡ fork at hu k s d → (w : Tree) × Inserted new at leaf new_parent slot fat t w × Alike t w
+  still_right e =
+      let x : LeafOf = record { node = leaf; slot = slot; fat = fat } in
+      let q = subst (StandsAt old at) e p in
+      let b = subst Balanced e bal in
+      let same : height t ≡ k = ap height e in (
+        fork at hu k s u,
+        record {
+          kept = record {
+            holds = (here ∙ q.holds.0 ∙ ap (λ m. Some (Inner (top s) m hu k)) (sym a.top_is), held, subst (Holds new) refl g.kept.holds);
+            is_at = refl;
+          };
+          leaves_are = IsPermutation-trans (x ∷ leaves t) (leaves u ++ leaves s) (leaves s ++ leaves u) grown (IsPermutation-append_comm (leaves u) (leaves s));
+          counts_are = λ n. let f = o.counts_are n in let w = g.counts_are n in omega arith;
+          good = record {
+            balanced = (alike_refitted hu k d s u b.0 a, o.stay_balanced, g.good.balanced);
+            least = omega arith;
+            most = omega arith;
+          };
+        },
+        record { top_is = sym (ap top e); bounds_is = sym (ap bounds e); height_is = sym (ap height e) },
+      )
+
+  pub still_inserted : (t ≡ fork at hu k d s) ⊎ (t ≡ fork at hu k s d) → (w : Tree) × Inserted new at leaf new_parent slot fat t w × Alike t w
+  still_inserted e = ⊎_elim still_left still_right e

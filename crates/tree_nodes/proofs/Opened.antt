@@ -1,6 +1,6 @@
 -- The two trees below an inner node, whichever way round.
 use Rattle.std.proofs.Common.{◌≡◌, ℕ, ◌≤◌, Some, refl, sym, ap, ◌∙◌, subst}
-use Rattle.std.proofs.Common.{arith, ⊎_elim, ◌⊎◌}
+use Rattle.std.proofs.Common.{arith, inl, inr, ⊎_elim, ◌⊎◌}
 use Rattle.std.proofs.lemmas.List.Sorted.{IsPermutation-refl, IsPermutation-append_comm}
 use Rattle.slab.specs.Slab.{Slab, get}
 use Rattle.fixed_box.specs.Bounds.{Bounds}
@@ -24,7 +24,7 @@ height_in_slab slab at (fork n hu k l r) p = let h = p.holds.0 in let e : n ≡ 
 -- what is below an inner node, either way round
 pub opened : (slab : Slab NodeView) (at left right k : ℕ) (hu : Bounds) (t : Tree) (r : ℕ × ℕ) → StandsAt slab at t → Balanced t
     → get slab at ≡ Some (Inner left right hu k) → (r ≡ (left, right)) ⊎ (r ≡ (right, left))
-    → (d : Tree) × (s : Tree) × Opened slab at r.0 r.1 t d s
+    → (d : Tree) × (s : Tree) × Opened slab at r.0 r.1 t d s × ((t ≡ fork at hu k d s) ⊎ (t ≡ fork at hu k s d))
 opened slab at left right k hu t r p bal e pick =
     let c = children slab at left right k hu t p e in
     let f = c.0 in
@@ -45,6 +45,7 @@ opened slab at left right k hu t r p bal e pick =
         down_low = b.0.left_low;
         stay_low = b.0.right_low;
       })),
+      inl c.2,
     ))
     (λ w. (
       g,
@@ -60,5 +61,6 @@ opened slab at left right k hu t r p bal e pick =
         down_low = b.0.right_low;
         stay_low = b.0.left_low;
       })),
+      inr c.2,
     ))
     pick

@@ -1,4 +1,5 @@
-ghost use Rattle.std.specs.Prelude.{◌≡◌};
+ghost use Rattle.std.specs.Prelude.{◌≡◌, ◌≢◌, ℕ};
+ghost use Rattle.slab.specs.Slab.{get};
 ghost use Rattle.tree_nodes.specs.Parts.{SameLeaves};
 ghost use Rattle.tree_nodes.specs.Moved.{refitted};
 ghost use Rattle.tree_nodes.specs.Rotation.{ToAdjust, ToRebalance, rebalanced};
@@ -25,6 +26,7 @@ pub(crate) fn adjust(
         (u : Tree) × SameLeaves slab.new result (rebalanced at l r) u }
     ensures kept { (l r v : Tree) → ToAdjust slab.old at left right l r → Apart (refitted at l r) v →
         Holds slab.old v → Holds slab.new v }
+    ensures others { (k : ℕ) → k ≢ at → k ≢ left → k ≢ right → get slab.new k ≡ get slab.old k }
     ensures keys { KeepsKeys slab.old slab.new }
 {
     rebalance(slab, kin, at, left, right)
@@ -43,6 +45,7 @@ fn rebalance(
         StandsAt slab.new result (rebalanced at l r) }
     ensures kept { (t : Tree) → count_of t at ≡ 0 → count_of t left ≡ 0 → count_of t right ≡ 0 →
         Holds slab.old t → Holds slab.new t }
+    ensures others { (k : ℕ) → k ≢ at → k ≢ left → k ≢ right → get slab.new k ≡ get slab.old k }
     ensures keys { KeepsKeys slab.old slab.new }
 {
     let l = height_at(slab, left);

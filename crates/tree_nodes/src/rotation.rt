@@ -1,4 +1,5 @@
-ghost use Rattle.std.specs.Prelude.{◌≡◌, ◌≤◌};
+ghost use Rattle.std.specs.Prelude.{◌≡◌, ◌≢◌, ℕ, ◌≤◌};
+ghost use Rattle.slab.specs.Slab.{get};
 ghost use Rattle.tree_nodes.specs.Rotation.{Children, RotationParts, rotated, lower, higher, rotated_up};
 ghost use Rattle.tree_nodes.specs.Stored.{Holds, StandsAt, KeepsKeys};
 ghost use Rattle.tree_nodes.specs.Tree.{Tree, Balanced, top, height, count_of};
@@ -23,6 +24,7 @@ pub(crate) fn rotate_up(
     ensures there { (l h : Tree) → Children slab.old at low high l h → height l ≤ 100 → height h ≤ 100 →
         Balanced h → StandsAt slab.new result (rotated_up at l h) }
     ensures kept { (t : Tree) → count_of t at ≡ 0 → count_of t high ≡ 0 → Holds slab.old t → Holds slab.new t }
+    ensures others { (k : ℕ) → k ≢ at → k ≢ high → get slab.new k ≡ get slab.old k }
     ensures keys { KeepsKeys slab.old slab.new }
 {
     match slab[high] {
@@ -71,6 +73,7 @@ pub(crate) fn rotate(
     ensures there { (l f g : Tree) → RotationParts slab.old high at low left right l f g →
         Holds slab.new (rotated high at l f g) }
     ensures kept { (t : Tree) → count_of t at ≡ 0 → count_of t high ≡ 0 → Holds slab.old t → Holds slab.new t }
+    ensures others { (k : ℕ) → k ≢ at → k ≢ high → get slab.new k ≡ get slab.old k }
     ensures keys { KeepsKeys slab.old slab.new }
 {
     refit(slab, kin, at, low, left);

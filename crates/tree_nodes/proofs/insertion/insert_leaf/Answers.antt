@@ -15,8 +15,8 @@ insert_reserved-leaf-requires c = let r = room_two c.args.slab.now c.args.root _
 pub insert_reserved-new_parent-requires : goal.insert_reserved-new_parent-requires
 insert_reserved-new_parent-requires c = let r = room_two c.args.slab.now c.args.root _ c.requires.sound c.requires.few in omega arith
 
-pub insert_below-requires : goal.insert_below-requires
-insert_below-requires c =
+pub insert_below-top-requires : goal.insert_below-top-requires
+insert_below-top-requires c =
     let w = under_root c.args.slab.now c.in-Some.at _ (subst (λ r. SoundIn c.args.slab.now r (tree_of c.args.slab.now r)) c.in-Some.is c.requires.sound) in (
       c.args.slot,
       c.args.fat,
@@ -35,13 +35,13 @@ returns-in-Some-clause-sound c =
     c.insert_reserved-new_parent.result c.args.slot c.args.fat _ w.0 w.3 (sym w.2)
     c.insert_reserved-leaf.ensures.was_vacant c.insert_reserved-leaf.ensures.updates c.insert_reserved-new_parent.ensures.was_vacant
     c.insert_reserved-new_parent.ensures.updates in
-    let g = c.insert_below.ensures.there c.args.slot c.args.fat w.0 r in
-    let s = inserted_sound c.args.slab.now c.insert_reserved-new_parent.new.self c.insert_below.new.slab c.in-Some.at c.insert_reserved-leaf.result
-    c.insert_reserved-new_parent.result c.insert_below.result c.args.slot c.args.fat w.0 g.0 w.3
+    let g = c.insert_below-top.ensures.there c.args.slot c.args.fat w.0 r in
+    let s = inserted_sound c.args.slab.now c.insert_reserved-new_parent.new.self c.insert_below-top.new.slab c.in-Some.at c.insert_reserved-leaf.result
+    c.insert_reserved-new_parent.result c.insert_below-top.result.0 c.args.slot c.args.fat w.0 g.0 w.3
     (subst (λ t. length (leaves_in t) < 8192) is c.requires.few) (subst (λ t. All (λ x. x.slot ≢ c.args.slot) (leaves_in t)) is c.requires.absent) r g.1
-    (let a = c.insert_below.ensures.keys.len in let b = c.insert_reserved-leaf.ensures.len in let d = c.insert_reserved-new_parent.ensures.len in
+    (let a = c.insert_below-top.ensures.keys.len in let b = c.insert_reserved-leaf.ensures.len in let d = c.insert_reserved-new_parent.ensures.len in
     omega arith) in
-    kept_sound c.insert_below.new.slab c.insert_below.result g.0 (sym g.1.kept.is_at) s
+    kept_sound c.insert_below-top.new.slab c.insert_below-top.result.0 g.0 (sym g.1.kept.is_at) s
 
 pub returns-in-Some-clause-leaves : goal.returns-in-Some-clause-leaves
 returns-in-Some-clause-leaves c =
@@ -51,15 +51,15 @@ returns-in-Some-clause-leaves c =
     c.insert_reserved-new_parent.result c.args.slot c.args.fat _ w.0 w.3 (sym w.2)
     c.insert_reserved-leaf.ensures.was_vacant c.insert_reserved-leaf.ensures.updates c.insert_reserved-new_parent.ensures.was_vacant
     c.insert_reserved-new_parent.ensures.updates in
-    let g = c.insert_below.ensures.there c.args.slot c.args.fat w.0 r in
-    let s = inserted_sound c.args.slab.now c.insert_reserved-new_parent.new.self c.insert_below.new.slab c.in-Some.at c.insert_reserved-leaf.result
-    c.insert_reserved-new_parent.result c.insert_below.result c.args.slot c.args.fat w.0 g.0 w.3
+    let g = c.insert_below-top.ensures.there c.args.slot c.args.fat w.0 r in
+    let s = inserted_sound c.args.slab.now c.insert_reserved-new_parent.new.self c.insert_below-top.new.slab c.in-Some.at c.insert_reserved-leaf.result
+    c.insert_reserved-new_parent.result c.insert_below-top.result.0 c.args.slot c.args.fat w.0 g.0 w.3
     (subst (λ t. length (leaves_in t) < 8192) is c.requires.few) (subst (λ t. All (λ x. x.slot ≢ c.args.slot) (leaves_in t)) is c.requires.absent) r g.1
-    (let a = c.insert_below.ensures.keys.len in let b = c.insert_reserved-leaf.ensures.len in let d = c.insert_reserved-new_parent.ensures.len in
+    (let a = c.insert_below-top.ensures.keys.len in let b = c.insert_reserved-leaf.ensures.len in let d = c.insert_reserved-new_parent.ensures.len in
     omega arith) in
     let x : LeafOf = record { node = c.insert_reserved-leaf.result; slot = c.args.slot; fat = c.args.fat } in
-    subst (λ t. IsPermutation (x ∷ leaves_in t) (leaves_in (tree_of c.insert_below.new.slab (Some c.insert_below.result)))) (sym is)
-    (subst (λ u. IsPermutation (x ∷ leaves w.0) (leaves_in u)) (sym (kept_tree c.insert_below.new.slab c.insert_below.result g.0 (sym g.1.kept.is_at) s))
+    subst (λ t. IsPermutation (x ∷ leaves_in t) (leaves_in (tree_of c.insert_below-top.new.slab (Some c.insert_below-top.result.0)))) (sym is)
+    (subst (λ u. IsPermutation (x ∷ leaves w.0) (leaves_in u)) (sym (kept_tree c.insert_below-top.new.slab c.insert_below-top.result.0 g.0 (sym g.1.kept.is_at) s))
     g.1.leaves_are)
 
 first : (c : In-None) → Sound c.insert_reserved-leaf.new.self (tip c.insert_reserved-leaf.result c.args.slot c.args.fat)
