@@ -28,7 +28,7 @@ use Rattle.box_tree.specs.Descent.{entry_of, exact, exact_in, IsInside, IsInside
 use Rattle.box_tree.specs.Group.{others_met, crossed, below, all_below, all_visits_in, picked, Adds, IsShown, IsBelow, BoxLaws, OpenedAs}
 use Rattle.box_tree.proofs.Descents.{exact_append}
 use Rattle.box_tree.proofs.Counts.{raised_again}
-use Rattle.box_tree.proofs.CrossedPairs.{crossed_append, crossed_either, has_append}
+use Rattle.box_tree.proofs.CrossedPairs.{crossed_append, has_append}
 
 shown_top : (o : Option Tree) (t : Tree) → IsShown o t → view_in o (top t) ≡ Some (view_of t)
 shown_top o (tip n s f) s1 = s1

@@ -1,8 +1,8 @@
 -- What a group finds beside slots that are done was found from these already.
-use Rattle.std.proofs.Common.{◌≡◌, ℕ, zero, suc, ◌+◌, ◌<◌, Bool, true, false, not, cond, ◌&&◌, ◌||◌, ◌==◌, Option, None, Some, List, [], ◌∷◌, ◌++◌}
-use Rattle.std.proofs.Common.{length, map, filter, get_or, refl, sym, ap, ◌∙◌, subst, arith, inl, inr, ⊎_elim, ◌⊎◌}
+use Rattle.std.proofs.Common.{◌≡◌, ℕ, zero, suc, ◌<◌, Bool, true, false, not, cond, ◌||◌, ◌==◌, Option, None, Some, List, [], ◌∷◌, ◌++◌}
+use Rattle.std.proofs.Common.{length, map, get_or, refl, sym, ap, ◌∙◌, subst, arith, inl, inr, ⊎_elim, ◌⊎◌}
 use Rattle.std.specs.List.{Contains}
-use Rattle.std.proofs.lemmas.Bool.{or_cases, eq-eqb, eqb-true}
+use Rattle.std.proofs.lemmas.Bool.{or_cases, eqb-true}
 use Rattle.fixed_box.specs.Bounds.{Bounds, meets}
 use Rattle.fixed_box.specs.SlotMap.{map_of}
 use Rattle.fixed_box.specs.SlotMapLaws.{get_map}
@@ -10,7 +10,7 @@ use Rattle.broad_index.specs.declared.pair.Pair.{Pair}
 use Rattle.broad_index.specs.Held.{Holds}
 use Rattle.broad_index.specs.Members.{has_pair, has_slot}
 use Rattle.box_tree.specs.Group.{crossed, touched_of, undone, Adds, AreOf}
-use Rattle.box_tree.proofs.CrossedPairs.{hit, any_row, any_cross, crossed_has, crossed_append, crossed_either, has_append}
+use Rattle.box_tree.proofs.CrossedPairs.{hit, any_row, any_cross, crossed_has, crossed_either, has_append}
 
 or_true : (b : Bool) → (b || true) ≡ true
 or_true true = refl

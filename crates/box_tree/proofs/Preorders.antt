@@ -1,6 +1,6 @@
 -- What stands in a list in preorder, and what a search that reads it onwards finds.
-use Rattle.std.proofs.Common.{◌≡◌, ℕ, zero, suc, ◌+◌, ◌*◌, ◌^◌, ◌<◌, ◌≤◌, ◌==◌, Bool, true, false, not, cond, Option, None, Some, List, [], ◌∷◌, ◌++◌}
-use Rattle.std.proofs.Common.{map, length, get_or, set, take, ◌-◌, refl, sym, ap, ◌∙◌, subst, arith, append_assoc}
+use Rattle.std.proofs.Common.{◌≡◌, ℕ, ◌+◌, ◌*◌, ◌^◌, ◌<◌, ◌≤◌, ◌==◌, Bool, true, false, not, cond, Option, None, Some, List, [], ◌∷◌, ◌++◌}
+use Rattle.std.proofs.Common.{length, get_or, set, take, ◌-◌, refl, sym, ap, ◌∙◌, subst, arith, append_assoc}
 use Rattle.std.specs.Prelude.{count_ones, drop}
 use Rattle.std.specs.List.{filter}
 use Rattle.std.proofs.lemmas.List.{append-nil, length-append}
@@ -8,7 +8,7 @@ use Rattle.std.proofs.lemmas.List.Elements.{filter-append}
 use Rattle.fixed_box.specs.Bounds.{Bounds}
 use Rattle.broad_index.specs.declared.pair.Pair.{Pair}
 use Rattle.broad_index.specs.Touched.{ordered_pairs}
-use Rattle.tree_nodes.specs.Tree.{Tree, Leaf, tip, fork, leaves, Balanced}
+use Rattle.tree_nodes.specs.Tree.{Tree, tip, fork, leaves, Balanced}
 use Rattle.box_tree.specs.declared.preorder.ListedNode.{ListedNode}
 use Rattle.box_tree.specs.declared.preorder.NodeKind.{NodeKind}
 use Rattle.box_tree.specs.declared.preorder.NodeKind.TheVariants.{Leaf as LeafKind, Inner as InnerKind}

@@ -1,9 +1,7 @@
 -- No bit picks no slot, and a slot that is done has no pair.
-use Rattle.std.proofs.Common.{◌≡◌, ◌++◌, ◌==◌, ◌∙◌, [], cond, not, filter, ap, sym, false, get_or}
+use Rattle.std.proofs.Common.{◌++◌, ◌∙◌, ap, sym}
 use Rattle.std.proofs.lemmas.List.{append-nil}
-use Rattle.broad_index.specs.Touched.{ordered_pairs}
-use Rattle.box_tree.specs.Group.{picked, left_pairs}
-use Rattle.box_tree.proofs.Groups.{picked_none}
+use Rattle.box_tree.specs.Group.{left_pairs}
 use Rattle.box_tree.proofs.Preorders.{no_pairs}
 use Rattle.box_tree.proofs.group.push_met.Goals as goal
 

@@ -1,12 +1,10 @@
 -- What is found at each node, with what the nodes behind it give, is what all give.
-use Rattle.std.proofs.Common.{◌≡◌, ℕ, ◌*◌, ◌-◌, ◌^◌, ◌<◌, ◌∙◌, [], ◌∷◌, List, Option, length, take, ap, sym, subst, arith, get_or, refl}
+use Rattle.std.proofs.Common.{◌≡◌, ℕ, ◌*◌, ◌-◌, ◌^◌, ◌<◌, ◌∙◌, [], ◌∷◌, List, length, take, ap, sym, subst, arith, refl}
 use Rattle.std.specs.Prelude.{count_ones, drop}
-use Rattle.fixed_box.specs.Bounds.{Bounds}
-use Rattle.tree_nodes.specs.Tree.{Tree}
 use Rattle.box_tree.specs.declared.preorder.ListedNode.{ListedNode}
 use Rattle.box_tree.specs.declared.preorder.NodeKind.TheVariants.{Leaf as LeafKind, Inner as InnerKind}
 use Rattle.box_tree.specs.Boxes.{raised}
-use Rattle.box_tree.specs.Preorder.{IsListed, Reads}
+use Rattle.box_tree.specs.Preorder.{Reads}
 use Rattle.box_tree.proofs.Groups.{group_bits}
 use Rattle.box_tree.proofs.Counts.{raised_none, raised_fits}
 use Rattle.box_tree.proofs.Preorders.{first_node, reads_first, reads_last, reads_leaf, reads_over, reads_in}

@@ -1,4 +1,4 @@
-use Rattle.std.proofs.Common.{◌≡◌, ◌<◌, ◌^◌, length, List, Option}
+use Rattle.std.proofs.Common.{◌<◌, ◌^◌, length, List, Option}
 use Rattle.fixed_box.specs.Bounds.{Bounds}
 use Rattle.tree_nodes.specs.Tree.{Tree}
 use Rattle.box_tree.specs.Preorder.{IsListed, Reads}

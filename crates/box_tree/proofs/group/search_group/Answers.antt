@@ -2,7 +2,7 @@
 use Rattle.std.proofs.Common.{◌∙◌, ap, sym, length, subst}
 use Rattle.std.specs.List.{All}
 use Rattle.std.proofs.lemmas.List.Elements.{All-map}
-use Rattle.std.proofs.Common.{◌≡◌, ℕ, true, map}
+use Rattle.std.proofs.Common.{◌≡◌, ℕ, true}
 use Rattle.fixed_box.specs.Bounds.{Bounds, encloses}
 use Rattle.box_tree.specs.Boxes.{raised}
 use Rattle.box_tree.specs.Group.{all_below}

@@ -1,5 +1,5 @@
 -- A node's list is its own entry, and the lists of its children behind it.
-use Rattle.std.proofs.Common.{◌≡◌, ℕ, ◌+◌, ◌*◌, ◌<◌, ◌^◌, ◌++◌, ◌∷◌, [], ◌∙◌, List, Option, length, ap, sym, subst, Some, arith, rules}
+use Rattle.std.proofs.Common.{◌≡◌, ℕ, ◌+◌, ◌*◌, ◌<◌, ◌^◌, ◌++◌, ◌∷◌, [], ◌∙◌, List, Option, length, ap, subst, Some, arith, rules}
 use Rattle.std.proofs.lemmas.List.{length-append}
 use Rattle.fixed_box.specs.Bounds.{Bounds}
 use Rattle.tree_nodes.specs.Parts.{height_shown}

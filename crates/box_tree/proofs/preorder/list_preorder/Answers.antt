@@ -1,5 +1,5 @@
 -- A tree has at most so many leaves as there are slots.
-use Rattle.std.proofs.Common.{◌≡◌, ◌+◌, ◌*◌, ◌<◌, ◌≤◌, ◌^◌, ◌++◌, ◌∙◌, length, ap, sym, subst, arith}
+use Rattle.std.proofs.Common.{◌≡◌, ◌≤◌, ◌++◌, ◌∙◌, length, ap, sym, subst, arith}
 use Rattle.fixed_box.specs.declared.TheConstants.{SLOTS}
 use Rattle.tree_nodes.specs.Tree.{leaves, IsTreeIn}
 use Rattle.box_tree.specs.Preorder.{preorder, preorder_in}

@@ -1,11 +1,8 @@
 -- What a group finds beside slots that are done was found before, so each group adds its pairs.
-use Rattle.std.proofs.Common.{◌≡◌, ◌+◌, ◌∙◌, ◌++◌, length, ap, sym, refl}
-use Rattle.fixed_box.specs.SlotMap.{map_of}
-use Rattle.broad_index.specs.Members.{has_pair}
-use Rattle.tree_nodes.specs.Tree.{leaves}
+use Rattle.std.proofs.Common.{◌+◌, ◌∙◌, ◌++◌, length, ap, sym, refl}
 use Rattle.box_tree.specs.Boxes.{raised}
-use Rattle.box_tree.specs.Descent.{exact, exact_in}
-use Rattle.box_tree.specs.Group.{crossed, undone, all_below, all_visits_in}
+use Rattle.box_tree.specs.Descent.{exact_in}
+use Rattle.box_tree.specs.Group.{crossed, undone, all_below}
 use Rattle.box_tree.specs.Preorder.{IsListed, preorder_in}
 use Rattle.box_tree.proofs.Counts.{raised_none, raised_fits}
 use Rattle.box_tree.proofs.Groups.{root_below, adds_none, visits_none, group_on, visits_on, group_visits}

@@ -1,5 +1,5 @@
 -- Searches for the boxes of slots are those for the slots.
-use Rattle.std.proofs.Common.{◌≡◌, ◌++◌, ◌∙◌, ap, sym, subst}
+use Rattle.std.proofs.Common.{◌++◌, ◌∙◌, ap, sym, subst}
 use Rattle.box_tree.specs.Boxes.{raised}
 use Rattle.box_tree.specs.Descent.{exact_in}
 use Rattle.box_tree.specs.Group.{crossed, all_visits_in, Adds, AreOf}

@@ -1,10 +1,8 @@
 -- In whichever order the touched slots come, the same pairs are found.
-use Rattle.std.proofs.Common.{◌≡◌, ◌++◌, ◌∙◌, ap, sym, map, None, get_or}
-use Rattle.std.specs.List.{sum}
+use Rattle.std.proofs.Common.{◌++◌, ◌∙◌, ap}
 use Rattle.broad_index.specs.Members.{has_pair}
 use Rattle.broad_index.specs.Touched.{gathered_with}
-use Rattle.box_tree.specs.Boxes.{raised, visits_for}
-use Rattle.box_tree.specs.Descent.{exact_in}
+use Rattle.box_tree.specs.Boxes.{raised}
 use Rattle.box_tree.specs.Group.{touched_of, all_visits_in}
 use Rattle.box_tree.specs.Preorder.{listed}
 use Rattle.box_tree.specs.Searches.{searches, sought_from}
