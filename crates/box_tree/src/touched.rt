@@ -235,8 +235,8 @@ fn none_done(done: &mut Vec<bool>) -> Result<(), NoMemory>
     Ok(())
 }
 
-// Searches for touched boxes group by group, and for those that are left one by one. Each pair of two groups is found from
-// the later one alone. `met` and `others` are room.
+// Searches for touched boxes group by group, and for those that are left one by one. A pair of two groups is found from the
+// earlier one alone. `met` and `others` are room.
 fn search_by_groups(
     nodes: &Nodes,
     bodies: &[Option<FBox>],
