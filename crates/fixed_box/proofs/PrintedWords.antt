@@ -1,9 +1,10 @@
 -- The bytes of a word, all tested at once.
-use Rattle.std.proofs.Common.{◌≡◌, ℕ, zero, suc, ◌+◌, ◌-◌, ◌*◌, ◌/◌, ◌%◌, ◌<◌, ◌≤◌, ◌&&◌, true, bit_and, List, length, take, drop, get_or, ap, ◌∙◌, sym, arith, refl, [], ◌∷◌}
+use Rattle.std.proofs.Common.{◌≡◌, ℕ, zero, suc, ◌+◌, ◌-◌, ◌*◌, ◌/◌, ◌%◌, ◌<◌, ◌≤◌, ◌&&◌, true, bit_and, List, length, take, drop, get_or, ap, ◌∙◌, sym, subst, arith, refl, [], ◌∷◌, length-drop}
 use Rattle.std.specs.Char.{is_ascii_digit, digit_value}
 use Rattle.std.specs.Str.{all_ascii_digits}
 use Rattle.std.specs.Str.Parse.{digits_value}
 use Rattle.std.proofs.Math.Seq.{drop-cons}
+use Rattle.std.proofs.lemmas.List.{take_all, get_or-drop}
 use Rattle.std.proofs.lemmas.Nat.{and_block, and_mask, and_le_r, same_from_place}
 use Rattle.std.proofs.lemmas.Bool.Decides.{nat_tests}
 use Rattle.std.proofs.lemmas.Grind.{and_high_numeral}
@@ -289,3 +290,25 @@ four_places text m inside digit digit_b p =
     (ap (λ n. front * 6553600 + n) p.value ∙ more_worth front (digits_value 10 (c ∷ d ∷ [])) _
     ∙ ap (λ n. n * 65536 + (digits_value 10 (bytes_from text 5 5) * 131072 + 100000) / 200000) worth)
     (omega (arith, p.small, digit_small a digit, digit_small b digit_b))
+
+-- the word of the eight bytes behind so many
+pub tail_word : (k : ℕ) (text : List ℕ) (word : ℕ) → let tail = take (length text - k) (drop k text) in
+    word ≡ word_of (get_or tail 0 0) (get_or tail 1 0) (get_or tail 2 0) (get_or tail 3 0) (get_or tail 4 0) (get_or tail 5 0) (get_or tail 6 0) (get_or tail 7 0)
+    → word ≡ word_of (get_or text (k + 0) 0) (get_or text (k + 1) 0) (get_or text (k + 2) 0) (get_or text (k + 3) 0) (get_or text (k + 4) 0)
+    (get_or text (k + 5) 0) (get_or text (k + 6) 0) (get_or text (k + 7) 0)
+tail_word k text word is =
+    let whole : take (length text - k) (drop k text) ≡ drop k text = take_all _ _ (omega (arith, length-drop k text)) in
+    let P : List ℕ → Type 0 = λ tail. word ≡ word_of (get_or tail 0 0) (get_or tail 1 0) (get_or tail 2 0) (get_or tail 3 0) (get_or tail 4 0)
+    (get_or tail 5 0) (get_or tail 6 0) (get_or tail 7 0) in
+    omega (
+      arith,
+      subst P whole is,
+      get_or-drop k text 0 0,
+      get_or-drop k text 1 0,
+      get_or-drop k text 2 0,
+      get_or-drop k text 3 0,
+      get_or-drop k text 4 0,
+      get_or-drop k text 5 0,
+      get_or-drop k text 6 0,
+      get_or-drop k text 7 0,
+    )

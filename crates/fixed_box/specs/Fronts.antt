@@ -48,3 +48,18 @@ pub record IsPrinted (a b c d e f g h magnitude : ℕ) : Type 0 where
   pub fraction : all_ascii_digits (d ∷ e ∷ f ∷ g ∷ h ∷ []) ≡ true
   pub value : magnitude ≡ digits_value 10 (a ∷ b ∷ []) * 65536 + (digits_value 10 (d ∷ e ∷ f ∷ g ∷ h ∷ []) * 131072 + 100000) / 200000
   pub small : magnitude ≤ 6553600
+
+-- a number without a sign has so many hundreds, its length, and the word of eight bytes behind them or behind a zero
+pub record HasTail (text : List ℕ) (hundreds len word : ℕ) : Type 0 where
+  pub a : ℕ
+  pub b : ℕ
+  pub c : ℕ
+  pub d : ℕ
+  pub e : ℕ
+  pub f : ℕ
+  pub g : ℕ
+  pub h : ℕ
+  pub bytes : (a < 256) × (b < 256) × (c < 256) × (d < 256) × (e < 256) × (f < 256) × (g < 256) × (h < 256)
+  pub word_is : word ≡ word_of a b c d e f g h
+  pub few : hundreds < 100
+  pub reads : (m : ℕ) → IsPrinted a b c d e f g h m → IsMagnitude text (hundreds * 6553600 + m) len

@@ -1,6 +1,6 @@
 ghost use Rattle.std.specs.Prelude.{◌≡◌, ℕ, ◌<◌, ◌≤◌, ◌*◌, ◌+◌, ◌/◌, Ok, All, length, take, slice_index, IfSome};
 ghost use Rattle.fixed_box.specs.Fix.{fix};
-ghost use Rattle.fixed_box.specs.Fronts.{IsMagnitude, IsPrinted, word_of};
+ghost use Rattle.fixed_box.specs.Fronts.{HasTail, IsMagnitude, IsPrinted, word_of};
 
 use crate::Fix;
 use crate::number_front::behind_sign;
@@ -44,64 +44,64 @@ pub fn printed_fix_ahead(text: &[u8]) -> Option<(Fix, usize)>
     }
 }
 
-// The raw magnitude of such a number without a sign, and its length. Most have two digits before the point.
+// The raw magnitude of such a number without a sign, and its length.
 #[inline(always)]
 fn printed_magnitude(text: &[u8]) -> Option<(u32, usize)>
     ensures { IfSome result (λ found. IsMagnitude text.now found.0 found.1) }
 {
-    let word = word_ahead(text)?;
-    if let Some(magnitude) = magnitude_of_word(word) {
-        return Some((magnitude, 8));
-    }
-    if let Some(magnitude) = magnitude_of_word(behind_zero(word)) {
-        return Some((magnitude, 7));
-    }
-    if word / 0x100_0000 % 256 != POINT && word / 0x1_0000_0000 % 256 != POINT {
-        return None;
-    }
-    longer_magnitude(text)
+    let (hundreds, len, word) = tail_ahead(text)?;
+    let magnitude = magnitude_of_word(word)?;
+    Some((hundreds * HUNDRED + magnitude, len))
 }
 
-// The same of three or four digits before the point. Calls keep the words apart, so that each is one read.
-#[inline(never)]
-fn longer_magnitude(text: &[u8]) -> Option<(u32, usize)>
-    ensures { IfSome result (λ found. IsMagnitude text.now found.0 found.1) }
-{
-    if let Some((magnitude, len)) = hundreds(text) {
-        return Some((magnitude, len));
-    }
-    thousands(text)
-}
-
-// The same of three digits.
+// The hundreds of such a number, its length, and the word of what stands behind them. Where the point stands tells how many
+// digits are before it.
 #[inline(always)]
-fn hundreds(text: &[u8]) -> Option<(u32, usize)>
-    ensures { IfSome result (λ found. IsMagnitude text.now found.0 found.1) }
+fn tail_ahead(text: &[u8]) -> Option<(u32, usize, u64)>
+    ensures { IfSome result (λ found. HasTail text.now found.0 found.1 found.2) }
 {
-    let [a, b, c, d, e, f, g, h, i, ..] = text else {
+    let word = word_ahead(text)?;
+    if word / 0x1_0000 % 256 == POINT {
+        return Some((0, 8, word));
+    }
+    if word / 0x100_0000 % 256 == POINT {
+        return behind_one(text);
+    }
+    if word / 0x1_0000_0000 % 256 == POINT {
+        return behind_two(text);
+    }
+    Some((0, 7, behind_zero(word)))
+}
+
+// The same where one digit is the hundreds.
+#[inline(always)]
+fn behind_one(text: &[u8]) -> Option<(u32, usize, u64)>
+    ensures { IfSome result (λ found. HasTail text.now found.0 found.1 found.2) }
+{
+    let [a, tail @ ..] = text else {
         return None;
     };
     if !a.is_ascii_digit() {
         return None;
     }
-    let magnitude = magnitude_of_word(u64::from_le_bytes([*b, *c, *d, *e, *f, *g, *h, *i]))?;
-    Some((u32::from(*a - b'0') * HUNDRED + magnitude, 9))
+    let word = word_ahead(tail)?;
+    Some((u32::from(*a - b'0'), 9, word))
 }
 
-// The same of four digits.
-#[inline(never)]
-fn thousands(text: &[u8]) -> Option<(u32, usize)>
-    ensures { IfSome result (λ found. IsMagnitude text.now found.0 found.1) }
+// The same of two digits.
+#[inline(always)]
+fn behind_two(text: &[u8]) -> Option<(u32, usize, u64)>
+    ensures { IfSome result (λ found. HasTail text.now found.0 found.1 found.2) }
 {
-    let [a, b, c, d, e, f, g, h, i, j, ..] = text else {
+    let [a, b, tail @ ..] = text else {
         return None;
     };
     if !a.is_ascii_digit() || !b.is_ascii_digit() {
         return None;
     }
-    let magnitude = magnitude_of_word(u64::from_le_bytes([*c, *d, *e, *f, *g, *h, *i, *j]))?;
-    let front = u32::from(*a - b'0') * 10 + u32::from(*b - b'0');
-    Some((front * HUNDRED + magnitude, 10))
+    let word = word_ahead(tail)?;
+    let hundreds = u32::from(*a - b'0') * 10 + u32::from(*b - b'0');
+    Some((hundreds, 10, word))
 }
 
 // The word of the first eight bytes.

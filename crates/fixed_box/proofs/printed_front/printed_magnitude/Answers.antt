@@ -1,21 +1,15 @@
--- The word of the first eight bytes is that of the magnitude, or its first seven bytes stand behind a zero.
-use Rattle.std.proofs.Common.{get_or, arith, rules}
-use Rattle.fixed_box.proofs.PrintedWords.{AreBytes, two_places, one_place}
+-- The word of the tail is one of eight bytes, and what is read from it is so much above the hundreds.
+use Rattle.std.proofs.Common.{arith}
+use Rattle.fixed_box.specs.Fronts.{IsPrinted}
 use Rattle.fixed_box.proofs.printed_front.printed_magnitude.Goals as goal
 
-pub returns-in-Some : goal.returns-in-Some
-returns-in-Some c =
-    let text = c.args.text.now in
-    let bytes : AreBytes (get_or text 0 0) (get_or text 1 0) (get_or text 2 0) (get_or text 3 0) (get_or text 4 0) (get_or text 5 0) (get_or text 6 0)
-    (get_or text 7 0) = search rules in
-    two_places text c.in-Some.magnitude c.in_ok-word.ensures.within (c.in-Some.ensures _ _ _ _ _ _ _ _ bytes c.in_ok-word.ensures.word)
+printed : (c : goal.In_ok-magnitude) → let t = c.in_ok-hundreds.ensures in IsPrinted t.a t.b t.c t.d t.e t.f t.g t.h c.in_ok-magnitude.magnitude
+printed c =
+    let t = c.in_ok-hundreds.ensures in
+    c.in_ok-magnitude.ensures _ _ _ _ _ _ _ _ t.bytes t.word_is
 
-pub returns-in-Some-magnitude_of_word : goal.returns-in-Some-magnitude_of_word
-returns-in-Some-magnitude_of_word c =
-    let text = c.args.text.now in
-    let bytes : AreBytes (get_or text 0 0) (get_or text 1 0) (get_or text 2 0) (get_or text 3 0) (get_or text 4 0) (get_or text 5 0) (get_or text 6 0)
-    (get_or text 7 0) = search rules in
-    let within = c.in_ok-word.ensures.within in
-    one_place text c.in-Some-magnitude_of_word.magnitude (omega (arith, within))
-    (c.in-Some-magnitude_of_word.ensures _ _ _ _ _ _ _ _ (omega arith, bytes.0, bytes.1, bytes.2, bytes.3, bytes.4, bytes.5, bytes.6)
-    (c.behind_zero.ensures _ _ _ _ _ _ _ _ bytes c.in_ok-word.ensures.word))
+pub overflow_add-result : goal.overflow_add-result
+overflow_add-result c = omega (arith, c.in_ok-hundreds.ensures.few, (printed c).small)
+
+pub returns : goal.returns
+returns c = c.in_ok-hundreds.ensures.reads c.in_ok-magnitude.magnitude (printed c)
