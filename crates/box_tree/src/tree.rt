@@ -1,5 +1,5 @@
 ghost use Rattle.std.specs.Prelude.{◌≡◌, ◌↔◌, ℕ, ◌≤◌, ◌<◌, ◌^◌, true, false, None, Some, is_some, Ok, IfOk, IfSome};
-ghost use Rattle.std.specs.Prelude.{IsTrue, length, map as mapped, slice_index_or, slice_set, refl};
+ghost use Rattle.std.specs.Prelude.{IsTrue, count_by, length, map as mapped, slice_index_or, slice_set, refl};
 ghost use Rattle.std.specs.FinMap as map;
 ghost use Rattle.std.specs.List.{All};
 ghost use Rattle.fixed_box.specs.Bounds.{Bounds, encloses, fattened};
@@ -15,8 +15,8 @@ use crate::search::reach;
 use crate::touched::{SearchRoom, push_shared, search_run, search_touched};
 use crate::{MARGIN, Moved};
 use broad_index::{
-    BroadPhase, Pair, PairSeeker, Query, holding_laws, join_pieces, keeping_laws, member_laws,
-    push_rising_slots, settle_pairs,
+    BroadPhase, FEWEST_SOUGHT, Pair, PairSeeker, Query, holding_laws, join_pieces, keeping_laws,
+    member_laws, pays_threads, push_rising_slots, settle_pairs,
 };
 use fixed_box::{FBox, NoMemory, SLOTS};
 use slot_search::Seeker;
@@ -262,6 +262,13 @@ impl BroadPhase for BoxTree {
     fn clear_exchanges(&mut self)
         ensures { self.new ≡ self.old }
     {}
+
+    // Each touched slot that is present is sought.
+    fn pays_threads(&self) -> bool
+        ensures { (result ≡ true) ↔ (FEWEST_SOUGHT ≤ count_by (λ mark. mark) self.now.touched) }
+    {
+        pays_threads(&self.marks)
+    }
 
     // Several threads search wherever they may.
     fn share(&self, alloc: Global) -> Result<Option<(&BoxTree, Vec<u32>)>, NoMemory>

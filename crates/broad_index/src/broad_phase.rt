@@ -109,7 +109,7 @@ pub trait BroadPhase {
 
     /// The same, where several threads search at once. The slots that are sought are cut into pieces of
     /// `ceil(n / workers)`, numbered from 0. Each piece is searched by one thread, which enters the gate once before it.
-    /// With one worker it is `pairs`, and no gate is entered.
+    /// With one worker, and where the gate needs no threads and few slots are sought, it is `pairs`, and no gate is entered.
     final fn pairs_with<R: Threads + Sync, G: Gate + Sync>(
         &mut self,
         rt: &R,
@@ -129,7 +129,7 @@ pub trait BroadPhase {
         ensures paired { OnOk result (paired self.old self.new) }
         ensures kept { OnErr result (self.new ≡ self.old) }
     {
-        if workers == 1 {
+        if workers == 1 || !(gate.needs_threads() || self.pays_threads()) {
             return self.pairs(out);
         }
         let alloc = *out.allocator();
@@ -156,6 +156,11 @@ pub trait BroadPhase {
         ensures cleared { spent self.old ≡ false → exchanges self.new ≡ 0 }
         ensures bodies { bodies self.new ≡ bodies self.old }
         ensures spent { spent self.new ≡ spent self.old };
+
+    /// Whether several threads are likely to find the pairs sooner than one: for speed alone, and no answer is wrong.
+    fn pays_threads(&self) -> bool {
+        true
+    }
 
     /// What several threads may search, with the slots to seek, and `None` where `pairs` finds all by itself.
     fn share(&self, alloc: Global) -> Result<Option<(&Self::Shared, Vec<u32>)>, NoMemory>

@@ -12,6 +12,7 @@ mod plain_index;
 mod query;
 mod regions;
 mod rising;
+mod sharing;
 mod space;
 
 pub use broad_phase::BroadPhase;
@@ -22,6 +23,7 @@ pub use pair_seeker::PairSeeker;
 pub use plain_index::PlainIndex;
 pub use query::{QKind, Query};
 pub use rising::{push_rising_pairs, push_rising_slots, renew_pairs, settle_pairs};
+pub use sharing::{FEWEST_SOUGHT, pays_threads};
 pub use space::space_law;
 pub use work_pieces::{Gate, NoGate};
 

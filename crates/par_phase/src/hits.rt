@@ -7,10 +7,15 @@ use std::alloc::Global;
 use std::thread::Threads;
 use work_pieces::by_pieces;
 
+// From how many queries on they are worth several threads: a query over thousands of boxes takes some 2 to 5 microseconds,
+// and a thread takes some 100 to start.
+const FEWEST_SHARED: usize = 128;
+
 /// The slots that each query finds, in the order of the queries: list `i` is what `hits` appends for query `i`.
 ///
 /// The queries are cut into pieces of `ceil(n / workers)`, numbered from 0, and each piece is done by one thread, which
-/// enters the gate once before its first query.
+/// enters the gate once before its first query. Where the gate doesn't need threads, a few queries are answered by the
+/// caller's thread in one piece.
 pub fn hits_many<R: Threads + Sync, B: BroadPhase + Sync, G: Gate + Sync>(
     rt: &R,
     alloc: Global,
@@ -27,10 +32,22 @@ pub fn hits_many<R: Threads + Sync, B: BroadPhase + Sync, G: Gate + Sync>(
         rt,
         alloc,
         queries,
-        workers,
+        workers_for(queries, workers, gate),
         gate,
         &|query| hits_one(alloc, index, query),
     )
+}
+
+// How many workers of those that there may be answer some queries.
+fn workers_for<G: Gate>(queries: &[Query], workers: u32, gate: &G) -> u32
+    requires { (1 ≤ workers) × (workers ≤ 16) }
+    ensures { (1 ≤ result) × (result ≤ 16) }
+{
+    if gate.needs_threads() || queries.len() >= FEWEST_SHARED {
+        workers
+    } else {
+        1
+    }
 }
 
 // The slots that one query finds.

@@ -9,6 +9,14 @@ use std::sync::atomic::{AtomicBool, AtomicU32, Ordering};
 use std::test::Fail;
 use std::thread::Threads;
 
+// A gate that asks for a thread of its own for each piece, however few slots are sought.
+#[derive(Drop)]
+struct Threaded;
+
+impl Gate for Threaded {
+    fn enter(&self, _piece: u32) {}
+}
+
 // Pairs after an edit, on two threads, and how many nodes were looked at.
 fn pairs_on_two<R: Threads + Sync + Abort>(
     rt: &R,
@@ -18,7 +26,7 @@ fn pairs_on_two<R: Threads + Sync + Abort>(
     pairs: &mut Vec<Pair>,
 ) -> Result<(), Fail> {
     edit(tree, call)?;
-    tree.pairs_with(rt, 2, &NoGate, pairs)?;
+    tree.pairs_with(rt, 2, &Threaded, pairs)?;
     same_number(rt, tree.looked(), looked);
     Ok(())
 }

@@ -1,0 +1,19 @@
+ghost use Rattle.std.specs.Prelude.{◌≡◌, ◌↔◌, ◌≤◌, true, count_by};
+
+/// From how many sought slots on several threads are likely to find their pairs sooner than one: a thread takes some 100
+/// microseconds to start, and a search of a few thousand slots takes hardly longer.
+pub const FEWEST_SOUGHT: usize = 4_096;
+
+/// Whether so many slots are marked that several threads are likely to find their pairs sooner than one.
+pub fn pays_threads(marks: &[bool]) -> bool
+    ensures { (result ≡ true) ↔ (FEWEST_SOUGHT ≤ count_by (λ mark. mark) marks.now) }
+{
+    count_marks(marks) >= FEWEST_SOUGHT
+}
+
+// How many slots are marked.
+fn count_marks(marks: &[bool]) -> usize
+    ensures { result ≡ count_by (λ mark. mark) marks.now }
+{
+    marks.iter().filter(|mark| **mark).count()
+}
