@@ -106,6 +106,14 @@ step_rebalance old new at down stay below leaf new_parent slot fat t d s u p o g
       right_low = omega arith;
     }
 
+-- the leaves of two children, one of which gained a leaf
+gained : (x : LeafOf) (t d s u : Tree) → IsPermutation (leaves d ++ leaves s) (leaves t) → IsPermutation (x ∷ leaves d) (leaves u)
+    → IsPermutation (x ∷ leaves t) (leaves u ++ leaves s)
+gained x t d s u both grown =
+    IsPermutation-trans (x ∷ leaves t) (x ∷ (leaves d ++ leaves s)) (leaves u ++ leaves s)
+    (IsPermutation-cons x (leaves t) (leaves d ++ leaves s) (IsPermutation-sym (leaves d ++ leaves s) (leaves t) both))
+    (IsPermutation-append_left (leaves s) (x ∷ leaves d) (leaves u) grown)
+
 pub step_inserted : (old mid new : Slab NodeView) (at down stay below result leaf new_parent slot : ℕ) (fat : Bounds) (t d s u w : Tree)
     → Opened old at down stay t d s → Inserted mid below leaf new_parent slot fat d u
     → SameLeaves new result (rebalanced at u s) w → Inserted new result leaf new_parent slot fat t w
@@ -115,11 +123,8 @@ step_inserted old mid new at down stay below result leaf new_parent slot fat t d
     record {
       kept = z.kept;
       leaves_are =
-          IsPermutation-trans (x ∷ leaves t) (x ∷ (leaves d ++ leaves s)) (leaves w)
-          (IsPermutation-cons x (leaves t) (leaves d ++ leaves s) (IsPermutation-sym (leaves d ++ leaves s) (leaves t) o.leaves_are))
-          (IsPermutation-trans ((x ∷ leaves d) ++ leaves s) (leaves u ++ leaves s) (leaves w)
-          (IsPermutation-append_left (leaves s) (x ∷ leaves d) (leaves u) g.leaves_are)
-          (IsPermutation-trans (leaves u ++ leaves s) (leaves (rebalanced at u s)) (leaves w) (rebalanced_leaves at u s) z.leaves_are));
+          IsPermutation-trans (x ∷ leaves t) (leaves u ++ leaves s) (leaves w) (gained x t d s u o.leaves_are g.leaves_are)
+          (IsPermutation-trans (leaves u ++ leaves s) (leaves (rebalanced at u s)) (leaves w) (rebalanced_leaves at u s) z.leaves_are);
       counts_are = λ k. let f = rebalanced_counts at u s k in let a = o.counts_are k in let b = g.counts_are k in let e = z.counts_are k in omega arith;
       good = record {
         balanced = z.balanced;
@@ -202,11 +207,7 @@ module _ (old new : Slab NodeView) (at k down stay below leaf new_parent slot : 
     (o : Opened old at down stay t d s) (g : Inserted new below leaf new_parent slot fat d u) (a : Alike d u)
     (here : get new at ≡ get old at) (held : Holds new s) where
   grown : IsPermutation (record { node = leaf; slot = slot; fat = fat } ∷ leaves t) (leaves u ++ leaves s)
-  grown =
-      let x : LeafOf = record { node = leaf; slot = slot; fat = fat } in
-      IsPermutation-trans (x ∷ leaves t) (x ∷ (leaves d ++ leaves s)) (leaves u ++ leaves s)
-      (IsPermutation-cons x (leaves t) (leaves d ++ leaves s) (IsPermutation-sym (leaves d ++ leaves s) (leaves t) o.leaves_are))
-      (IsPermutation-append_left (leaves s) (x ∷ leaves d) (leaves u) g.leaves_are)
+  grown = gained (record { node = leaf; slot = slot; fat = fat }) t d s u o.leaves_are g.leaves_are
 
   still_left : t ≡ fork at hu k d s → (w : Tree) × Inserted new at leaf new_parent slot fat t w × Alike t w
   still_left e =

@@ -1,10 +1,9 @@
 -- Steps of a removal down a tree and up again.
-use Rattle.std.proofs.Common.{◌≡◌, ◌≢◌, ℕ, ◌+◌, ◌<◌, ◌≤◌, ◌-◌, max, Some, IsSome, List, [], ◌∷◌, ◌++◌, get_or, take, drop, length, refl, sym, ap, ◌∙◌}
+use Rattle.std.proofs.Common.{◌≡◌, ◌≢◌, ℕ, ◌+◌, ◌<◌, ◌≤◌, ◌-◌, max, Some, IsSome, List, [], ◌∷◌, ◌++◌, get_or, take, drop, length, sym, ap, ◌∙◌}
 use Rattle.std.proofs.Common.{subst, arith, ⊎_elim, ◌⊎◌}
 use Rattle.std.proofs.lemmas.Bool.{cases_lt}
 use Rattle.std.proofs.Math.Seq.{take-length}
-use Rattle.std.proofs.lemmas.List.Sorted.{IsPermutation-refl, IsPermutation-sym, IsPermutation-trans, IsPermutation-append_left}
-use Rattle.std.proofs.lemmas.List.Sorted.{IsPermutation-append_comm, IsPermutation-cons}
+use Rattle.std.proofs.lemmas.List.Sorted.{IsPermutation-sym, IsPermutation-trans, IsPermutation-append_left, IsPermutation-cons}
 use Rattle.slab.specs.Slab.{Slab, get}
 use Rattle.fixed_box.specs.Bounds.{Bounds}
 use Rattle.tree_nodes.specs.declared.node_view.NodeView.{NodeView}
@@ -12,42 +11,13 @@ use Rattle.tree_nodes.specs.declared.node_view.NodeView.TheVariants.{Inner}
 use Rattle.tree_nodes.specs.Parts.{Opened, SameLeaves}
 use Rattle.tree_nodes.specs.Path.{ToRemove, Removed, Leads}
 use Rattle.tree_nodes.specs.Rotation.{ToRebalance, rebalanced, BalancedNear, ToAdjust}
-use Rattle.tree_nodes.specs.Stored.{Holds, StandsAt}
+use Rattle.tree_nodes.specs.Stored.{Holds}
 use Rattle.tree_nodes.specs.Tree.{Tree, tip, fork, top, count_of, one, height, Balanced, leaves}
 use Rattle.tree_nodes.proofs.Balance.{refitted_balanced, rebalanced_balanced}
 use Rattle.tree_nodes.proofs.Frames.{one_same}
-use Rattle.tree_nodes.proofs.Opened.{top_counted}
+use Rattle.tree_nodes.proofs.Opened.{as_it_is, opened_reversed, top_counted}
 use Rattle.tree_nodes.proofs.Rebalanced.{rebalanced_counts, rebalanced_leaves, rebalanced_unrotated}
 use Rattle.tree_nodes.proofs.Rotations.{children}
-
-opened_reversed : (slab : Slab NodeView) (at down stay : ℕ) (t d s : Tree) → Opened slab at down stay t d s → Opened slab at stay down t s d
-opened_reversed slab at down stay t d s o = record {
-  down_kept = o.stay_kept;
-  stay_kept = o.down_kept;
-  counts_are = λ x. let u = o.counts_are x in omega arith;
-  leaves_are = IsPermutation-trans (leaves s ++ leaves d) (leaves d ++ leaves s) (leaves t) (IsPermutation-append_comm (leaves s) (leaves d)) o.leaves_are;
-  down_balanced = o.stay_balanced;
-  stay_balanced = o.down_balanced;
-  height_is = let e = o.height_is in grind (arith);
-  down_low = o.stay_low;
-  stay_low = o.down_low;
-}
-
-as_it_is : (slab : Slab NodeView) (at left right k : ℕ) (hu : Bounds) (t f g : Tree) → t ≡ fork at hu k f g → StandsAt slab left f → StandsAt slab right g
-    → Balanced t → Opened slab at left right t f g
-as_it_is slab at left right k hu t f g e p q bal =
-    let b : Balanced (fork at hu k f g) = subst Balanced e bal in
-    subst (λ t. Opened slab at left right t f g) (sym e) (record {
-      down_kept = p;
-      stay_kept = q;
-      counts_are = λ x. refl;
-      leaves_are = IsPermutation-refl _;
-      down_balanced = b.1;
-      stay_balanced = b.2;
-      height_is = b.0.height_is;
-      down_low = b.0.left_low;
-      stay_low = b.0.right_low;
-    })
 
 -- the tops of inner_of children differ
 tops_differ : (at : ℕ) (t d s : Tree) → ((k : ℕ) → count_of t k ≤ 1) → ((k : ℕ) → count_of t k ≡ one at k + (count_of d k + count_of s k)) → top d ≢ top s

@@ -27,8 +27,8 @@ use std::marker::Model;
 ///
 /// Insertion goes down to the child whose centre is nearer. On the way up each node is rebalanced by a rotation where the
 /// heights of its children differ by two, up to one whose hull and height stay. Removal goes up in the same way, to the
-/// root. So a call that adds, drops or moves a leaf writes to a few nodes per level. The more such calls, the more hulls overlap: a rebuild now and then, from the top
-/// down, keeps searches short.
+/// root. So a call that adds, drops or moves a leaf writes to a few nodes per level. The more such calls, the more hulls
+/// overlap: a rebuild now and then, from the top down, keeps searches short.
 #[derive(Drop)]
 pub struct Nodes {
     // Each node is a key of the slab.
