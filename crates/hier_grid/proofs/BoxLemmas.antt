@@ -1,7 +1,9 @@
 -- Boxes in a list by their slots.
 use Rattle.std.proofs.Common.{◌≡◌, ℕ, zero, suc, ◌+◌, ◌<◌, ◌≤◌, Bool, true, List, [], ◌∷◌, length, get_or, map, Option, None, Some}
-use Rattle.std.proofs.Common.{is_some, refl, sym, ap, ◌∙◌, arith, inl, inr, ◌⊎◌, All}
+use Rattle.std.proofs.Common.{is_some, cond, refl, sym, ap, ◌∙◌, arith, inl, inr, ◌⊎◌, All}
 use Rattle.std.proofs.lemmas.Bool.{true≢false}
+use Rattle.std.proofs.lemmas.List.Recursion.{is_count_by}
+use Rattle.std.specs.List.{count_by}
 use Rattle.std.specs.Ordering.{nat_cmp}
 use Rattle.std.specs.FinMap.{FinMap, get, contains_key}
 use Rattle.fixed_box.specs.Bounds.{Bounds}
@@ -41,3 +43,18 @@ entry_some n (Some v ∷ xs) p h = λ i d l.
 pub slots_present : (boxes : List (Option Bounds)) → All (λ s. contains_key (map_of boxes) s ≡ true) (map (λ (e : ℕ × Bounds). e.0) (entries_from 0 boxes))
 slots_present boxes = entry_some 0 boxes (contains_key (map_of boxes))
     (λ k h. let e : 0 + k ≡ k = omega arith in ap (contains_key (map_of boxes)) e ∙ ap is_some (get_map boxes k) ∙ h)
+
+-- how many entries a list has doesn't depend on where its slots begin
+as_many : (n m : ℕ) (boxes : List (Option Bounds))
+    → length (map (λ (e : ℕ × Bounds). e.0) (entries_from n boxes)) ≡ length (map (λ (e : ℕ × Bounds). e.0) (entries_from m boxes))
+as_many n m [] = refl
+as_many n m (None ∷ xs) = as_many (n + 1) (m + 1) xs
+as_many n m (Some v ∷ xs) = ap suc (as_many (n + 1) (m + 1) xs)
+
+pub slots_counted : (boxes : List (Option Bounds)) → length (map (λ (e : ℕ × Bounds). e.0) (entries_from 0 boxes)) ≡ count_by is_some boxes
+slots_counted = is_count_by (λ bs. length (map (λ (e : ℕ × Bounds). e.0) (entries_from 0 bs))) is_some refl step
+  where
+    step : (x : Option Bounds) (xs : List (Option Bounds)) → length (map (λ (e : ℕ × Bounds). e.0) (entries_from 0 (x ∷ xs)))
+        ≡ cond (is_some x) (1 + length (map (λ (e : ℕ × Bounds). e.0) (entries_from 0 xs))) (length (map (λ (e : ℕ × Bounds). e.0) (entries_from 0 xs)))
+    step None xs = as_many 1 0 xs
+    step (Some v) xs = let e : length (map (λ (e : ℕ × Bounds). e.0) (entries_from 1 xs)) ≡ length (map (λ (e : ℕ × Bounds). e.0) (entries_from 0 xs)) = as_many 1 0 xs in omega arith

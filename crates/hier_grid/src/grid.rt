@@ -1,4 +1,4 @@
-ghost use Rattle.std.specs.Prelude.{◌≡◌, ◌<◌, ◌^◌, true, false, length, refl, Ok, None, is_some, IfOk, IfSome};
+ghost use Rattle.std.specs.Prelude.{◌≡◌, ◌↔◌, ◌<◌, ◌≤◌, ◌^◌, true, false, length, refl, Ok, None, is_some, IfOk, IfSome};
 ghost use Rattle.std.specs.FinMap as map;
 ghost use Rattle.std.specs.List.{All};
 ghost use Rattle.broad_index.specs.Fresh.{IsFresh};
@@ -9,7 +9,8 @@ use crate::hits::{push_hits, push_reach};
 use crate::kept_boxes::KeptBoxes;
 use crate::pair_search::{Findings, find_run};
 use broad_index::{
-    BroadPhase, Pair, PairSeeker, Query, join_pieces, push_rising_pairs, settle_pairs,
+    BroadPhase, FEWEST_SOUGHT, Pair, PairSeeker, Query, join_pieces, push_rising_pairs,
+    settle_pairs,
 };
 use cell_table::CellTable;
 use fixed_box::{FBox, NoMemory, SLOTS};
@@ -180,6 +181,13 @@ impl BroadPhase for HierGrid {
     }
 
     fn clear_exchanges(&mut self) {}
+
+    // Each present slot is sought.
+    fn pays_threads(&self) -> bool
+        ensures { (result ≡ true) ↔ (FEWEST_SOUGHT ≤ length (present self.now)) }
+    {
+        self.kept.boxes().len() >= FEWEST_SOUGHT
+    }
 
     // Several threads search wherever they may.
     fn share(&self, alloc: Global) -> Result<Option<(&HierGrid, Vec<u32>)>, NoMemory>

@@ -1,5 +1,5 @@
 ghost use Rattle.std.specs.Prelude.{◌≡◌, ℕ, ◌<◌, ◌≤◌, true, false, None, Some, IfOk, OnOk, length};
-ghost use Rattle.std.specs.Prelude.{All, map as mapped, slice_index_or};
+ghost use Rattle.std.specs.Prelude.{All, count_by, is_some, map as mapped, slice_index_or};
 ghost use Rattle.std.specs.FinMap as map;
 ghost use Rattle.broad_index.specs.Members.{both_meet, is_found};
 ghost use Rattle.fixed_box.specs.SlotMap.{entries_from};
@@ -103,6 +103,13 @@ impl SlotBoxes {
         self.boxes[slot as usize] = None;
     }
 
+    /// How many slots are present.
+    pub(crate) fn len(&self) -> usize
+        ensures { result ≡ length (present self.now) }
+    {
+        count_present(&self.boxes)
+    }
+
     /// The present slots, rising.
     pub(crate) fn present(&self, alloc: Global) -> Result<Vec<u32>, NoMemory>
         ensures slots { IfOk result (λ slots. slots.items ≡ present self.now) }
@@ -145,6 +152,13 @@ fn no_boxes(alloc: Global) -> Result<Vec<Option<FBox>>, NoMemory>
         boxes.push(None)?;
     }
     Ok(boxes)
+}
+
+// How many slots have boxes.
+fn count_present(boxes: &[Option<FBox>]) -> usize
+    ensures { result ≡ count_by is_some boxes.now }
+{
+    boxes.iter().filter(|body| body.is_some()).count()
 }
 
 // Replaces a list by the slots that have boxes.

@@ -10,7 +10,7 @@ use broad_index::{NoGate, Pair, Query};
 use cell_table::CellKey;
 use dice::Dice;
 use fixed_box::{FBox, NoMemory, Point, SLOTS};
-use meeting::Meeting;
+use meeting::{Meeting, Threaded};
 use ray_slabs::{Ray, Seg, WPoint};
 use std::alloc::Global;
 use std::process::Abort;
@@ -119,7 +119,7 @@ fn compare_workers<R: Threads + Sync + Abort>(
 {
     let mut pairs = Vec::new(alloc);
     let mut plain = Vec::new(alloc);
-    both.pairs_with(rt, workers, &NoGate, &mut pairs)?;
+    both.pairs_with(rt, workers, &Threaded, &mut pairs)?;
     both.plain_pairs(&mut plain)?;
     same_pairs(rt, "pairs with workers", &pairs, &plain);
     Ok(())
@@ -166,7 +166,7 @@ fn spare_comparisons<R: Threads + Sync + Abort>(
     let looked = both.looked();
     assert!(rt; is_sparing(looked, &pairs));
     pairs.clear();
-    both.pairs_with(rt, 2, &NoGate, &mut pairs)?;
+    both.pairs_with(rt, 2, &Threaded, &mut pairs)?;
     assert!(rt; is_sparing(both.looked().saturating_sub(looked), &pairs));
     Ok(())
 }

@@ -1,6 +1,14 @@
 use broad_index::Gate;
 use std::sync::atomic::{AtomicBool, AtomicU32, Ordering};
 
+// A gate that asks for a thread of its own for each piece, however few slots are sought.
+#[derive(Drop)]
+pub(super) struct Threaded;
+
+impl Gate for Threaded {
+    fn enter(&self, _piece: u32) {}
+}
+
 // A gate whose first two pieces each look for the other, and how often that was seen.
 #[derive(Drop)]
 pub(super) struct Meeting {
