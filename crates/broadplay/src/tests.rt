@@ -1,4 +1,6 @@
+ghost use Rattle.std.specs.Prelude.{◌≤◌};
 ghost use Rattle.broad_index.specs.Fresh.{IsFresh};
+ghost use Rattle.scene_lines.specs.declared.TheConstants.{MOST_LINES};
 
 mod drill;
 
@@ -9,6 +11,7 @@ use frame_player::{Limits, Options, play};
 use hier_grid::HierGrid;
 use pair_report::Cause;
 use play_io::{HonestSink, HonestSource, MemSink, MemSource};
+use scene_lines::MOST_LINES;
 use std::alloc::{AllocError, Global};
 use std::process::Abort;
 use std::sync::atomic::{AtomicBool, AtomicU32, Ordering};
@@ -37,6 +40,36 @@ fn written<R: Threads + Sync + Abort>(
     Ok(())
 }
 
+// A gate that asks for a thread of its own for each piece, however little there is to search.
+#[derive(Drop)]
+struct Threaded;
+
+impl Gate for Threaded {
+    fn enter(&self, _piece: u32) {}
+}
+
+// What each structure that is shared writes for a scene where four threads search, however little there is.
+fn written_by_threads<R: Threads + Sync + Abort>(
+    rt: &R,
+    alloc: Global,
+    scene: &[u8],
+    report: &[u8],
+    status: Status,
+) -> Result<(), Fail> {
+    let tree = BoxTree::new(alloc)?;
+    played_over(
+        rt, alloc, tree, 4, MOST_LINES, &Threaded, scene, report, status,
+    )?;
+    let grid = HierGrid::new(alloc)?;
+    played_over(
+        rt, alloc, grid, 4, MOST_LINES, &Threaded, scene, report, status,
+    )?;
+    let plain = PlainIndex::new(alloc)?;
+    played_over(
+        rt, alloc, plain, 4, MOST_LINES, &Threaded, scene, report, status,
+    )
+}
+
 // What each structure writes for a scene, with one thread and with several.
 fn written_by_all<R: Threads + Sync + Abort>(
     rt: &R,
@@ -59,7 +92,7 @@ fn written_by_all<R: Threads + Sync + Abort>(
     for list in words {
         written(rt, alloc, list, scene, report, status)?;
     }
-    Ok(())
+    written_by_threads(rt, alloc, scene, report, status)
 }
 
 fn refused(line: u32, cause: Cause) -> Status {
@@ -457,16 +490,21 @@ fn other_command_lines_touch_nothing(rt: HostRuntime) -> Result<(), Fail> {
     Ok(())
 }
 
-// What a play of at most three lines over an index writes.
-fn played_over<R: Threads + Sync + Abort, B: BroadPhase + Sync + Drop>(
+// What a play of at most so many lines over an index writes.
+fn played_over<R: Threads + Sync + Abort, B: BroadPhase + Sync + Drop, G: Gate + Sync>(
     rt: &R,
     alloc: Global,
     index: B,
+    workers: u32,
+    lines: u32,
+    gate: &G,
     scene: &[u8],
     report: &[u8],
     status: Status,
 ) -> Result<(), Fail>
-    requires { IsFresh (B.bodies index) (B.spent index) (B.exchanges index) }
+    requires fresh { IsFresh (B.bodies index) (B.spent index) (B.exchanges index) }
+    requires workers { (1 ≤ workers) × (workers ≤ 16) }
+    requires lines { (1 ≤ lines) × (lines ≤ MOST_LINES) }
 {
     let mut source = HonestSource::new(alloc, scene, 5)?;
     let mut sink = HonestSink::new(alloc, 5);
@@ -475,11 +513,11 @@ fn played_over<R: Threads + Sync + Abort, B: BroadPhase + Sync + Drop>(
         alloc,
         index,
         Options {
-            workers: 1,
+            workers,
             exchanges: false,
         },
-        Limits { lines: 3 },
-        &NoGate,
+        Limits { lines },
+        gate,
         &mut source,
         &mut sink,
     );
@@ -495,10 +533,14 @@ fn played_within<R: Threads + Sync + Abort>(
     report: &[u8],
     status: Status,
 ) -> Result<(), Fail> {
-    played_over(rt, alloc, PlainIndex::new(alloc)?, scene, report, status)?;
-    played_over(rt, alloc, Sap::new(alloc)?, scene, report, status)?;
-    played_over(rt, alloc, BoxTree::new(alloc)?, scene, report, status)?;
-    played_over(rt, alloc, HierGrid::new(alloc)?, scene, report, status)
+    let plain = PlainIndex::new(alloc)?;
+    played_over(rt, alloc, plain, 1, 3, &NoGate, scene, report, status)?;
+    let sap = Sap::new(alloc)?;
+    played_over(rt, alloc, sap, 1, 3, &NoGate, scene, report, status)?;
+    let tree = BoxTree::new(alloc)?;
+    played_over(rt, alloc, tree, 1, 3, &NoGate, scene, report, status)?;
+    let grid = HierGrid::new(alloc)?;
+    played_over(rt, alloc, grid, 1, 3, &NoGate, scene, report, status)
 }
 
 #[test]

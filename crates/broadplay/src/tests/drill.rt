@@ -221,7 +221,7 @@ impl Applied {
             return Ok(0);
         }
         let mut found = Vec::new(alloc);
-        self.grid.pairs_with(rt, workers, &NoGate, &mut found)?;
+        self.grid.pairs_with(rt, workers, &Threaded, &mut found)?;
         Ok(found.len() as u64)
     }
 }
