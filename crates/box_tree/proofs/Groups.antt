@@ -237,7 +237,8 @@ module _ (w : BoxLaws) where
 
   -- what the hull of a group misses none of the group meets
   -- so no bit is set
-  pub quiet_mask : (whole h : Bounds) (bs : List Bounds) → meets whole h ≡ false → All (λ (b : Bounds). encloses whole b ≡ true) bs → next_eight (meets h) 0 bs ≡ 0
+  pub quiet_mask : (whole h : Bounds) (bs : List Bounds) → meets whole h ≡ false → All (λ (b : Bounds). encloses whole b ≡ true) bs
+      → next_eight (meets h) 0 bs ≡ 0
   quiet_mask whole h bs m around = at 8 bs around
     where
       at : (n : ℕ) (xs : List Bounds) → All (λ (b : Bounds). encloses whole b ≡ true) xs → mask_l (map (meets h) (take n xs)) ≡ 0

@@ -23,7 +23,7 @@ use Rattle.broad_index.specs.Touched.{gathered_with, AreKept, AreMarked, Renewed
 use Rattle.tree_nodes.specs.Tree.{Tree, Leaf, tip, fork, leaves, leaves_in}
 use Rattle.box_tree.specs.Boxes.{Boxes, visits_for, cost, sought, raised, searched, untouched}
 use Rattle.box_tree.specs.Descent.{entry_of, exact, exact_in, IsLeafInside, IsInside, IsInsideIn}
-use Rattle.box_tree.specs.Searches.{sought_from, reached_by, reached_in, searches}
+use Rattle.box_tree.specs.Searches.{looked_for, sought_from, reached_by, reached_in, searches}
 use Rattle.fixed_box.specs.SlotMap.{map_of}
 use Rattle.box_tree.specs.Ties.{Sound}
 use Rattle.fixed_box.specs.SlotMapLaws.{get_map, entries_of_map, tie_same, tie_other}
@@ -257,7 +257,7 @@ same_searched o bodies fats marks touched looked n v view len et en =
     }) view
 
 pub costs_viewed : (o : Option Tree) (bodies fats : List (Option Bounds)) (marks : List Bool) (looked n : ℕ) (v : Boxes) → seen o bodies fats marks looked ≡ v
-    → n ≡ raised looked (sum (map (λ k. visits_for o (get_or bodies k None)) (sought_from marks 0 bodies)))
+    → n ≡ looked_for o bodies (sought_from marks 0 bodies) looked
     → n ≡ raised v.looked (sum (map (cost v) (sought v)))
 costs_viewed o bodies fats marks looked n v view e =
     e ∙ ap (λ l. raised looked (sum l))

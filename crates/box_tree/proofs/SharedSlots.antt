@@ -25,7 +25,7 @@ use Rattle.box_tree.specs.declared.touched.TheConstants.{FEWEST_GROUPED}
 use Rattle.box_tree.specs.Boxes.{Boxes, visits_for, cost, marked_slots, shared_slots, sought, raised, Finds}
 use Rattle.box_tree.specs.Descent.{entry_of, exact, exact_in}
 use Rattle.box_tree.specs.Group.{touched_of, crossed, all_visits_in, Adds, AreOf}
-use Rattle.box_tree.specs.Searches.{searches, shared_from, sought_from}
+use Rattle.box_tree.specs.Searches.{looked_for, searches, shared_from, sought_from}
 use Rattle.box_tree.specs.Ties.{Sound}
 use Rattle.box_tree.proofs.Counts.{raised_again}
 use Rattle.box_tree.proofs.CrossedPairs.{has_append}
@@ -204,7 +204,7 @@ module _ (o : Option Tree) (bodies fats : List (Option Bounds)) (numbers : List 
 
     -- what a search of some slots finds
     pub finds_viewed : ReachLaw → TouchedLaw → (bs : List (Option Bounds)) (slots : List ℕ) (before found : List Pair) (n : ℕ) → bs ≡ bodies → before ≡ []
-        → Adds before found (gathered_with (searches bs o slots)) → n ≡ raised 0 (sum (map (λ k. visits_for o (get_or bs k None)) slots))
+        → Adds before found (gathered_with (searches bs o slots)) → n ≡ looked_for o bs slots 0
         → Finds v slots found n
     finds_viewed law touched bs slots before found n eb en adds e = record {
       pairs_are = λ p. adds p
@@ -214,7 +214,7 @@ module _ (o : Option Tree) (bodies fats : List (Option Bounds)) (numbers : List 
           ∙ ap (λ l. is_near (map_of bodies) p && (has_slot l p.a || has_slot l p.b)) (searched_slots bodies o slots)
           ∙ ap (λ (b : Boxes). is_near b.bodies p && (has_slot slots p.a || has_slot slots p.b)) view;
       number_is = e
-          ∙ ap (λ xs. raised 0 (sum (map (λ k. visits_for o (get_or xs k None)) slots))) eb
+          ∙ ap (λ xs. looked_for o xs slots 0) eb
           ∙ ap (λ l. raised 0 (sum l)) (same_costs o bodies slots)
           ∙ ap (λ (b : Boxes). raised 0 (sum (map (cost b) slots))) view;
     }

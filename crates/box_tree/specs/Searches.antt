@@ -1,11 +1,12 @@
 -- Serves proofs alone: the searches of touched slots.
-use Rattle.std.specs.Prelude.{ℕ, Bool, false, not, ◌==◌, nat_lt, if◌then◌else◌, List, [], ◌∷◌, ◌++◌, length, map, filter, Option, None, Some, slice_index_or}
+use Rattle.std.specs.Prelude.{ℕ, Bool, false, not, ◌==◌, nat_lt, if◌then◌else◌}
+use Rattle.std.specs.Prelude.{List, [], ◌∷◌, ◌++◌, length, map, sum, filter, Option, None, Some, slice_index_or}
 use Rattle.fixed_box.specs.Bounds.{Bounds}
 use Rattle.broad_index.specs.declared.query.Query.TheVariants.{Region}
 use Rattle.broad_index.specs.Found.{found_of}
 use Rattle.tree_nodes.specs.Tree.{Tree, leaves_in}
 use Rattle.box_tree.specs.declared.touched.TheConstants.{FEWEST_GROUPED}
-use Rattle.box_tree.specs.Boxes.{marked_slots}
+use Rattle.box_tree.specs.Boxes.{marked_slots, raised, visits_for}
 use Rattle.box_tree.specs.Descent.{entry_of, exact_in}
 use Rattle.fixed_box.specs.SlotMap.{entries_from}
 
@@ -24,6 +25,10 @@ reached_in bodies tree slot = reached_by bodies tree slot (slice_index_or bodies
 -- each slot with what it reaches
 abbrev pub searches : List (Option Bounds) → Option Tree → List ℕ → List (ℕ × List ℕ)
 searches bodies tree slots = map (λ s. (s, reached_in bodies tree s)) slots
+
+-- a number raised by how many nodes descents for the boxes of some slots look at
+abbrev pub looked_for : Option Tree → List (Option Bounds) → List ℕ → ℕ → ℕ
+looked_for tree bodies slots looked = raised looked (sum (map (λ s. visits_for tree (slice_index_or bodies s None)) slots))
 
 -- those of slots that have boxes, each with it
 abbrev pub boxed : List (Option Bounds) → List ℕ → List (ℕ × Bounds)

@@ -1,11 +1,9 @@
-ghost use Rattle.std.specs.Prelude.{◌≡◌, ℕ, ◌≤◌, ◌++◌, not, ◌==◌, [], map, sum, filter, length, OnOk, OnErr, IfOk};
+ghost use Rattle.std.specs.Prelude.{◌≡◌, ℕ, ◌≤◌, ◌++◌, not, ◌==◌, [], filter, length, None, OnOk, IfOk, slice_index_or};
 ghost use Rattle.fixed_box.specs.declared.TheConstants.{SLOTS};
-ghost use Rattle.broad_index.specs.Members.{has_slot, is_reached};
 ghost use Rattle.broad_index.specs.Touched.{gathered_with};
-ghost use Rattle.box_tree.specs.Boxes.{raised, visits_for};
+ghost use Rattle.box_tree.specs.Boxes.{visits_for};
 ghost use Rattle.box_tree.specs.Descent.{IsInsideIn};
-ghost use Rattle.box_tree.specs.Searches.{sought_from, reached_in, searches};
-ghost use Rattle.std.specs.Prelude.{slice_index_or, None};
+ghost use Rattle.box_tree.specs.Searches.{sought_from, reached_in, searches, looked_for};
 
 use crate::descent::descend;
 use broad_index::{Pair, Query, push_ordered_pairs};
@@ -87,7 +85,7 @@ pub(crate) fn search_all(
 ) -> Result<u64, NoMemory>
     requires { IsInsideIn bodies.now nodes.now }
     ensures ok { OnOk result (found.new.items ≡ found.old.items ++ gathered_with (searches bodies.now nodes.now slots.now)) }
-    ensures count { IfOk result (λ n. n ≡ raised looked (sum (map (λ s. visits_for nodes.now (slice_index_or bodies.now s None)) slots.now))) }
+    ensures count { IfOk result (λ n. n ≡ looked_for nodes.now bodies.now slots.now looked) }
 {
     let mut rest = slots;
     let mut number = looked;

@@ -1,4 +1,4 @@
-ghost use Rattle.std.specs.Prelude.{◌≡◌, ◌||◌, ◌≤◌, ◌++◌, List, Option, ℕ, [], true, false, map, sum, filter, not, ◌==◌, length, None, OnOk, IfOk, slice_index_or};
+ghost use Rattle.std.specs.Prelude.{◌≡◌, ◌||◌, ◌≤◌, ◌++◌, List, Option, ℕ, [], true, false, map, filter, not, ◌==◌, length, OnOk, IfOk, slice_index_or};
 ghost use Rattle.fixed_box.specs.Bounds.{Bounds};
 ghost use Rattle.fixed_box.specs.SlotMap.{map_of};
 ghost use Rattle.broad_index.specs.declared.pair.Pair.{Pair};
@@ -9,11 +9,11 @@ ghost use Rattle.broad_index.specs.Members.{has_slot};
 ghost use Rattle.broad_index.specs.Touched.{ordered_pairs, gathered_with, AreKept, Renewed};
 ghost use Rattle.fixed_box.specs.declared.TheConstants.{SLOTS};
 ghost use Rattle.tree_nodes.specs.Tree.{Tree, leaves, visits_in};
-ghost use Rattle.box_tree.specs.Boxes.{marked_slots, raised, visits_for};
+ghost use Rattle.box_tree.specs.Boxes.{marked_slots, raised};
 ghost use Rattle.box_tree.specs.Descent.{exact_in, IsInsideIn};
 ghost use Rattle.box_tree.specs.Group.{crossed, all_visits_in, Adds, AreOf, IsBelow};
 ghost use Rattle.box_tree.specs.Preorder.{preorder_in};
-ghost use Rattle.box_tree.specs.Searches.{boxed, searches, shared_from, sought_from};
+ghost use Rattle.box_tree.specs.Searches.{boxed, looked_for, searches, shared_from, sought_from};
 ghost use Rattle.box_tree.specs.Ties.{Sound};
 
 use crate::descent::descend;
@@ -70,8 +70,7 @@ pub(crate) fn search_touched(
         Sound nodes.now bodies.now fats numbers marks.now kept }
     ensures ok { (kept : List Pair) → AreKept (map_of bodies.now) marks.now kept →
         OnOk result (Renewed (map_of bodies.now) marks.now kept room.new.found.items) }
-    ensures count { IfOk result (λ n. n ≡
-        raised looked (sum (map (λ k. visits_for nodes.now (slice_index_or bodies.now k None)) (sought_from marks.now 0 bodies.now)))) }
+    ensures count { IfOk result (λ n. n ≡ looked_for nodes.now bodies.now (sought_from marks.now 0 bodies.now) looked) }
 {
     holding_laws();
     keeping_laws();
@@ -138,7 +137,7 @@ pub(crate) fn search_run(
     requires inside { IsInsideIn bodies.now nodes.now }
     requires held { Holds (map_of bodies.now) (exact_in bodies.now nodes.now) }
     ensures ok { OnOk result (Adds found.old.items found.new.items (gathered_with (searches bodies.now nodes.now slots.now))) }
-    ensures count { IfOk result (λ n. n ≡ raised looked (sum (map (λ s. visits_for nodes.now (slice_index_or bodies.now s None)) slots.now))) }
+    ensures count { IfOk result (λ n. n ≡ looked_for nodes.now bodies.now slots.now looked) }
 {
     if slots.len() < FEWEST_IN_PIECE {
         let few = search_slots(nodes, bodies, slots, looked, room, found)?;
@@ -162,7 +161,7 @@ fn search_slots(
 ) -> Result<u64, NoMemory>
     requires { IsInsideIn bodies.now nodes.now }
     ensures ok { OnOk result (found.new.items ≡ found.old.items ++ gathered_with (searches bodies.now nodes.now slots.now)) }
-    ensures count { IfOk result (λ n. n ≡ raised looked (sum (map (λ s. visits_for nodes.now (slice_index_or bodies.now s None)) slots.now))) }
+    ensures count { IfOk result (λ n. n ≡ looked_for nodes.now bodies.now slots.now looked) }
 {
     search_all(
         nodes,

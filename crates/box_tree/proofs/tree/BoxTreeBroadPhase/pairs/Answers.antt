@@ -1,9 +1,7 @@
 -- The touched slots are searched for, and the pairs renewed.
-use Rattle.std.proofs.Common.{◌∙◌, sym, ap, subst, map, None, get_or}
-use Rattle.std.specs.List.{sum}
+use Rattle.std.proofs.Common.{◌∙◌, sym, ap, subst}
 use Rattle.broad_index.specs.Touched.{AreKept, Renewed}
-use Rattle.box_tree.specs.Boxes.{raised, visits_for}
-use Rattle.box_tree.specs.Searches.{sought_from}
+use Rattle.box_tree.specs.Searches.{looked_for, sought_from}
 use Rattle.box_tree.specs.Ties.{Sound}
 use Rattle.fixed_box.specs.SlotMap.{map_of}
 use Rattle.box_tree.proofs.Searching.{sound_renewed, near_viewed, same_searched, costs_viewed}
@@ -54,6 +52,5 @@ returns-clause-paired c =
     c.self.invariant.marks_len c.in_ok-renew.ensures.marks
     (costs_viewed s.nodes s.bodies.items s.fats.items s.marks.items s.looked c.in_ok-looked.looked c.args.self.now c.self.view_is
     (c.in_ok-looked.ensures.count
-    ∙ ap (λ bs. raised s.looked (sum (map (λ k. visits_for s.nodes (get_or bs k None)) (sought_from c.deref-2.result.now 0 bs)))) c.deref.ensures.value
-    ∙ ap (λ ms. raised s.looked (sum (map (λ k. visits_for s.nodes (get_or s.bodies.items k None)) (sought_from ms 0 s.bodies.items))))
-    c.deref-2.ensures.value))
+    ∙ ap (λ bs. looked_for s.nodes bs (sought_from c.deref-2.result.now 0 bs) s.looked) c.deref.ensures.value
+    ∙ ap (λ ms. looked_for s.nodes s.bodies.items (sought_from ms 0 s.bodies.items) s.looked) c.deref-2.ensures.value))
