@@ -140,7 +140,8 @@ fn row_of(cell: &CellKey) -> CellRow
     }
 }
 
-// Finds the pairs of a slot with its partners of higher slots in its own cell, the only one of a row.
+// Finds the pairs of a slot with its partners of higher slots in its own cell, the only one of a row. Where no boxes are
+// listed, the slots along its ring of links are compared.
 fn find_own(
     kept: &KeptBoxes,
     listed: Option<&BucketBoxes>,
@@ -156,29 +157,11 @@ fn find_own(
     ensures more { OnOk result (HasPairs pairs.old.items pairs.new.items) }
     ensures found { OnOk result (FindsWhere kept.now own.now false (λ _ b. IsInRow row.now (cell_of b)) pairs.new.items) }
 {
-    let Some(boxes) = listed else {
-        return own_linked(kept, own, row, near, pairs);
-    };
-    boxes.find_in_row(own, false, row, &mut near.looked, pairs)?;
-    Ok(())
-}
-
-// The same along the rings of links.
-fn own_linked(
-    kept: &KeptBoxes,
-    own: &SlotBox,
-    row: &CellRow,
-    near: &mut Nearby,
-    pairs: &mut Vec<Pair>,
-) -> Result<(), NoMemory>
-    requires own { map.get kept.now own.now.slot ≡ Some own.now.body }
-    requires sound { IsSound kept.now pairs.old.items }
-    ensures sound { OnOk result (IsSound kept.now pairs.new.items) }
-    ensures more { OnOk result (HasPairs pairs.old.items pairs.new.items) }
-    ensures found { OnOk result (FindsWhere kept.now own.now false (λ _ b. IsInRow row.now (cell_of b)) pairs.new.items) }
-{
     near.slots.clear();
-    visit_row(kept.cells(), row, &mut near.slots)?;
+    match listed {
+        Some(boxes) => boxes.find_in_row(own, false, row, &mut near.looked, pairs)?,
+        None => visit_row(kept.cells(), row, &mut near.slots)?,
+    }
     find_among(kept, own, false, near, pairs)?;
     Ok(())
 }
