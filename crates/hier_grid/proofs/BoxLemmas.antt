@@ -57,4 +57,7 @@ slots_counted = is_count_by (λ bs. length (map (λ (e : ℕ × Bounds). e.0) (e
     step : (x : Option Bounds) (xs : List (Option Bounds)) → length (map (λ (e : ℕ × Bounds). e.0) (entries_from 0 (x ∷ xs)))
         ≡ cond (is_some x) (1 + length (map (λ (e : ℕ × Bounds). e.0) (entries_from 0 xs))) (length (map (λ (e : ℕ × Bounds). e.0) (entries_from 0 xs)))
     step None xs = as_many 1 0 xs
-    step (Some v) xs = let e : length (map (λ (e : ℕ × Bounds). e.0) (entries_from 1 xs)) ≡ length (map (λ (e : ℕ × Bounds). e.0) (entries_from 0 xs)) = as_many 1 0 xs in omega arith
+    step (Some v) xs =
+        let e : length (map (λ (e : ℕ × Bounds). e.0) (entries_from 1 xs))
+        ≡ length (map (λ (e : ℕ × Bounds). e.0) (entries_from 0 xs)) = as_many 1 0 xs in
+        omega arith
