@@ -3,7 +3,7 @@ use Rattle.std.proofs.Common.{◌≡◌, ℕ, zero, suc, ◌+◌, ◌<◌, ◌�
 use Rattle.std.proofs.Common.{List, [], ◌∷◌, ◌++◌, map, length, take, drop, get_or, Some, arith}
 use Rattle.std.specs.List.{filter, drop-map, take-map}
 use Rattle.std.proofs.lemmas.List.Elements.{All-append, All-cons, All-drop, All-nil, All-take}
-use Rattle.std.proofs.lemmas.List.{append_assoc, length-map, map-append}
+use Rattle.std.proofs.lemmas.List.{append_assoc, map-append}
 use Rattle.std.proofs.lemmas.Bool.Decides.{nat_tests}
 use Rattle.std.specs.Ordering.{nat_cmp}
 use Rattle.std.specs.FinMap.{FinMap, get}
@@ -11,9 +11,8 @@ use Rattle.fixed_box.specs.Bounds.{Bounds, meets}
 use Rattle.broad_index.specs.declared.pair.Pair.{Pair}
 use Rattle.broad_index.specs.Members.{has_pair, has_slot, both_meet}
 use Rattle.broad_index.specs.Touched.{ordered}
-use Rattle.hier_grid.specs.declared.bucket_boxes.BucketBoxes.{BucketBoxes}
 use Rattle.hier_grid.specs.declared.bucket_boxes.SlotBox.{SlotBox}
-use Rattle.hier_grid.specs.Buckets.{AreOf, HasBuckets, is_met, met_pairs}
+use Rattle.hier_grid.specs.Buckets.{AreOf, is_met, met_pairs}
 use Rattle.hier_grid.specs.Search.{is_partner, IsSound}
 use Rattle.hier_grid.proofs.RunLemmas.{parted, rest_of}
 use Rattle.hier_grid.proofs.PartnerLemmas.{found_pairs, sound_pairs, pair_in}
@@ -97,7 +96,3 @@ slots_more es e rest slots l at h =
     ∙ ap (λ x. slots_of es ++ x ∷ rest_of rest) at
     ∙ ap (λ xs. slots_of es ++ xs) (sym (parted rest l))
     ∙ h
-
--- as many boxes as slots
-pub even : (bodies : FinMap nat_cmp Bounds) (boxes : BucketBoxes) → HasBuckets bodies boxes → length boxes.entries.items ≡ length boxes.list.slots
-even bodies boxes h = sym (length-map boxes.entries.items (λ (e : SlotBox). e.slot)) ∙ ap length h.same
