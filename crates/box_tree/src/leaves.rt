@@ -156,13 +156,14 @@ fn renew_leaf(
     }
 }
 
-// Whether a leaf may stay in its place, for speed alone: in a grid whose cells are longer than the box, its lower corner
-// stays in its cell. So no leaf that is only moved goes far from where it was put, however often it moves.
+// Whether a leaf may stay in its place, for speed alone: in a grid whose cells are at least four times as long as the box,
+// its lower corner stays in its cell. So no leaf that is only moved goes far from where it was put, however often it moves.
+// In shorter cells more leaves are dropped and added than searches gain by it, and in longer ones searches look at more.
 fn is_near(old: &Option<FBox>, fat: &FBox) -> bool {
     let Some(old) = old else {
         return false;
     };
-    let bits = 32 - fat.longest_side().leading_zeros();
+    let bits = (34 - fat.longest_side().leading_zeros()).min(32);
     let (from, to) = (old.lo(), fat.lo());
     is_one_cell(from.x, to.x, bits)
         && is_one_cell(from.y, to.y, bits)

@@ -1,9 +1,10 @@
--- Boxes whose six numbers are equal are the same.
+-- Boxes whose six numbers are equal are the same, as the two unions of two boxes are.
 use Rattle.std.proofs.Common.{◌≡◌, Bool, true, false, not, ◌&&◌, ℤ, int_eq, refl, arith}
 use Rattle.std.proofs.lemmas.Bool.{and_parts}
 use Rattle.std.proofs.lemmas.Int.{ints}
 use Rattle.fixed_box.specs.declared.point.Point.{Point}
-use Rattle.fixed_box.specs.Bounds.{Bounds}
+use Rattle.std.specs.Int.{int_min, int_max}
+use Rattle.fixed_box.specs.Bounds.{Bounds, hull as union}
 
 equal : (x y : ℤ) → int_eq x y ≡ true → x ≡ y
 equal x y h = grind (arith, ints)
@@ -43,3 +44,21 @@ same_box a b h =
     let lo = int_eq a.lo.x b.lo.x && (int_eq a.lo.y b.lo.y && int_eq a.lo.z b.lo.z) in
     let hi = int_eq a.hi.x b.hi.x && (int_eq a.hi.y b.hi.y && int_eq a.hi.z b.hi.z) in
     equal_box a b (not_false (lo && hi) h)
+
+lesser_of : (x y : ℤ) → int_min x y ≡ int_min y x
+lesser_of x y = grind (arith, ints)
+
+greater_of : (x y : ℤ) → int_max x y ≡ int_max y x
+greater_of x y = grind (arith, ints)
+
+pub either_way : (a b : Bounds) → union a b ≡ union b a
+either_way a b =
+    rw (
+      lesser_of a.lo.x b.lo.x,
+      lesser_of a.lo.y b.lo.y,
+      lesser_of a.lo.z b.lo.z,
+      greater_of a.hi.x b.hi.x,
+      greater_of a.hi.y b.hi.y,
+      greater_of a.hi.z b.hi.z,
+    )
+    refl

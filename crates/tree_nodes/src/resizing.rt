@@ -1,4 +1,4 @@
-ghost use Rattle.std.specs.Prelude.{◌≡◌, ◌≢◌, ℕ, ◌≤◌, true, false, option_map};
+ghost use Rattle.std.specs.Prelude.{◌≡◌, ◌≢◌, ◌⊎◌, ℕ, ◌≤◌, true, false, option_map};
 ghost use Rattle.slab.specs.Slab.{get, ContainsKey};
 ghost use Rattle.fixed_box.specs.Bounds.{Bounds};
 ghost use Rattle.tree_nodes.specs.Resized.{with_bounds, resized, Raises, Rebounded};
@@ -84,21 +84,26 @@ fn change_above(slab: &Slab<NodeView>, kin: &[Kin], at: usize, bounds: &FBox) ->
                 height: _,
             },
         ) => {
-            if *left == at {
-                if *right == sibling {
-                    let raised = bounds.union(&bounds_at(slab, sibling));
-                    return change_of(parent, hull, &raised);
-                }
-            } else if *right == at {
-                if *left == sibling {
-                    let raised = bounds_at(slab, sibling).union(bounds);
-                    return change_of(parent, hull, &raised);
-                }
+            if are_children(*left, *right, at, sibling) {
+                // Either may stand left: a union is the same both ways.
+                let raised = bounds.union(&bounds_at(slab, sibling));
+                return change_of(parent, hull, &raised);
             }
             Above::Unknown
         }
         _ => Above::Unknown,
     }
+}
+
+// Whether two nodes are the children of a node, in either order. As it is as likely to be either, both are asked without a
+// branch.
+#[inline]
+fn are_children(left: usize, right: usize, at: usize, sibling: usize) -> bool
+    ensures { result ≡ true → ((left ≡ at) × (right ≡ sibling)) ⊎ ((right ≡ at) × (left ≡ sibling)) }
+{
+    let first = (left == at) & (right == sibling);
+    let second = (right == at) & (left == sibling);
+    first | second
 }
 
 // Whether the hull that a parent gets is another one.
