@@ -1,6 +1,6 @@
 -- Comparisons of eight signed numbers at once, as lists of truth values.
 use Rattle.std.proofs.Common.{◌≡◌, ℕ, zero, suc, ◌+◌, ◌≤◌, ℤ, int_le, Bool, true, false, cond, ◌&&◌, List, [], ◌∷◌, length, map, take, drop}
-use Rattle.std.proofs.Common.{replicate, w32, SFits, of_z, to_z, refl, ap, ◌∙◌, arith}
+use Rattle.std.proofs.Common.{replicate, w32, SFits, of_z, to_z, refl, ap, ap₂, ◌∙◌, arith}
 use Rattle.std.proofs.Common.{length-take, length-drop}
 use Rattle.std.specs.Simd.Lanes.{zip2, Each1, top}
 use Rattle.std.proofs.lemmas.Int.{to_z-of_z}
@@ -53,17 +53,26 @@ from_lanes [] = refl
 from_lanes (true ∷ bs) = rw (from_lanes bs) refl
 from_lanes (false ∷ bs) = rw (from_lanes bs) refl
 
+-- numbers of 32 bits are those of their lanes
+pub kept_lanes : (xs : List ℤ) → Each1 (SFits w32) xs → map (to_z w32) (map (of_z w32) xs) ≡ xs
+kept_lanes [] h = refl
+kept_lanes (x ∷ xs) h = ap₂ (λ y ys. y ∷ ys) (to_z-of_z w32 x h.0) (kept_lanes xs h.1)
+
+pub most_is : (xs : List ℤ) (y : ℤ) → length xs ≡ 8 → Each1 (SFits w32) xs → SFits w32 y
+    → map (to_z w32) (zip2 lane_le (map (of_z w32) xs) (replicate 8 (of_z w32 y))) ≡ map lane (map (λ x. int_le x y) xs)
+most_is xs y long fits fy = ap (map (to_z w32)) (each_most 8 xs y fits fy long) ∙ to_lanes (map (λ x. int_le x y) xs)
+
+pub least_is : (xs : List ℤ) (y : ℤ) → length xs ≡ 8 → Each1 (SFits w32) xs → SFits w32 y
+    → map (to_z w32) (zip2 lane_le (replicate 8 (of_z w32 y)) (map (of_z w32) xs)) ≡ map lane (map (λ x. int_le y x) xs)
+least_is xs y long fits fy = ap (map (to_z w32)) (each_least 8 xs y fits fy long) ∙ to_lanes (map (λ x. int_le y x) xs)
+
 pub at_most_is : (xs : List ℤ) (at : ℕ) (y : ℤ) → at + 8 ≤ length xs → Each1 (SFits w32) xs → SFits w32 y
     → map (to_z w32) (zip2 lane_le (map (of_z w32) (take 8 (drop at xs))) (replicate 8 (of_z w32 y))) ≡ map lane (map (λ x. int_le x y) (take 8 (drop at xs)))
-at_most_is xs at y long fits fy =
-    ap (map (to_z w32)) (each_most 8 (take 8 (drop at xs)) y (Each1-chunk (SFits w32) at 8 xs fits) fy (eight_long xs at long))
-    ∙ to_lanes (map (λ x. int_le x y) (take 8 (drop at xs)))
+at_most_is xs at y long fits fy = most_is (take 8 (drop at xs)) y (eight_long xs at long) (Each1-chunk (SFits w32) at 8 xs fits) fy
 
 pub at_least_is : (xs : List ℤ) (at : ℕ) (y : ℤ) → at + 8 ≤ length xs → Each1 (SFits w32) xs → SFits w32 y
     → map (to_z w32) (zip2 lane_le (replicate 8 (of_z w32 y)) (map (of_z w32) (take 8 (drop at xs)))) ≡ map lane (map (λ x. int_le y x) (take 8 (drop at xs)))
-at_least_is xs at y long fits fy =
-    ap (map (to_z w32)) (each_least 8 (take 8 (drop at xs)) y (Each1-chunk (SFits w32) at 8 xs fits) fy (eight_long xs at long))
-    ∙ to_lanes (map (λ x. int_le y x) (take 8 (drop at xs)))
+at_least_is xs at y long fits fy = least_is (take 8 (drop at xs)) y (eight_long xs at long) (Each1-chunk (SFits w32) at 8 xs fits) fy
 
 -- both of two truth values, place by place
 abbrev pub both : List Bool → List Bool → List Bool
@@ -92,7 +101,7 @@ pub tops : (bs : List Bool) → map (top 31) (map full bs) ≡ bs
 tops [] = refl
 tops (b ∷ bs) = rw (one_top b, tops bs) refl
 
-crossed : (s : Span) (los his : List ℤ) → both (map (λ x. int_le s.lo x) his) (map (λ x. int_le x s.hi) los) ≡ map (crosses s) (spans_of los his)
+pub crossed : (s : Span) (los his : List ℤ) → both (map (λ x. int_le s.lo x) his) (map (λ x. int_le x s.hi) los) ≡ map (crosses s) (spans_of los his)
 crossed s [] [] = refl
 crossed s [] (hi ∷ his) = refl
 crossed s (lo ∷ los) [] = refl

@@ -3,7 +3,7 @@ use Rattle.std.proofs.Common.{◌≡◌, ℕ, zero, suc, ◌+◌, ◌*◌, ◌/�
 use Rattle.std.proofs.Common.{map, filter, take, drop, All, w32, of_z, refl, ap, sym, ◌∙◌, arith, lit<, pow-suc}
 use Rattle.std.proofs.Common.{length-take, length-drop}
 use Rattle.std.specs.Simd.Lanes.{zip2, mask_l, top}
-use Rattle.std.proofs.lemmas.List.{drop-drop, length-map}
+use Rattle.std.proofs.lemmas.List.{drop-drop, length-map, take_all}
 use Rattle.std.proofs.lemmas.List.Elements.{All-nil, All-cons, All-weaker}
 use Rattle.std.proofs.lemmas.Simd.{mask_l-lt, mask_l-mod}
 use Rattle.std.proofs.Math.Nat.{pow-le-pow_right}
@@ -55,6 +55,19 @@ mask_is b xs ys zs at rx ry rz ex ey ez =
       met,
     )
     (mask_l-mod bools 64 (omega (arith, eight_long (boxes_of xs ys zs) (meets b) at)))
+
+-- all of a list of eight, as the next eight from the first on
+all_lanes : (test : Span → Bool) (xs : List Span) (r : List ℤ) → length xs ≡ 8 → r ≡ map lane (map test xs) → r ≡ map lane (map test (take 8 (drop 0 xs)))
+all_lanes test xs r long is = is ∙ ap (λ l. map lane (map test l)) (sym (take_all 8 xs (omega arith)))
+
+-- and the same of three axes with eight intervals each
+pub packet_mask : (b : Bounds) (xs ys zs : List Span) (rx ry rz : List ℤ) → length xs ≡ 8 → length ys ≡ 8 → length zs ≡ 8
+    → rx ≡ map lane (map (crosses (x_of b)) xs) → ry ≡ map lane (map (crosses (y_of b)) ys) → rz ≡ map lane (map (crosses (z_of b)) zs)
+    → mask_l (map (top 31) (zip2 lane_and (zip2 lane_and (map (of_z w32) rx) (map (of_z w32) ry)) (map (of_z w32) rz))) % 2 ^ 64 ≡ next_eight (meets b) 0
+    (boxes_of xs ys zs)
+packet_mask b xs ys zs rx ry rz lx ly lz ex ey ez =
+    mask_is b xs ys zs 0 rx ry rz (all_lanes (crosses (x_of b)) xs rx lx ex) (all_lanes (crosses (y_of b)) ys ry ly ey)
+    (all_lanes (crosses (z_of b)) zs rz lz ez)
 
 pub none_set : (n from : ℕ) → set_places n from 0 ≡ []
 unfolding set_places

@@ -1,7 +1,7 @@
 -- This file only serves proofs: the intervals of boxes on each axis, and the boxes that they make.
 use Rattle.std.specs.Prelude.{◌≡◌, ℕ, ℤ, negsuc, pos, Bool, ◌&&◌, IsTrue, int_le, List, length, ◌≤◌, All, FitsSigned, if◌then◌else◌}
 use Rattle.std.specs.Int.{w32}
-use Rattle.std.specs.Simd.Lanes.{zip2}
+use Rattle.std.specs.Simd.Lanes.{zip2, Each1}
 use Rattle.fixed_box.specs.Bounds.{Bounds}
 use Rattle.lane_boxes.specs.declared.span.Span.{Span}
 
@@ -66,3 +66,10 @@ pub record AreAxes (x y z : Spans) (spare : ℕ) : Type 0 where
   pub x_room : spare ≤ x.spare
   pub y_room : spare ≤ y.spare
   pub z_room : spare ≤ z.spare
+
+-- eight lower ends and eight upper ones, in lanes
+pub record AreLanes (los his : List ℤ) : Type 0 where
+  pub lows : length los ≡ 8
+  pub highs : length his ≡ 8
+  pub lo : Each1 (FitsSigned w32) los
+  pub hi : Each1 (FitsSigned w32) his

@@ -4,11 +4,13 @@
 mod axis;
 mod columns;
 mod laws;
+mod packet;
 mod places;
 mod span;
 
 pub use columns::Columns;
 pub use laws::{beside_laws, place_laws};
+pub use packet::BoxPacket;
 
 // How many boxes are tested at once.
 const LANES: usize = 8;

@@ -278,3 +278,101 @@ fn the_last_of_nine_boxes_takes_the_place_of_one(rt: HostRuntime) -> Result<(), 
     assert_eq!(rt; boxes.len(), 9);
     Ok(())
 }
+
+// The mask of tests of one box after the other.
+fn tested_one_by_one(boxes: &[FBox; 8], region: &FBox) -> u8 {
+    let mut mask = 0;
+    for k in 0..8u8 {
+        if boxes[k as usize].overlaps(region) {
+            mask |= 1 << k;
+        }
+    }
+    mask
+}
+
+// A box with these ends on one axis, and from -5 to 5 on the others.
+fn beam(axis: u8, lo: i32, hi: i32) -> Option<FBox> {
+    match axis {
+        0 => FBox::new(at(lo, -5, -5), at(hi, 5, 5)),
+        1 => FBox::new(at(-5, lo, -5), at(5, hi, 5)),
+        _ => FBox::new(at(-5, -5, lo), at(5, 5, hi)),
+    }
+}
+
+// Beams on an axis around the interval from -10 to 10: beside it, at its lower end, over that end, the same, inside it,
+// around it, at its upper end, and beside it.
+fn beams(axis: u8) -> Option<[FBox; 8]> {
+    Some([
+        beam(axis, -20, -11)?,
+        beam(axis, -20, -10)?,
+        beam(axis, -12, -9)?,
+        beam(axis, -10, 10)?,
+        beam(axis, -3, 3)?,
+        beam(axis, -30, 30)?,
+        beam(axis, 10, 20)?,
+        beam(axis, 11, 20)?,
+    ])
+}
+
+// Eight cubes, from one on.
+fn eight_cubes(from: u32) -> Option<[FBox; 8]>
+    requires { from ≤ 1000 }
+{
+    Some([
+        cube(from)?,
+        cube(from + 1)?,
+        cube(from + 2)?,
+        cube(from + 3)?,
+        cube(from + 4)?,
+        cube(from + 5)?,
+        cube(from + 6)?,
+        cube(from + 7)?,
+    ])
+}
+
+#[test]
+fn boxes_of_a_packet_that_touch_a_region_overlap_it(rt: HostRuntime) -> Result<(), Fail> {
+    let region = FBox::new(at(-10, -10, -10), at(10, 10, 10)).ok_or("a region")?;
+    for axis in 0..3u8 {
+        let boxes = beams(axis).ok_or("beams")?;
+        assert_eq!(rt; BoxPacket::new(&boxes).overlap_mask(&region), 0b0111_1110);
+    }
+    Ok(())
+}
+
+#[test]
+fn packets_overlap_what_their_boxes_do_one_by_one(rt: HostRuntime) -> Result<(), Fail> {
+    for k in 0..40u32 {
+        let boxes = eight_cubes(k).ok_or("cubes")?;
+        let packet = BoxPacket::new(&boxes);
+        for other in 0..29u32 {
+            let region = cube(other * 3).ok_or("a cube")?;
+            assert_eq!(rt;
+                packet.overlap_mask(&region),
+                tested_one_by_one(&boxes, &region)
+            );
+        }
+    }
+    Ok(())
+}
+
+#[test]
+fn a_packet_compares_the_ends_of_32_bits_with_their_signs(rt: HostRuntime) -> Result<(), Fail> {
+    let low = at(i32::MIN, i32::MIN, i32::MIN);
+    let high = at(i32::MAX, i32::MAX, i32::MAX);
+    let whole = FBox::new(low, high).ok_or("the greatest box")?;
+    let first = FBox::new(low, low).ok_or("the lowest corner")?;
+    let last = FBox::new(high, high).ok_or("the highest corner")?;
+    let spot = FBox::new(at(0, 0, 0), at(0, 0, 0)).ok_or("the origin")?;
+    let packet = BoxPacket::new(&[whole, first, last, spot, first, last, spot, whole]);
+    let rows = [
+        (whole, 0b1111_1111),
+        (first, 0b1001_0011),
+        (last, 0b1010_0101),
+        (spot, 0b1100_1001),
+    ];
+    for (region, mask) in rows {
+        assert_eq!(rt; packet.overlap_mask(&region), mask);
+    }
+    Ok(())
+}
