@@ -10,7 +10,7 @@ use tree_nodes::{Nodes, tree_laws};
 const FEWEST_CHANGES: usize = 16;
 
 // How many changes there are between two rebuilds for each leaf. With more of them searches cost more than rebuilds do.
-const CHANGES_PER_LEAF: usize = 4;
+const CHANGES_PER_LEAF: usize = 8;
 
 // Gives a slot that has none a leaf.
 pub(crate) fn add_leaf(
