@@ -4,7 +4,7 @@ use Rattle.std.proofs.Common.{cond, Option, None, Some, List, [], ◌∷◌}
 use Rattle.std.proofs.Common.{◌++◌, option_map, map, length, get_or, take, refl, sym, ap, ◌∙◌, subst, arith}
 use Rattle.std.specs.Prelude.{count_ones, drop}
 use Rattle.std.proofs.Math.Nat.{pow-succ', div-div-eq-div-mul}
-use Rattle.std.specs.List.{filter, All}
+use Rattle.std.specs.List.{filter}
 use Rattle.std.specs.Simd.Lanes.{mask_l}
 use Rattle.std.proofs.lemmas.Simd.{ones-mask_l}
 use Rattle.std.proofs.lemmas.List.{map-append}
@@ -234,20 +234,6 @@ module _ (w : BoxLaws) where
   pub quiet_none : (bodies : List (Option Bounds)) (es : List (ℕ × Bounds)) (t : Tree) → Balanced t → IsInside bodies t → Quiet (bounds t) es
       → (crossed es (exact bodies (leaves t)) ≡ []) × (all_below t es ≡ 0)
   quiet_none bodies es t balanced inside q = (quiet_crossed bodies es t balanced inside q, quiet_below t es q)
-
-  -- what the hull of a group misses none of the group meets
-  -- so no bit is set
-  pub quiet_mask : (whole h : Bounds) (bs : List Bounds) → meets whole h ≡ false → All (λ (b : Bounds). encloses whole b ≡ true) bs
-      → next_eight (meets h) 0 bs ≡ 0
-  quiet_mask whole h bs m around = at 8 bs around
-    where
-      at : (n : ℕ) (xs : List Bounds) → All (λ (b : Bounds). encloses whole b ≡ true) xs → mask_l (map (meets h) (take n xs)) ≡ 0
-      at zero xs all = refl
-      at (suc n) [] all = refl
-      at (suc n) (x ∷ xs) all =
-          let here : meets h x ≡ false = (w.each (Region h)).missed whole x (all 0 x (omega arith)) (w.either_way h whole ∙ m) in
-          let rest = at n xs (λ k d lt. all (suc k) d (omega arith)) in
-          ap (λ b. cond b 1 0 + 2 * mask_l (map (meets h) (take n xs))) here ∙ omega arith
 
   visits_below : (t : Tree) (b : Bounds) → visits t b ≡ 1 + below t b
   visits_below (tip n s f) b = refl

@@ -1,8 +1,6 @@
-ghost use Rattle.std.specs.Prelude.{◌≡◌, ◌==◌, ◌+◌, ◌<◌, ◌≤◌, ◌++◌, List, Option, [], ◌∷◌, drop, not, map, filter, length, OnOk, IfOk, IsTrue};
-ghost use Rattle.std.specs.List.{All};
-ghost use Rattle.fixed_box.specs.Bounds.{Bounds, encloses, meets};
+ghost use Rattle.std.specs.Prelude.{◌≡◌, ◌==◌, ◌+◌, ◌≤◌, ◌++◌, List, Option, [], ◌∷◌, drop, not, map, filter, length, OnOk, IfOk};
+ghost use Rattle.fixed_box.specs.Bounds.{Bounds};
 ghost use Rattle.broad_index.specs.Touched.{ordered_pairs};
-ghost use Rattle.lane_boxes.specs.Places.{next_eight};
 ghost use Rattle.tree_nodes.specs.Tree.{Tree, leaves};
 ghost use Rattle.box_tree.specs.Boxes.{raised};
 ghost use Rattle.box_tree.specs.Descent.{exact};
@@ -13,40 +11,33 @@ use crate::descent::descent_law;
 use crate::preorder::{ListedNode, NodeKind};
 use crate::touched::is_marked;
 use broad_index::Pair;
-use fixed_box::{FBox, NoMemory, Point, box_laws};
-use lane_boxes::Columns;
-use std::alloc::Global;
+use fixed_box::{FBox, NoMemory, box_laws};
+use lane_boxes::BoxPacket;
 
 // How many boxes descend together: as many as are tested at once.
 pub(crate) const GROUP: usize = 8;
 
 // Searches for a group at once. Appends the pairs of its boxes with those that they meet, but for those of slots that are
-// done, and answers a number raised by how many nodes a descent with each of them looks at. The columns are made those of the
-// group.
+// done, and answers a number raised by how many nodes a descent with each of them looks at.
 pub(crate) fn search_group(
     preorder: &[ListedNode],
     done: &[bool],
     group: &[(u32, FBox)],
-    boxes: &mut Columns,
     looked: u64,
     found: &mut Vec<Pair>,
 ) -> Result<u64, NoMemory>
     requires list { (bodies : List (Option Bounds)) × (t : Tree) × IsListed bodies t preorder.now }
-    requires boxes { length boxes.old.boxes ≡ length group.now }
-    requires few { length group.now ≤ 8 }
-    requires some { 0 < length group.now }
+    requires eight { length group.now ≡ 8 }
     ensures ok { (bodies : List (Option Bounds)) (t : Tree) → IsListed bodies t preorder.now →
         OnOk result (found.new.items ≡ found.old.items ++ crossed group.now (undone done.now (exact bodies (leaves t)))) }
     ensures count { (bodies : List (Option Bounds)) (t : Tree) → IsListed bodies t preorder.now →
         IfOk result (λ n. n ≡ raised looked (length group.now + all_below t group.now)) }
-    ensures boxes { length boxes.new.boxes ≡ length boxes.old.boxes }
 {
     box_law();
-    set_boxes(boxes, group);
-    let whole = hull_of(group);
+    let boxes = BoxPacket::new(&boxes_of(group));
     // each of them looks at the top
     let here = looked.saturating_add(group.len() as u64);
-    let all = read_onwards(preorder, done, group, boxes, &whole, here, found)?;
+    let all = read_onwards(preorder, done, group, &boxes, here, found)?;
     Ok(all)
 }
 
@@ -58,49 +49,15 @@ pub(crate) fn box_law()
     descent_law();
 }
 
-// Makes columns those of a group.
-fn set_boxes(boxes: &mut Columns, group: &[(u32, FBox)])
-    requires { length boxes.old.boxes ≡ length group.now }
-    ensures boxes { boxes.new.boxes ≡ map (λ e. e.1) group.now }
-    ensures len { length boxes.new.boxes ≡ length boxes.old.boxes }
+// The boxes of a group.
+fn boxes_of(group: &[(u32, FBox)]) -> [FBox; GROUP]
+    requires { length group.now ≡ 8 }
+    ensures { result ≡ map (λ e. e.1) group.now }
 {
-    let mut rest = group;
-    let mut place = 0;
-    'places: while let [(_, body), more @ ..] = rest {
-        boxes.set(place, *body);
-        place += 1;
-        rest = more;
-    }
-}
-
-// The least box that holds those of a group.
-fn hull_of(group: &[(u32, FBox)]) -> FBox
-    requires { 0 < length group.now }
-    ensures { All (λ e. IsTrue (encloses result e.1)) group.now }
-{
-    box_laws();
-    let mut whole = group[0].1;
-    'boxes: for (_, body) in group {
-        whole = whole.union(body);
-    }
-    whole
-}
-
-// Gives columns as many boxes as a group has. They take memory the first time alone.
-pub(crate) fn fit_group(boxes: &mut Columns, alloc: Global) -> Result<(), NoMemory>
-    ensures { OnOk result (length boxes.new.boxes ≡ 8) }
-{
-    if boxes.len() == GROUP {
-        return Ok(());
-    }
-    let spot = Point { x: 0, y: 0, z: 0 };
-    let body = FBox::new(spot, spot).unwrap();
-    let mut eight = Columns::new(alloc);
-    'boxes: for _place in 0..GROUP {
-        eight.push(body)?;
-    }
-    *boxes = eight;
-    Ok(())
+    [
+        group[0].1, group[1].1, group[2].1, group[3].1, group[4].1, group[5].1, group[6].1,
+        group[7].1,
+    ]
 }
 
 // Reads a list in preorder with a group of boxes, and jumps over what stands below a hull that none of them meets. Appends
@@ -110,15 +67,13 @@ fn read_onwards(
     preorder: &[ListedNode],
     done: &[bool],
     group: &[(u32, FBox)],
-    boxes: &Columns,
-    whole: &FBox,
+    boxes: &BoxPacket,
     looked: u64,
     found: &mut Vec<Pair>,
 ) -> Result<u64, NoMemory>
     requires laws { BoxLaws }
     requires list { (bodies : List (Option Bounds)) × (t : Tree) × IsListed bodies t preorder.now }
-    requires boxes { boxes.now.boxes ≡ map (λ e. e.1) group.now }
-    requires whole { All (λ b. IsTrue (encloses whole.now b)) boxes.now.boxes }
+    requires boxes { boxes.now ≡ map (λ e. e.1) group.now }
     requires few { length group.now ≤ 8 }
     ensures ok { (bodies : List (Option Bounds)) (t : Tree) → IsListed bodies t preorder.now →
         OnOk result (found.new.items ≡ found.old.items ++ crossed group.now (undone done.now (exact bodies (leaves t)))) }
@@ -128,7 +83,7 @@ fn read_onwards(
     let mut rest = preorder;
     let mut number = looked;
     'nodes: while let [node, more @ ..] = rest {
-        let mask = met_mask(boxes, whole, &node.bounds);
+        let mask = boxes.overlap_mask(&node.bounds);
         match node.kind {
             NodeKind::Leaf { slot } => {
                 push_met(slot, mask, done, group, found)?;
@@ -146,20 +101,6 @@ fn read_onwards(
         }
     }
     Ok(number)
-}
-
-// Which of a group meet a box. Where the hull of the group doesn't, none does.
-#[inline(always)]
-fn met_mask(boxes: &Columns, whole: &FBox, bounds: &FBox) -> u8
-    requires laws { BoxLaws }
-    requires whole { All (λ b. IsTrue (encloses whole.now b)) boxes.now.boxes }
-    ensures { result ≡ next_eight (meets bounds.now) 0 boxes.now.boxes }
-{
-    if whole.overlaps(bounds) {
-        boxes.overlap_mask(0, bounds)
-    } else {
-        0
-    }
 }
 
 // What stands behind so many nodes.

@@ -17,13 +17,12 @@ ghost use Rattle.box_tree.specs.Searches.{boxed, looked_for, searches, shared_fr
 ghost use Rattle.box_tree.specs.Ties.{Sound};
 
 use crate::descent::descend;
-use crate::group::{GROUP, box_law, fit_group, search_group};
+use crate::group::{GROUP, box_law, search_group};
 use crate::preorder::{ListedNode, list_preorder, push_marked};
 use crate::renewal::Room;
 use crate::search::{push_others, push_sought, search_all};
 use broad_index::{Pair, Query, holding_laws, keeping_laws, push_ordered_pairs};
 use fixed_box::{FBox, NoMemory, SLOTS, box_laws};
-use lane_boxes::Columns;
 use std::alloc::Global;
 use tree_nodes::{NodeView, Nodes};
 
@@ -38,7 +37,6 @@ const FEWEST_IN_PIECE: usize = 512;
 pub(crate) struct SearchRoom {
     preorder: Vec<ListedNode>,
     touched: Vec<(u32, FBox)>,
-    boxes: Columns,
     done: Vec<bool>,
     met: Vec<u32>,
     reached: Vec<u32>,
@@ -49,7 +47,6 @@ impl SearchRoom {
         SearchRoom {
             preorder: Vec::new(alloc),
             touched: Vec::new(alloc),
-            boxes: Columns::new(alloc),
             done: Vec::new(alloc),
             met: Vec::new(alloc),
             reached: Vec::new(alloc),
@@ -207,7 +204,6 @@ fn search_groups(
     ensures ok { OnOk result (Adds found.old.items found.new.items (crossed (exact_in bodies.now nodes.now) room.old.touched.items)) }
     ensures count { IfOk result (λ n. n ≡ raised looked (all_visits_in nodes.now room.old.touched.items)) }
 {
-    fit_group(&mut room.boxes, *found.allocator())?;
     none_done(&mut room.done)?;
     let number = search_by_groups(
         nodes,
@@ -215,7 +211,6 @@ fn search_groups(
         &room.preorder,
         &room.touched,
         looked,
-        &mut room.boxes,
         room.done.as_mut_slice(),
         &mut room.met,
         &mut room.reached,
@@ -242,7 +237,6 @@ fn search_by_groups(
     preorder: &[ListedNode],
     touched: &[(u32, FBox)],
     looked: u64,
-    boxes: &mut Columns,
     done: &mut [bool],
     met: &mut Vec<u32>,
     others: &mut Vec<u32>,
@@ -252,7 +246,6 @@ fn search_by_groups(
     requires held { Holds (map_of bodies.now) (exact_in bodies.now nodes.now) }
     requires list { preorder.now ≡ preorder_in bodies.now nodes.now }
     requires touched { AreOf bodies.now touched.now }
-    requires boxes { length boxes.old.boxes ≡ 8 }
     requires none { (k : ℕ) → slice_index_or done.old k false ≡ false }
     ensures ok { OnOk result (Adds found.old.items found.new.items (crossed (exact_in bodies.now nodes.now) touched.now)) }
     ensures count { IfOk result (λ n. n ≡ raised looked (all_visits_in nodes.now touched.now)) }
@@ -265,7 +258,7 @@ fn search_by_groups(
     let mut number = looked;
     'groups: while rest.len() >= GROUP {
         let (group, more) = rest.split_at(GROUP);
-        number = search_group(preorder, done, group, boxes, number, found)?;
+        number = search_group(preorder, done, group, number, found)?;
         set_done(group, done);
         rest = more;
     }

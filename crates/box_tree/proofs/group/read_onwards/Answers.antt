@@ -26,9 +26,9 @@ nodes-preserved-in-Leaf c =
     let node = c.node-item.result in
     let rest = c.nodes.rest.now in
     record {
-      reads = λ bodies t i. reads_leaf bodies t c.args.done.now c.args.group.now (take (length rest - 1) (drop 1 rest)) c.in-Leaf.slot c.met_mask-mask.result
+      reads = λ bodies t i. reads_leaf bodies t c.args.done.now c.args.group.now (take (length rest - 1) (drop 1 rest)) c.in-Leaf.slot c.overlap_mask-mask.result
           node.bounds c.args.found.now.items c.nodes.found.items c.push_met.new.found.items c.args.looked c.nodes.number
-          (group_bits node.bounds c.args.boxes.now.boxes c.args.group.now c.met_mask-mask.result c.requires.boxes c.requires.few c.met_mask-mask.ensures)
+          (group_bits node.bounds c.args.boxes.now c.args.group.now c.overlap_mask-mask.result c.requires.boxes c.requires.few c.overlap_mask-mask.ensures.mask)
           c.in_ok-push_met-in-Leaf.ensures
           (subst (λ l. Reads bodies t c.args.done.now c.args.group.now l c.args.found.now.items c.nodes.found.items c.args.looked c.nodes.number)
           (first_node rest node (LeafKind c.in-Leaf.slot) c.in-len1-up.len_at_least c.node-item.is c.in-Leaf.is) (c.nodes.invariant.reads bodies t i));
@@ -41,12 +41,12 @@ nodes-preserved-then-mask-eq0 c =
     let rest = c.nodes.rest.now in
     let more = take (length rest - 1) (drop 1 rest) in
     let same : c.saturating_add-number.result ≡ c.nodes.number = none_added c.nodes.number c.saturating_add-number.result c.from.result
-    c.met_mask-mask.result c.if-mask-eq0.true c.from.ensures c.saturating_add-number.ensures c.nodes.invariant.fits in
+    c.overlap_mask-mask.result c.if-mask-eq0.true c.from.ensures c.saturating_add-number.ensures c.nodes.invariant.fits in
     record {
       reads = λ bodies t i.
-          let over = reads_over bodies t c.args.done.now c.args.group.now c.requires.laws more c.in-Inner.below c.met_mask-mask.result
+          let over = reads_over bodies t c.args.done.now c.args.group.now c.requires.laws more c.in-Inner.below c.overlap_mask-mask.result
           node.bounds c.args.found.now.items c.nodes.found.items c.args.looked c.nodes.number
-          (group_bits node.bounds c.args.boxes.now.boxes c.args.group.now c.met_mask-mask.result c.requires.boxes c.requires.few c.met_mask-mask.ensures)
+          (group_bits node.bounds c.args.boxes.now c.args.group.now c.overlap_mask-mask.result c.requires.boxes c.requires.few c.overlap_mask-mask.ensures.mask)
           c.if-mask-eq0.true
           (subst (λ l. Reads bodies t c.args.done.now c.args.group.now l c.args.found.now.items c.nodes.found.items c.args.looked c.nodes.number)
           (first_node rest node (InnerKind c.in-Inner.below) c.in-len1-up.len_at_least c.node-item.is c.in-Inner.is) (c.nodes.invariant.reads bodies t i)) in
@@ -63,9 +63,9 @@ nodes-preserved c =
     let rest = c.nodes.rest.now in
     record {
       reads = λ bodies t i. reads_in bodies t c.args.done.now c.args.group.now c.requires.laws (take (length rest - 1) (drop 1 rest)) c.in-Inner.below
-          c.met_mask-mask.result c.from.result node.bounds c.args.found.now.items c.nodes.found.items c.args.looked c.nodes.number
+          c.overlap_mask-mask.result c.from.result node.bounds c.args.found.now.items c.nodes.found.items c.args.looked c.nodes.number
           c.saturating_add-number.result
-          (group_bits node.bounds c.args.boxes.now.boxes c.args.group.now c.met_mask-mask.result c.requires.boxes c.requires.few c.met_mask-mask.ensures)
+          (group_bits node.bounds c.args.boxes.now c.args.group.now c.overlap_mask-mask.result c.requires.boxes c.requires.few c.overlap_mask-mask.ensures.mask)
           c.from.ensures c.saturating_add-number.ensures
           (subst (λ l. Reads bodies t c.args.done.now c.args.group.now l c.args.found.now.items c.nodes.found.items c.args.looked c.nodes.number)
           (first_node rest node (InnerKind c.in-Inner.below) c.in-len1-up.len_at_least c.node-item.is c.in-Inner.is) (c.nodes.invariant.reads bodies t i));

@@ -28,7 +28,6 @@ groups-init c =
       own = c.requires.touched;
       count = refl;
       fits = c.ranges.looked.fits;
-      boxes = c.requires.boxes;
     }
 
 pub search_group-requires-clause-list : goal.search_group-requires-clause-list
@@ -67,5 +66,4 @@ groups-preserved c =
           (c.in_ok-number.ensures.count bs b.0 listed ∙ ap (raised c.groups.number) (sym (group_visits c.box_law.ensures o b.0 group b.1)))
           ∙ c.groups.invariant.count;
       fits = raised_fits c.groups.number c.in_ok-number.number (length group + all_below b.0 group) (c.in_ok-number.ensures.count bs b.0 listed);
-      boxes = c.in_ok-number.ensures.boxes ∙ c.groups.invariant.boxes;
     }

@@ -16,7 +16,6 @@ invariant-groups l = record {
   own : AreOf l.bodies l.rest;
   count : raised l.number (all_visits_in l.nodes l.rest) ≡ raised l.fn.looked (all_visits_in l.nodes l.touched);
   fits : l.number < 2 ^ 64;
-  boxes : length l.boxes.boxes ≡ 8;
 }
 
 abbrev pub decreases-groups : goal.decreases-groups
