@@ -263,7 +263,7 @@ impl BroadPhase for BoxTree {
         ensures { self.new ≡ self.old }
     {}
 
-    // Each touched slot that is present is sought. Those that left are few, and count here.
+    // Each touched slot that is present is sought; those that left count here too.
     fn pays_threads(&self) -> bool
         ensures { (result ≡ true) ↔ (FEWEST_SOUGHT ≤ count_by (λ mark. mark) self.now.touched) }
     {

@@ -26,8 +26,8 @@ nodes-preserved-in-Leaf c =
     let node = c.node-item.result in
     let rest = c.nodes.rest.now in
     record {
-      reads = λ bodies t i. reads_leaf bodies t c.args.done.now c.args.group.now (take (length rest - 1) (drop 1 rest)) c.in-Leaf.slot c.overlap_mask-mask.result
-          node.bounds c.args.found.now.items c.nodes.found.items c.push_met.new.found.items c.args.looked c.nodes.number
+      reads = λ bodies t i. reads_leaf bodies t c.args.done.now c.args.group.now (take (length rest - 1) (drop 1 rest)) c.in-Leaf.slot
+          c.overlap_mask-mask.result node.bounds c.args.found.now.items c.nodes.found.items c.push_met.new.found.items c.args.looked c.nodes.number
           (group_bits node.bounds c.args.boxes.now c.args.group.now c.overlap_mask-mask.result c.requires.boxes c.requires.few c.overlap_mask-mask.ensures.mask)
           c.in_ok-push_met-in-Leaf.ensures
           (subst (λ l. Reads bodies t c.args.done.now c.args.group.now l c.args.found.now.items c.nodes.found.items c.args.looked c.nodes.number)
