@@ -133,6 +133,7 @@ pub trait BroadPhase {
             return self.pairs(out);
         }
         let alloc = *out.allocator();
+        self.prepare()?;
         let Some((index, slots)) = self.share(alloc)? else {
             return self.pairs(out);
         };
@@ -156,6 +157,13 @@ pub trait BroadPhase {
         ensures cleared { spent self.old ≡ false → exchanges self.new ≡ 0 }
         ensures bodies { bodies self.new ≡ bodies self.old }
         ensures spent { spent self.new ≡ spent self.old };
+
+    /// Puts in order what several threads are to read, once before `share`. It changes nothing that any call tells.
+    fn prepare(&mut self) -> Result<(), NoMemory>
+        ensures same { self.new ≡ self.old }
+    {
+        Ok(())
+    }
 
     /// Whether several threads are likely to find the pairs sooner than one: for speed alone, and no answer is wrong.
     fn pays_threads(&self) -> bool {
