@@ -1,7 +1,8 @@
 -- The slots that threads share are the touched ones, in whichever order, and what their pieces find renews the pairs.
 use Rattle.std.proofs.Common.{◌≡◌, ℕ, suc, ◌+◌, ◌≤◌, Bool, true, false, cond, ◌&&◌, ◌||◌, ◌==◌, Option, None, Some, is_some, List, [], ◌∷◌, ◌++◌}
 use Rattle.std.proofs.Common.{length, map, get_or, refl, sym, ap, ◌∙◌, subst, arith}
-use Rattle.std.specs.Prelude.{nat_lt}
+use Rattle.std.specs.Prelude.{nat_lt, IfSome}
+use denote.Ref.{Bor}
 use Rattle.std.specs.List.{All, Contains, sum}
 use Rattle.std.specs.Ordering.{nat_cmp}
 use Rattle.std.specs.FinMap.{FinMap, contains_key}
@@ -21,6 +22,7 @@ use Rattle.broad_index.specs.Touched.{gathered_with, AreKept, AreMarked, Renewed
 use Rattle.work_pieces.specs.Each.{Each}
 use Rattle.work_pieces.specs.Runs.{InRuns, put_together}
 use Rattle.tree_nodes.specs.Tree.{Tree, Leaf, leaves, leaves_in, IsTreeIn}
+use Rattle.box_tree.specs.declared.preorder.ListedNode.{ListedNode}
 use Rattle.box_tree.specs.declared.touched.TheConstants.{FEWEST_GROUPED}
 use Rattle.box_tree.specs.Boxes.{Boxes, visits_for, cost, marked_slots, shared_slots, sought, raised, Finds}
 use Rattle.box_tree.specs.Descent.{entry_of, exact, exact_in}
@@ -46,6 +48,12 @@ marked_few marks (x ∷ xs) =
       | true ↦ omega arith
       | false ↦ omega arith
     ]
+
+-- the nodes that are said to be listed are
+pub list_there : (r : Option (Bor (List ListedNode))) (listed : Bool) (held list : List ListedNode)
+    → IfSome r (λ b. (listed ≡ true) × (b.now ≡ held)) → (listed ≡ true → held ≡ list) → IfSome r (λ b. b.now ≡ list)
+list_there None listed held list h is = h
+list_there (Some b) listed held list h is = h.1 ∙ is h.0
 
 not_few : (a b : ℕ) → b ≤ a → nat_lt a b ≡ false
 not_few a b le = grind (arith, nat_tests)
@@ -112,7 +120,7 @@ module _ (o : Option Tree) (bodies fats : List (Option Bounds)) (numbers : List 
   abbrev entries : List (ℕ × Bounds)
   entries = touched_of marks (exact_in bodies o)
 
-  along_is : marked_slots marks (leaves_in o) ≡ map (λ (e : ℕ × Bounds). e.0) entries
+  pub along_is : marked_slots marks (leaves_in o) ≡ map (λ (e : ℕ × Bounds). e.0) entries
   along_is =
       marked_entries bodies marks (leaves_in o) leaves_there
       ∙ sym (ap (λ es. map (λ (e : ℕ × Bounds). e.0) (touched_of marks es)) (exact_in_is o bodies fats numbers marks kept s o))

@@ -15,9 +15,10 @@ use Rattle.broad_index.specs.Members.{has_pair, is_near, both_meet}
 use Rattle.broad_index.specs.Near.{near, rises}
 use Rattle.broad_index.specs.Touched.{AreKept}
 use Rattle.tree_nodes.specs.Tree.{Tree}
+use Rattle.box_tree.specs.declared.preorder.ListedNode.{ListedNode}
 use Rattle.box_tree.specs.Boxes.{Boxes, untouched, no_boxes}
 use Rattle.fixed_box.specs.SlotMap.{map_of}
-use Rattle.box_tree.specs.Ties.{Ties, AreFat, Sound}
+use Rattle.box_tree.specs.Ties.{Ties, AreFat, Sound, Whole}
 use Rattle.fixed_box.specs.SlotMapLaws.{get_map}
 
 module _ {X : Type 0} where
@@ -201,3 +202,8 @@ same_outset {b} {f} {t} {m} eb ef et em =
     ∙ ap (λ x. record { bodies = empty; fats = x; tree = t; touched = m; looked = 0 }) ef
     ∙ ap (λ x. record { bodies = empty; fats = empty; tree = x; touched = m; looked = 0 }) et
     ∙ ap (λ x. record { bodies = empty; fats = empty; tree = None; touched = x; looked = 0 }) em
+
+-- where the nodes aren't said to be listed
+pub unlisted : {o : Option Tree} {bodies fats : List (Option Bounds)} {numbers : List ℕ} {marks : List Bool} {kept : List Pair}
+    → Sound o bodies fats numbers marks kept → (list : List ListedNode) → Whole o bodies fats numbers marks kept list false
+unlisted s list = record { sound = s; list_is = λ h. absurd (false≢true h) }

@@ -7,6 +7,8 @@ use Rattle.broad_index.specs.Near.{rises}
 use Rattle.broad_index.specs.Touched.{AreKept}
 use Rattle.tree_nodes.specs.Tree.{Tree, Leaf, leaves_in, IsTreeIn}
 use Rattle.fixed_box.specs.SlotMap.{map_of}
+use Rattle.box_tree.specs.declared.preorder.ListedNode.{ListedNode}
+use Rattle.box_tree.specs.Preorder.{preorder_in}
 
 -- The leaves of the tree are the slots with fat boxes, each under the number that is noted for it.
 pub record Ties (tree : Option Tree) (fats : List (Option Bounds)) (numbers : List ℕ) : Type 0 where
@@ -32,3 +34,9 @@ pub record Sound (tree : Option Tree) (bodies fats : List (Option Bounds)) (numb
   pub fat : AreFat fats bodies
   pub kept_rise : rises kept ≡ true
   pub kept_are : AreKept (map_of bodies) marks kept
+
+-- and the nodes are listed as they are now, where it is said that they are
+pub record Whole (tree : Option Tree) (bodies fats : List (Option Bounds)) (numbers : List ℕ) (marks : List Bool) (kept : List Pair)
+    (list : List ListedNode) (listed : Bool) : Type 0 where
+  pub sound : Sound tree bodies fats numbers marks kept
+  pub list_is : listed ≡ true → list ≡ preorder_in bodies tree

@@ -1,4 +1,4 @@
-ghost use Rattle.std.specs.Prelude.{◌≡◌, ◌+◌, ◌*◌, ◌<◌, ◌^◌, ◌++◌, None, OnOk, length, slice_index_or};
+ghost use Rattle.std.specs.Prelude.{◌≡◌, ◌+◌, ◌*◌, ◌<◌, ◌^◌, ◌++◌, None, OnOk, length, map, slice_index_or};
 ghost use Rattle.tree_nodes.specs.Tree.{Tree, leaves};
 ghost use Rattle.box_tree.specs.declared.preorder.NodeKind.TheVariants.{Inner as InnerKind};
 ghost use Rattle.box_tree.specs.Descent.{IsInsideIn};
@@ -128,6 +128,38 @@ fn push_if_marked(
     if let NodeKind::Leaf { slot } = node.kind {
         if is_marked(slot, marks) {
             out.push((slot, node.bounds))?;
+        }
+    }
+    Ok(())
+}
+
+// Appends the marked slots of a list in preorder, in the order of the leaves.
+pub(crate) fn push_marked_slots(
+    preorder: &[ListedNode],
+    marks: &[bool],
+    out: &mut Vec<u32>,
+) -> Result<(), NoMemory>
+    ensures { OnOk result (out.new.items ≡ out.old.items ++ map (λ e. e.0) (touched_of marks.now (listed preorder.now))) }
+{
+    let mut rest = preorder;
+    'nodes: while let [node, more @ ..] = rest {
+        push_slot_if_marked(node, marks, out)?;
+        rest = more;
+    }
+    Ok(())
+}
+
+// Appends the slot of a leaf, if it is marked.
+fn push_slot_if_marked(
+    node: &ListedNode,
+    marks: &[bool],
+    out: &mut Vec<u32>,
+) -> Result<(), NoMemory>
+    ensures { OnOk result (out.new.items ≡ out.old.items ++ map (λ e. e.0) (touched_of marks.now (entry_at node.now.bounds node.now.kind))) }
+{
+    if let NodeKind::Leaf { slot } = node.kind {
+        if is_marked(slot, marks) {
+            out.push(slot)?;
         }
     }
     Ok(())

@@ -1,4 +1,4 @@
-ghost use Rattle.std.specs.Prelude.{◌≡◌, ◌||◌, ◌≤◌, ◌++◌, List, Option, ℕ, [], true, false, map, filter, not, ◌==◌, length, OnOk, IfOk, slice_index_or};
+ghost use Rattle.std.specs.Prelude.{◌≡◌, ◌||◌, ◌≤◌, ◌++◌, List, Option, ℕ, [], true, false, map, filter, not, ◌==◌, length, OnOk, IfOk, IfSome, slice_index_or};
 ghost use Rattle.fixed_box.specs.Bounds.{Bounds};
 ghost use Rattle.fixed_box.specs.SlotMap.{map_of};
 ghost use Rattle.broad_index.specs.declared.pair.Pair.{Pair};
@@ -8,17 +8,17 @@ ghost use Rattle.broad_index.specs.Held.{Holds};
 ghost use Rattle.broad_index.specs.Members.{has_slot};
 ghost use Rattle.broad_index.specs.Touched.{ordered_pairs, gathered_with, AreKept, Renewed};
 ghost use Rattle.fixed_box.specs.declared.TheConstants.{SLOTS};
-ghost use Rattle.tree_nodes.specs.Tree.{Tree, leaves, visits_in};
+ghost use Rattle.tree_nodes.specs.Tree.{Tree, leaves, leaves_in, visits_in};
 ghost use Rattle.box_tree.specs.Boxes.{marked_slots, raised};
 ghost use Rattle.box_tree.specs.Descent.{exact_in, IsInsideIn};
-ghost use Rattle.box_tree.specs.Group.{crossed, all_visits_in, Adds, AreOf, IsBelow};
+ghost use Rattle.box_tree.specs.Group.{crossed, touched_of, all_visits_in, Adds, AreOf, IsBelow};
 ghost use Rattle.box_tree.specs.Preorder.{preorder_in};
 ghost use Rattle.box_tree.specs.Searches.{boxed, looked_for, searches, shared_from, sought_from};
 ghost use Rattle.box_tree.specs.Ties.{Sound};
 
 use crate::descent::descend;
 use crate::group::{GROUP, box_law, search_group};
-use crate::preorder::{ListedNode, list_preorder, push_marked};
+use crate::preorder::{ListedNode, list_preorder, push_marked, push_marked_slots};
 use crate::renewal::Room;
 use crate::search::{push_others, push_sought, search_all};
 use broad_index::{Pair, Query, holding_laws, keeping_laws, push_ordered_pairs};
@@ -29,13 +29,9 @@ use tree_nodes::{NodeView, Nodes};
 // From how many touched slots on they are searched for in groups. For fewer it doesn't pay to walk over the tree.
 const FEWEST_GROUPED: usize = 1_024;
 
-// The same of a piece: if there are two such pieces, their slots stand in the order of the leaves.
-const FEWEST_IN_PIECE: usize = 512;
-
 // Lists that a search keeps for their memory alone.
 #[derive(Drop)]
 pub(crate) struct SearchRoom {
-    preorder: Vec<ListedNode>,
     touched: Vec<(u32, FBox)>,
     done: Vec<bool>,
     met: Vec<u32>,
@@ -45,7 +41,6 @@ pub(crate) struct SearchRoom {
 impl SearchRoom {
     pub(crate) fn new(alloc: Global) -> SearchRoom {
         SearchRoom {
-            preorder: Vec::new(alloc),
             touched: Vec::new(alloc),
             done: Vec::new(alloc),
             met: Vec::new(alloc),
@@ -61,6 +56,7 @@ pub(crate) fn search_touched(
     bodies: &[Option<FBox>],
     marks: &[bool],
     looked: u64,
+    preorder: &mut Vec<ListedNode>,
     room: &mut Room,
 ) -> Result<u64, NoMemory>
     requires { (fats : List (Option Bounds)) × (numbers : List ℕ) × (kept : List Pair) ×
@@ -86,11 +82,18 @@ pub(crate) fn search_touched(
         return Ok(few);
     }
     let search = &mut room.search;
-    list_preorder(nodes, bodies, &mut search.preorder)?;
+    list_preorder(nodes, bodies, preorder)?;
     search.touched.clear();
-    push_marked(&search.preorder, marks, &mut search.touched)?;
-    let many = search_groups(nodes, bodies, looked, search, &mut room.found)?;
+    push_marked(preorder, marks, &mut search.touched)?;
+    let many = search_groups(nodes, bodies, preorder, looked, search, &mut room.found)?;
     Ok(many)
+}
+
+// The list of the nodes, if it is up to date.
+pub(crate) fn listing(listed: bool, preorder: &[ListedNode]) -> Option<&[ListedNode]>
+    ensures { IfSome result (λ list. (listed ≡ true) × (list.now ≡ preorder.now)) }
+{
+    if listed { Some(preorder) } else { None }
 }
 
 // Appends the touched slots that are present: many in the order of their leaves, so that those that lie together in space
@@ -98,12 +101,15 @@ pub(crate) fn search_touched(
 pub(crate) fn push_shared(
     nodes: &Nodes,
     bodies: &[Option<FBox>],
+    listing: Option<&[ListedNode]>,
     marks: &[bool],
     out: &mut Vec<u32>,
 ) -> Result<(), NoMemory>
     requires inside { IsInsideIn bodies.now nodes.now }
     requires bodies { length bodies.now ≡ SLOTS }
     requires marks { length marks.now ≡ SLOTS }
+    requires list { IfSome listing (λ list. list.now ≡ preorder_in bodies.now nodes.now) }
+    requires along { marked_slots marks.now (leaves_in nodes.now) ≡ map (λ e. e.0) (touched_of marks.now (exact_in bodies.now nodes.now)) }
     requires empty { out.old.items ≡ [] }
     ensures ok { OnOk result (out.new.items ≡ shared_from nodes.now bodies.now marks.now) }
     ensures few { OnOk result (length out.new.items ≤ SLOTS) }
@@ -117,15 +123,21 @@ pub(crate) fn push_shared(
     let Some(root) = nodes.root() else {
         return Ok(());
     };
+    if let Some(list) = listing {
+        push_marked_slots(list, marks, out)?;
+        return Ok(());
+    }
     push_along(nodes, marks, root, out)?;
     Ok(())
 }
 
 // Appends the pairs of some slots with the boxes that theirs meet, and answers a number raised by how many nodes a descent
-// for each of them looks at. Many are searched for in groups, in the order in which they are given.
+// for each of them looks at. Where the nodes are listed, they are searched for
+// in groups, in the order in which they are given.
 pub(crate) fn search_run(
     nodes: &Nodes,
     bodies: &[Option<FBox>],
+    listing: Option<&[ListedNode]>,
     slots: &[u32],
     looked: u64,
     room: &mut SearchRoom,
@@ -133,17 +145,17 @@ pub(crate) fn search_run(
 ) -> Result<u64, NoMemory>
     requires inside { IsInsideIn bodies.now nodes.now }
     requires held { Holds (map_of bodies.now) (exact_in bodies.now nodes.now) }
+    requires list { IfSome listing (λ list. list.now ≡ preorder_in bodies.now nodes.now) }
     ensures ok { OnOk result (Adds found.old.items found.new.items (gathered_with (searches bodies.now nodes.now slots.now))) }
     ensures count { IfOk result (λ n. n ≡ looked_for nodes.now bodies.now slots.now looked) }
 {
-    if slots.len() < FEWEST_IN_PIECE {
+    let Some(preorder) = listing else {
         let few = search_slots(nodes, bodies, slots, looked, room, found)?;
         return Ok(few);
-    }
-    list_preorder(nodes, bodies, &mut room.preorder)?;
+    };
     room.touched.clear();
     push_boxes(bodies, slots, &mut room.touched)?;
-    let many = search_groups(nodes, bodies, looked, room, found)?;
+    let many = search_groups(nodes, bodies, preorder, looked, room, found)?;
     Ok(many)
 }
 
@@ -189,17 +201,18 @@ fn push_boxes(
     Ok(())
 }
 
-// Searches for the touched boxes of a room, whose list in preorder is that of the tree.
+// Searches for the touched boxes of a room in the list of the nodes.
 fn search_groups(
     nodes: &Nodes,
     bodies: &[Option<FBox>],
+    preorder: &[ListedNode],
     looked: u64,
     room: &mut SearchRoom,
     found: &mut Vec<Pair>,
 ) -> Result<u64, NoMemory>
     requires inside { IsInsideIn bodies.now nodes.now }
     requires held { Holds (map_of bodies.now) (exact_in bodies.now nodes.now) }
-    requires list { room.old.preorder.items ≡ preorder_in bodies.now nodes.now }
+    requires list { preorder.now ≡ preorder_in bodies.now nodes.now }
     requires touched { AreOf bodies.now room.old.touched.items }
     ensures ok { OnOk result (Adds found.old.items found.new.items (crossed (exact_in bodies.now nodes.now) room.old.touched.items)) }
     ensures count { IfOk result (λ n. n ≡ raised looked (all_visits_in nodes.now room.old.touched.items)) }
@@ -208,7 +221,7 @@ fn search_groups(
     let number = search_by_groups(
         nodes,
         bodies,
-        &room.preorder,
+        preorder,
         &room.touched,
         looked,
         room.done.as_mut_slice(),

@@ -10,9 +10,10 @@ ghost use Rattle.box_tree.specs.Boxes.{no_boxes as outset, shifted, told, fat_en
 
 use crate::descent::descend;
 use crate::leaves::{add_leaf, drop_leaf, relink};
+use crate::preorder::{ListedNode, list_preorder};
 use crate::renewal::{Room, renew};
 use crate::search::reach;
-use crate::touched::{SearchRoom, push_shared, search_run, search_touched};
+use crate::touched::{SearchRoom, listing, push_shared, search_run, search_touched};
 use crate::{MARGIN, Moved};
 use broad_index::{
     BroadPhase, FEWEST_SOUGHT, Pair, PairSeeker, Query, holding_laws, join_pieces, keeping_laws,
@@ -32,7 +33,8 @@ use tree_nodes::{MOST_HEIGHT, Nodes};
 ///
 /// A leaf whose fat box changes moves in its place, or is put where it fits best. After some such changes for each leaf the
 /// tree is rebuilt, so that a search looks at few nodes however long the boxes move. Where many slots are touched, `pairs`
-/// searches for eight at once whose leaves stand side by side, and so does each piece of `pairs_with`.
+/// lists the nodes in preorder and searches for eight slots at once whose leaves stand side by side, and so does each piece of
+/// `pairs_with`, for which the nodes are listed once.
 ///
 /// Only `new`, `pairs`, `pairs_with` and `hits` take memory. The structure is never spent.
 #[derive(Drop)]
@@ -49,13 +51,16 @@ pub struct BoxTree {
     looked: u64,
     // How many more changes of the tree there are before it is rebuilt.
     until_rebuild: usize,
+    // The nodes as searches read them, and whether the list is up to date.
+    preorder: Vec<ListedNode>,
+    listed: bool,
     room: Room,
 }
 
 impl Model for BoxTree {
     ghost use Rattle.box_tree.specs.Boxes.{Boxes, coded_boxes};
     ghost use Rattle.fixed_box.specs.SlotMap.{map_of};
-    ghost use Rattle.box_tree.specs.Ties.{Sound};
+    ghost use Rattle.box_tree.specs.Ties.{Whole};
 
     ghost Value = { Boxes };
 
@@ -69,7 +74,7 @@ impl Model for BoxTree {
       looked = t.looked;
     } };
 
-    ghost invariant = { λ t. Sound t.nodes t.bodies.items t.fats.items t.numbers.items t.marks.items t.kept.items };
+    ghost invariant = { λ t. Whole t.nodes t.bodies.items t.fats.items t.numbers.items t.marks.items t.kept.items t.preorder.items t.listed };
 }
 
 impl BoxTree {
@@ -87,6 +92,8 @@ impl BoxTree {
             kept: Vec::new(alloc),
             looked: 0,
             until_rebuild: 0,
+            preorder: Vec::new(alloc),
+            listed: false,
             room: Room::new(alloc),
         })
     }
@@ -103,6 +110,7 @@ impl BoxTree {
     {
         keeping_laws();
         let at = slot as usize;
+        self.listed = false;
         self.bodies[at] = Some(body);
         self.marks[at] = true;
         if is_inside(&self.fats[at], &body) {
@@ -194,6 +202,7 @@ impl BroadPhase for BoxTree {
     {
         keeping_laws();
         let place = slot as usize;
+        self.listed = false;
         self.bodies[place] = Some(body);
         self.marks[place] = true;
         add_leaf(
@@ -229,6 +238,7 @@ impl BroadPhase for BoxTree {
     {
         keeping_laws();
         let at = slot as usize;
+        self.listed = false;
         self.bodies[at] = None;
         self.marks[at] = true;
         drop_leaf(&mut self.nodes, &mut self.fats, &self.numbers, slot);
@@ -236,11 +246,14 @@ impl BroadPhase for BoxTree {
 
     fn pairs(&mut self, out: &mut Vec<Pair>) -> Result<(), NoMemory> {
         member_laws();
+        // the list is written anew
+        self.listed = false;
         let looked = search_touched(
             &self.nodes,
             &self.bodies,
             &self.marks,
             self.looked,
+            &mut self.preorder,
             &mut self.room,
         )?;
         renew(&mut self.kept, &mut self.marks, &mut self.room, out)?;
@@ -263,6 +276,16 @@ impl BroadPhase for BoxTree {
         ensures { self.new ≡ self.old }
     {}
 
+    // Lists the nodes once for all pieces.
+    fn prepare(&mut self) -> Result<(), NoMemory> {
+        if self.listed {
+            return Ok(());
+        }
+        list_preorder(&self.nodes, &self.bodies, &mut self.preorder)?;
+        self.listed = true;
+        Ok(())
+    }
+
     // Each touched slot that is present is sought; those that left count here too.
     fn pays_threads(&self) -> bool
         ensures { (result ≡ true) ↔ (FEWEST_SOUGHT ≤ count_by (λ mark. mark) self.now.touched) }
@@ -279,7 +302,13 @@ impl BroadPhase for BoxTree {
         ensures few { IfOk result (λ shared. IfSome shared (λ s. length s.1.items < 2 ^ 32)) }
     {
         let mut slots = Vec::new(alloc);
-        push_shared(&self.nodes, &self.bodies, &self.marks, &mut slots)?;
+        push_shared(
+            &self.nodes,
+            &self.bodies,
+            listing(self.listed, &self.preorder),
+            &self.marks,
+            &mut slots,
+        )?;
         Ok(Some((self, slots)))
     }
 
@@ -304,7 +333,15 @@ impl PairSeeker for BoxTree {
         keeping_laws();
         let mut room = SearchRoom::new(alloc);
         let mut found = Vec::new(alloc);
-        let cost = search_run(&self.nodes, &self.bodies, slots, 0, &mut room, &mut found)?;
+        let cost = search_run(
+            &self.nodes,
+            &self.bodies,
+            listing(self.listed, &self.preorder),
+            slots,
+            0,
+            &mut room,
+            &mut found,
+        )?;
         // in this thread, so that the pieces are only merged behind
         settle_pairs(&mut found);
         Ok((found, cost))

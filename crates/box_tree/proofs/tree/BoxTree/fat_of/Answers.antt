@@ -14,13 +14,13 @@ pub returns-then-slot-len-clause-none : goal.returns-then-slot-len-clause-none
 returns-then-slot-len-clause-none c =
     let s = c.self.inside in
     let e = get_or_read s.fats.items c.args.slot c.index.result.now (omega (arith, c.if-slot-len.true, c.len.ensures)) c.index.ensures None in
-    none_viewed s.fats.items s.bodies.items c.self.invariant.fat c.args.self.now.bodies (ap (λ b. b.bodies) c.self.view_is) c.args.slot c.index.result.now e
+    none_viewed s.fats.items s.bodies.items c.self.invariant.sound.fat c.args.self.now.bodies (ap (λ b. b.bodies) c.self.view_is) c.args.slot c.index.result.now e
 
 pub returns-then-slot-len-clause-inside : goal.returns-then-slot-len-clause-inside
 returns-then-slot-len-clause-inside c =
     let s = c.self.inside in
     let e = get_or_read s.fats.items c.args.slot c.index.result.now (omega (arith, c.if-slot-len.true, c.len.ensures)) c.index.ensures None in
-    inside_viewed s.fats.items s.bodies.items c.self.invariant.fat c.args.self.now.bodies (ap (λ b. b.bodies) c.self.view_is) c.args.slot
+    inside_viewed s.fats.items s.bodies.items c.self.invariant.sound.fat c.args.self.now.bodies (ap (λ b. b.bodies) c.self.view_is) c.args.slot
     c.index.result.now e
 
 pub returns-else-slot-len-clause-fat : goal.returns-else-slot-len-clause-fat
@@ -33,4 +33,4 @@ pub returns-else-slot-len-clause-none : goal.returns-else-slot-len-clause-none
 returns-else-slot-len-clause-none c =
     let s = c.self.inside in
     let e = sym (past s.fats.items c.args.slot (omega (arith, c.if-slot-len.false, c.len.ensures))) in
-    none_viewed s.fats.items s.bodies.items c.self.invariant.fat c.args.self.now.bodies (ap (λ b. b.bodies) c.self.view_is) c.args.slot None e
+    none_viewed s.fats.items s.bodies.items c.self.invariant.sound.fat c.args.self.now.bodies (ap (λ b. b.bodies) c.self.view_is) c.args.slot None e
