@@ -1,8 +1,8 @@
 -- Lists cut into pieces, and their answers put together again.
-use Rattle.std.proofs.Common.{◌≡◌, ℕ, suc, take, drop, ◌<◌, List, [], ◌∷◌, ◌++◌, length, get_or, All, map, Result, Ok, IfOk}
-use Rattle.std.proofs.Common.{refl, sym, ap, ◌∙◌, subst, arith, length-append, append-nil, append_assoc}
-use Rattle.std.proofs.lemmas.List.{map-append, take-append-drop, get_or_at, length_push}
-use Rattle.std.specs.Fork.{slice_chunk, IsChunk}
+use Rattle.std.proofs.Common.{◌≡◌, ℕ, suc, take, drop, ◌*◌, ◌<◌, List, [], ◌∷◌, ◌++◌, length, get_or, All, map, Result}
+use Rattle.std.proofs.Common.{refl, sym, ap, ◌∙◌, subst, arith, append-nil, append_assoc}
+use Rattle.std.proofs.lemmas.List.{map-append, take-append-drop}
+use Rattle.std.specs.Fork.{slice_chunk}
 use denote.Ref.{Bor}
 use denote.Param.Members.{Shared}
 use Rattle.work_pieces.specs.Each.{Each, Accepts, AcceptsAll}
@@ -35,31 +35,12 @@ pub all_done : {X Y : Type 0} (P : X → Y → Type 0) (all rest : List X) (ys :
 all_done P all [] ys none so = subst (λ l. Each P all l) (append-nil ys) (so [] tt)
 all_done P all (x ∷ rest) ys none so = absurd (omega (arith, none))
 
--- a piece is taken, and its answer is put behind
-pub step : {X Y E : Type 0} (P : List X → Y → Type 0) (size : ℕ) (xs : List X)
-    (ps before left rest : List (Result Y E)) (r : Result Y E) (p : Y) (ys new : List Y)
-    → before ++ left ≡ ps → left ≡ r ∷ rest → r ≡ Ok p
-    → ((n : ℕ) (d : Result Y E) → n < length ps → IfOk (get_or ps n d) (λ y. P (slice_chunk xs size n) y))
-    → Each P (chunks_to size xs (length before)) ys
-    → new ≡ ys ++ p ∷ []
-    → Each P (chunks_to size xs (length (before ++ r ∷ []))) new × ((before ++ r ∷ []) ++ rest ≡ ps)
-step {X} {Y} {E} P size xs ps before left rest r p ys new split next ok each so grows =
-    let whole : before ++ r ∷ rest ≡ ps = rw (← next) split in
-    let short : length before < length ps = omega (arith, ap length whole, length-append before (r ∷ rest)) in
-    let at : get_or ps (length before) r ≡ r = rw (← whole) (get_or_at before r rest r (length before) refl) in
-    let here : IfOk {T = Y} {E = E} (Ok p) (λ y. P (slice_chunk xs size (length before)) y) =
-    subst (λ q. IfOk q (λ y. P (slice_chunk xs size (length before)) y)) (at ∙ ok) (each (length before) r short) in
-    let count : length (before ++ r ∷ []) ≡ suc (length before) = length_push before r ∙ omega arith in
-    let longer : Each P (chunks_to size xs (suc (length before))) (ys ++ p ∷ []) =
-    Each-append P (chunks_to size xs (length before)) (slice_chunk xs size (length before) ∷ []) ys (p ∷ []) so (here, tt) in
-    (subst (λ n. Each P (chunks_to size xs n) new) (sym count) (subst (λ l. Each P (chunks_to size xs (suc (length before))) l) (sym grows) longer), rw append_assoc whole)
-
--- all pieces were taken
-pub done : {X Y E : Type 0} (P : List X → Y → Type 0) (size : ℕ) (xs : List X) (ps before left : List (Result Y E)) (ys : List Y)
-    → before ++ left ≡ ps → length left ≡ 0 → Each P (chunks_to size xs (length before)) ys → Each P (chunks_to size xs (length ps)) ys
-done P size xs ps before left ys split none so =
-    let same : length before ≡ length ps = omega (arith, ap length split, length-append before left) in
-    subst (λ n. Each P (chunks_to size xs n) ys) same so
+-- the last of the pieces that are counted is answered, and its answer is put behind
+pub last_piece : {X Y : Type 0} (P : List X → Y → Type 0) (size : ℕ) (xs : List X) (count last : ℕ) (ys new : List Y) (y : Y)
+    → count ≡ suc last → Each P (chunks_to size xs last) ys → P (slice_chunk xs size last) y → new ≡ ys ++ y ∷ [] → Each P (chunks_to size xs count) new
+last_piece P size xs count last ys new y is before one grows =
+    subst (λ n. Each P (chunks_to size xs n) new) (sym is) (subst (λ l. Each P (chunks_to size xs (suc last)) l) (sym grows)
+    (Each-append P (chunks_to size xs last) (slice_chunk xs size last ∷ []) ys (y ∷ []) before (one, tt)))
 
 -- one more list is put behind
 pub one_list : {V X : Type 0} (items : V → List X) (lists before left rest : List V) (v : V) (ys new : List X)
@@ -87,12 +68,12 @@ each_of_runs P Q items xs vs ys tells h is = rw (is, ← h.whole) (go h.runs vs 
     go (run ∷ runs) [] e = absurd e
     go (run ∷ runs) (v ∷ vs) e = Each-append P run (put_together runs) (items v) (put_together (map items vs)) (tells run v e.0) (go runs vs e.1)
 
--- a chunk is a run
-pub accepts_chunk : {F X Y E : Type 0} (g : Shared F (Bor (List X) × Unit {0}) (Result Y E)) (f : F) (xs run : List X) (size start : ℕ)
-    → AcceptsRuns g f xs → IsChunk xs size start run → Accepts g f run
-accepts_chunk g f xs run size start accepts is =
-    accepts (take start xs) run (drop size (drop start xs)) (sym (ap (λ l. take start xs ++ (l ++ drop size (drop start xs))) is.value
-    ∙ ap (λ l. take start xs ++ l) (take-append-drop size (drop start xs)) ∙ take-append-drop start xs))
+-- a piece is a run
+pub accepts_chunk : {F X Y E : Type 0} (g : Shared F (Bor (List X) × Unit {0}) (Result Y E)) (f : F) (xs run : List X) (size n : ℕ)
+    → AcceptsRuns g f xs → run ≡ slice_chunk xs size n → Accepts g f run
+accepts_chunk g f xs run size n accepts is =
+    accepts (take (n * size) xs) run (drop size (drop (n * size) xs)) (sym (ap (λ l. take (n * size) xs ++ (l ++ drop size (drop (n * size) xs))) is
+    ∙ ap (λ l. take (n * size) xs ++ l) (take-append-drop size (drop (n * size) xs)) ∙ take-append-drop (n * size) xs))
 
 -- what may be asked of each item may be asked of each item of a run
 pub accepts_run : {F X Y E : Type 0} (g : Shared F (Bor X × Unit {0}) (Result Y E)) (f : F) (xs before run after : List X)

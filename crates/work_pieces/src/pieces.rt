@@ -1,4 +1,5 @@
-ghost use Rattle.std.specs.Prelude.{◌≡◌, ◌+◌, ◌*◌, ◌^◌, ◌<◌, ◌≤◌, ◌%◌, map, length, IfOk, slice_index_or, ℕ, true, false};
+ghost use Rattle.std.specs.Prelude.{◌≡◌, ◌*◌, ◌^◌, ◌<◌, ◌≤◌, map, length, IfOk, Some, None, ℕ};
+ghost use denote.Param.Send.{IsSync, IsSend};
 ghost use Rattle.std.specs.Int.{div_ceil};
 ghost use Rattle.std.specs.Fork.{slice_chunk};
 ghost use Rattle.work_pieces.specs.Each.{Each, Accepts, AcceptsAll, Gives};
@@ -7,8 +8,7 @@ ghost use Rattle.work_pieces.specs.Runs.{AcceptsRuns, chunks_to, pieces_of, put_
 use crate::Gate;
 use fixed_box::NoMemory;
 use std::alloc::Global;
-use std::thread;
-use std::thread::Threads;
+use std::thread::{Threads, join};
 
 /// Answers each item of a list, and gives the answers in the items' order, whichever piece ends first.
 ///
@@ -74,14 +74,8 @@ pub fn by_runs<
         return Ok(Vec::new(alloc));
     }
     let size = piece_size(items.len(), workers);
-    let pieces = thread::map_chunks(
-        rt,
-        alloc,
-        items,
-        size,
-        &|start, piece| do_piece(piece, start, size, gate, answer),
-    )?;
-    all_done(alloc, items, size, answer, pieces)
+    let count = piece_count(items.len(), size);
+    answer_pieces(rt, alloc, items, size, count, gate, answer)
 }
 
 // How many items a piece has, but for the last one.
@@ -92,79 +86,112 @@ fn piece_size(items: usize, workers: u32) -> usize
     items.div_ceil(workers as usize)
 }
 
-// The number of the piece that begins at a place.
-fn piece_at(start: usize, size: usize) -> u32
+// How many pieces of a size a list has.
+fn piece_count(items: usize, size: usize) -> u32
     requires size { 0 < size }
-    requires begins { start % size ≡ 0 }
-    requires small { start < 2 ^ 32 }
-    ensures { size * result ≡ start }
+    requires few { items < 2 ^ 32 }
+    ensures is { result ≡ div_ceil items size }
+    ensures begin { (n : ℕ) → n < result → n * size < items }
 {
-    (start / size) as u32
+    items.div_ceil(size) as u32
 }
 
-// Answers the piece that begins at a place.
-fn do_piece<T, X: Drop, F: Fn(&[T]) -> Result<X, NoMemory>, G: Gate>(
-    items: &[T],
-    start: usize,
-    size: usize,
-    gate: &G,
-    answer: &F,
-) -> Result<X, NoMemory>
-    requires size { 0 < size }
-    requires begins { start % size ≡ 0 }
-    requires small { start < 2 ^ 32 }
-    requires accepts { Accepts F.Fn answer.now items.now }
-    ensures { IfOk result (λ found. Gives F.Fn answer.now items.now found) }
-{
-    let mut entered = false;
-    enter_once(gate, piece_at(start, size), &mut entered);
-    answer_of(items, entered, answer)
-}
-
-// Enters the gate for a piece that hasn't entered it.
-fn enter_once<G: Gate>(gate: &G, piece: u32, entered: &mut bool)
-    requires { entered.old ≡ false }
-    ensures { entered.new ≡ true }
-{
-    gate.enter(piece);
-    *entered = true;
-}
-
-// Answers a piece that has entered the gate.
-fn answer_of<T, X: Drop, F: Fn(&[T]) -> Result<X, NoMemory>>(
-    items: &[T],
-    entered: bool,
-    answer: &F,
-) -> Result<X, NoMemory>
-    requires entered { entered ≡ true }
-    requires accepts { Accepts F.Fn answer.now items.now }
-    ensures { IfOk result (λ found. Gives F.Fn answer.now items.now found) }
-{
-    let _ = entered;
-    answer(items)
-}
-
-// The answers of all pieces, in the order of the pieces, or the first want of memory.
-fn all_done<T, X: Drop, F: Fn(&[T]) -> Result<X, NoMemory>>(
+// Answers the first pieces of a list, as many as counted, in their order. The last of them is done by a thread that is
+// started here, and those before it by the caller's: where a thread that has just started starts another one, the two are
+// often put on one processor (measured).
+#[cycle(counted)]
+fn answer_pieces<
+    R: Threads + Sync,
+    T: Sync,
+    X: Send + Drop,
+    F: Fn(&[T]) -> Result<X, NoMemory> + Sync,
+    G: Gate + Sync,
+>(
+    rt: &R,
     alloc: Global,
     items: &[T],
     size: usize,
+    count: u32,
+    gate: &G,
     answer: &F,
-    pieces: Vec<Result<X, NoMemory>>,
 ) -> Result<Vec<X>, NoMemory>
-    requires each { (n : ℕ) (d : _) → n < length pieces.items
-        → IfOk (slice_index_or pieces.items n d) (λ x. Gives F.Fn answer.now (slice_chunk items.now size n) x) }
-    ensures { IfOk result (λ answers. Each (Gives F.Fn answer.now) (chunks_to size items.now (length pieces.items)) answers.items) }
+    requires some { 0 < count }
+    requires begin { (n : ℕ) → n < count → n * size < length items.now }
+    requires accepts { AcceptsRuns F.Fn answer.now items.now }
+    ensures { IfOk result (λ answers. Each (Gives F.Fn answer.now) (chunks_to size items.now count) answers.items) }
 {
-    let _ = items;
-    let _ = size;
-    let _ = answer;
-    let mut answers = Vec::new(alloc);
-    'pieces: for piece in pieces {
-        let one = piece?;
-        answers.push(one)?;
+    let last = count - 1;
+    if last == 0 {
+        let mut first = Vec::new(alloc);
+        first.push(do_piece(items, size, 0, gate, answer)?)?;
+        return Ok(first);
     }
-    Ok(answers)
+    let there = || -> Result<X, NoMemory>
+        requires { IsSync T.row × IsSync F.row × IsSync G.row × IsSend X.row × (last * size < length items.now) × AcceptsRuns F.Fn answer.now items.now }
+        ensures { IfOk result (λ found. Gives F.Fn answer.entry.now (slice_chunk items.entry.now size last) found) }
+    { do_piece(items, size, last, gate, answer) };
+    let here = || -> Result<Vec<X>, NoMemory>
+        requires { IsSync R.row × IsSync T.row × IsSync F.row × IsSync G.row × IsSend X.row × (0 < last)
+            × ((n : ℕ) → n < last → n * size < length items.now) × AcceptsRuns F.Fn answer.now items.now }
+        ensures { IfOk result (λ answers. Each (Gives F.Fn answer.entry.now) (chunks_to size items.entry.now last) answers.items) }
+    { answer_pieces(rt, alloc, items, size, last, gate, answer) };
+    let (one, before) = join(rt, there, here);
+    let mut all = before?;
+    all.push(one?)?;
+    Ok(all)
+}
+
+// Answers the piece with a number, which enters the gate first.
+fn do_piece<T, X: Drop, F: Fn(&[T]) -> Result<X, NoMemory>, G: Gate>(
+    items: &[T],
+    size: usize,
+    number: u32,
+    gate: &G,
+    answer: &F,
+) -> Result<X, NoMemory>
+    requires begins { number * size < length items.now }
+    requires accepts { AcceptsRuns F.Fn answer.now items.now }
+    ensures { IfOk result (λ found. Gives F.Fn answer.now (slice_chunk items.now size number) found) }
+{
+    let mut entered = None;
+    enter_once(gate, number, &mut entered);
+    answer_of(items, size, number, entered, answer)
+}
+
+// Enters the gate for a piece, where no piece has entered it.
+fn enter_once<G: Gate>(gate: &G, piece: u32, entered: &mut Option<u32>)
+    requires { entered.old ≡ None }
+    ensures { entered.new ≡ Some piece }
+{
+    gate.enter(piece);
+    *entered = Some(piece);
+}
+
+// Answers the piece that has entered the gate.
+fn answer_of<T, X: Drop, F: Fn(&[T]) -> Result<X, NoMemory>>(
+    items: &[T],
+    size: usize,
+    number: u32,
+    entered: Option<u32>,
+    answer: &F,
+) -> Result<X, NoMemory>
+    requires entered { entered ≡ Some number }
+    requires begins { number * size < length items.now }
+    requires accepts { AcceptsRuns F.Fn answer.now items.now }
+    ensures { IfOk result (λ found. Gives F.Fn answer.now (slice_chunk items.now size number) found) }
+{
+    let _ = entered;
+    answer(piece_at(items, size, number))
+}
+
+// The piece with a number.
+fn piece_at<T>(items: &[T], size: usize, number: u32) -> &[T]
+    requires { number * size < length items.now }
+    ensures { result.now ≡ slice_chunk items.now size number }
+{
+    let (_, rest) = items.split_at(number as usize * size);
+    let (piece, _) = rest.split_at(size.min(rest.len()));
+    piece
 }
 
 // Answers each item of a piece.
