@@ -1,10 +1,12 @@
-ghost use Rattle.std.specs.Prelude.{◌≡◌, ◌↔◌, ◌<◌, ◌≤◌, ◌^◌, true, false, length, refl, Ok, None, is_some, IfOk, IfSome};
+ghost use Rattle.std.specs.Prelude.{◌≡◌, ◌↔◌, ◌<◌, ◌≤◌, ◌^◌, true, false, length, refl, Ok, None, is_some, IfOk, IfSome, OnOk};
 ghost use Rattle.std.specs.FinMap as map;
 ghost use Rattle.std.specs.List.{All};
 ghost use Rattle.broad_index.specs.Fresh.{IsFresh};
+ghost use Rattle.hier_grid.specs.Buckets.{HasBuckets};
 ghost use Rattle.hier_grid.specs.Grid.{AreKeyed};
 ghost use Rattle.hier_grid.specs.Search.{FindsRun, present};
 
+use crate::bucket_boxes::BucketBoxes;
 use crate::hits::{push_hits, push_reach};
 use crate::kept_boxes::KeptBoxes;
 use crate::pair_search::{Findings, find_run};
@@ -18,6 +20,9 @@ use slot_search::Seeker;
 use std::alloc::Global;
 use std::marker::Model;
 
+// The list by bucket pays where so many searches share its walk over 16,384 buckets; fewer follow the rings of links.
+const LISTED_FROM: usize = 1_024;
+
 /// The boxes in cells of eleven levels, whose sides are 2^12 to 2^32 raw units.
 ///
 /// A box lies at the least level whose cells are longer than its longest side, in the cell of its lower corner. So it
@@ -26,9 +31,10 @@ use std::marker::Model;
 /// at half of the cells about it, and in one cell from the lower slot. Where a level has fewer boxes than cells lie beside
 /// a box, all of them are compared with it in place of a look at those cells.
 ///
-/// A search from 1,024 slots or more, and so each such piece of `pairs_with`, copies all boxes once in the order of the
-/// buckets of their cells, in 28 bytes each. That walks over 16,384 buckets. A search from fewer slots, and a query, follow
-/// the links between the slots of a bucket instead.
+/// Where 1,024 or more slots are present in `pairs`, and where `pairs_with` searches by pieces, all boxes are first copied in
+/// the order of the buckets of their cells, in 28 bytes each, once for all pieces and until a box changes. That walks over
+/// 16,384 buckets. `pairs` with fewer slots and no such copies at hand, and a query, follow the links between the slots of a
+/// bucket instead.
 ///
 /// Only `new`, `pairs`, `pairs_with` and `hits` take memory; `add`, `shift` and `leave` take a time that doesn't grow with
 /// the number of boxes.
@@ -36,22 +42,29 @@ use std::marker::Model;
 pub struct HierGrid {
     alloc: Global,
     kept: KeptBoxes,
+    boxes: BucketBoxes,
+    // Whether `boxes` has the boxes as they are now.
+    listed: bool,
     slots: Vec<u32>,
     found: Findings,
     looked: u64,
 }
 
 impl Model for HierGrid {
+    ghost use Rattle.std.specs.Prelude.{◌≡◌, true};
     ghost use Rattle.std.specs.Ordering.{nat_cmp};
     ghost use Rattle.std.specs.Coded.{coded_ℕ};
     ghost use Rattle.std.specs.FinMap.{FinMap, code};
     ghost use Rattle.fixed_box.specs.Bounds.{Bounds, coded_bounds};
+    ghost use Rattle.hier_grid.specs.Buckets.{HasBuckets};
 
     ghost Value = { FinMap nat_cmp Bounds };
 
     ghost coded = { code coded_ℕ coded_bounds };
 
     ghost view = { λ g. g.kept };
+
+    ghost invariant = { λ g. g.listed ≡ true → HasBuckets g.kept g.boxes };
 }
 
 impl HierGrid {
@@ -62,6 +75,8 @@ impl HierGrid {
         Ok(HierGrid {
             alloc,
             kept: KeptBoxes::new(alloc)?,
+            boxes: BucketBoxes::new(alloc),
+            listed: false,
             slots: Vec::new(alloc),
             found: Findings::new(alloc),
             looked: 0,
@@ -105,7 +120,8 @@ impl PairSeeker for HierGrid {
     /// Answers the number of comparisons of two exact boxes.
     fn seek_pairs(&self, alloc: Global, slots: &[u32]) -> Result<(Vec<Pair>, u64), NoMemory> {
         let mut found = Findings::new(alloc);
-        let looked = find_run(&self.kept, slots, &mut found)?;
+        let listed = listed_boxes(self.listed, &self.boxes);
+        let looked = find_run(&self.kept, listed, slots, &mut found)?;
         // in this thread, so that the pieces are only merged behind
         settle_pairs(&mut found.pairs);
         Ok((found.pairs, looked))
@@ -142,6 +158,7 @@ impl BroadPhase for HierGrid {
         ensures answer { result ≡ Ok tt }
         ensures bodies { self.new ≡ map.insert self.old slot body }
     {
+        self.listed = false;
         self.kept.put(slot, body);
         Ok(())
     }
@@ -153,6 +170,7 @@ impl BroadPhase for HierGrid {
         ensures answer { result ≡ Ok tt }
         ensures bodies { self.new ≡ map.insert self.old slot body }
     {
+        self.listed = false;
         self.kept.set(slot, body);
         Ok(())
     }
@@ -161,12 +179,16 @@ impl BroadPhase for HierGrid {
         requires present { map.contains_key self.old slot ≡ true }
         ensures gone { self.new ≡ map.remove self.old slot }
     {
+        self.listed = false;
         self.kept.take(slot);
     }
 
     fn pairs(&mut self, out: &mut Vec<Pair>) -> Result<(), NoMemory> {
         self.kept.boxes().list(&mut self.slots)?;
-        let looked = find_run(&self.kept, &self.slots, &mut self.found)?;
+        let many = self.slots.len() >= LISTED_FROM;
+        list_anew(&self.kept, many, &mut self.listed, &mut self.boxes)?;
+        let listed = listed_boxes(self.listed, &self.boxes);
+        let looked = find_run(&self.kept, listed, &self.slots, &mut self.found)?;
         push_rising_pairs(&mut self.found.pairs, out)?;
         self.looked = self.looked.saturating_add(looked);
         Ok(())
@@ -181,6 +203,11 @@ impl BroadPhase for HierGrid {
     }
 
     fn clear_exchanges(&mut self) {}
+
+    // It copies all boxes, once for all pieces.
+    fn prepare(&mut self) -> Result<(), NoMemory> {
+        list_anew(&self.kept, true, &mut self.listed, &mut self.boxes)
+    }
 
     // Each present slot is sought.
     fn pays_threads(&self) -> bool
@@ -207,4 +234,30 @@ impl BroadPhase for HierGrid {
         self.looked = looked;
         Ok(())
     }
+}
+
+// Copies all boxes where that pays, if any has changed since it was done last.
+fn list_anew(
+    kept: &KeptBoxes,
+    pays: bool,
+    listed: &mut bool,
+    boxes: &mut BucketBoxes,
+) -> Result<(), NoMemory>
+    requires { listed.old ≡ true → HasBuckets kept.now boxes.old }
+    ensures listed { pays ≡ true → OnOk result (listed.new ≡ true) }
+    ensures filled { listed.new ≡ true → HasBuckets kept.now boxes.new }
+{
+    if pays && !*listed {
+        boxes.fill(kept)?;
+        *listed = true;
+    }
+    Ok(())
+}
+
+// The copied boxes, if they are those that are there now.
+fn listed_boxes(listed: bool, boxes: &BucketBoxes) -> Option<&BucketBoxes>
+    ensures listed { is_some result ≡ listed }
+    ensures same { IfSome result (λ found. found.now ≡ boxes.now) }
+{
+    if listed { Some(boxes) } else { None }
 }

@@ -18,14 +18,10 @@ use cell_table::{CellKey, LEVELS};
 use fixed_box::NoMemory;
 use std::alloc::Global;
 
-// The list by bucket pays where so many searches share its walk over 16,384 buckets; fewer follow the rings of links.
-const LISTED_FROM: usize = 1_024;
-
 /// The pairs that were found, in any order, and room for the searches of slots.
 #[derive(Drop)]
 pub(crate) struct Findings {
     pub(crate) pairs: Vec<Pair>,
-    boxes: BucketBoxes,
     near: Nearby,
 }
 
@@ -34,29 +30,25 @@ impl Findings {
     pub(crate) fn new(alloc: Global) -> Findings {
         Findings {
             pairs: Vec::new(alloc),
-            boxes: BucketBoxes::new(alloc),
             near: Nearby::new(alloc),
         }
     }
 }
 
-/// Finds the pairs that some slots are to find, each at least once, and answers how many boxes were compared.
+/// Finds the pairs that some slots are to find, each at least once, and answers how many boxes were compared. Where no boxes
+/// are listed, the rings of links are followed.
 pub(crate) fn find_run(
     kept: &KeptBoxes,
+    listed: Option<&BucketBoxes>,
     slots: &[u32],
     found: &mut Findings,
 ) -> Result<u64, NoMemory>
+    requires filled { IfSome listed (λ boxes. HasBuckets kept.now boxes.now) }
     ensures { OnOk result (FindsRun kept.now slots.now found.new.pairs.items) }
 {
     found.pairs.clear();
     found.near.looked = 0;
-    if slots.len() < LISTED_FROM {
-        find_each(kept, None, slots, &mut found.near, &mut found.pairs)?;
-    } else {
-        found.boxes.fill(kept)?;
-        let listed = Some(&found.boxes);
-        find_each(kept, listed, slots, &mut found.near, &mut found.pairs)?;
-    }
+    find_each(kept, listed, slots, &mut found.near, &mut found.pairs)?;
     Ok(found.near.looked)
 }
 
