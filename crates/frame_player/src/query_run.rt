@@ -101,6 +101,9 @@ pub(crate) fn settle<R: Threads + Sync, B: BroadPhase + Sync + Drop, G: Gate + S
     ensures queries { OnOk result (run.new.queries.items ≡ []) }
     ensures masks { OnOk result (run.new.masks.items ≡ []) }
 {
+    if run.queries.is_empty() {
+        return Ok(());
+    }
     let lists = hits_many(rt, player.alloc, &player.index, &run.queries, workers, gate)?;
     send_answers(
         player.alloc,
