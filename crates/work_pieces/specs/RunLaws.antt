@@ -43,7 +43,9 @@ chunks-take size xs (suc n) =
     ∙ sym (take-add (n * size) size xs) ∙ ap (λ m. take m xs) (sym e)
 
 covers_case : (q size r n : ℕ) → size * q + r ≡ n → r < size → n ≤ (q + min 1 r) * size
-covers_case q size zero n h l = let w : (q + min 1 zero) * size ≡ size * q + size * min 1 zero = mul_comm (q + min 1 zero) size ∙ mul-add size q (min 1 zero) in omega arith
+covers_case q size zero n h l =
+    let w : (q + min 1 zero) * size ≡ size * q + size * min 1 zero = mul_comm (q + min 1 zero) size ∙ mul-add size q (min 1 zero) in
+    omega arith
 covers_case q size (suc r) n h l =
     let o : min 1 (suc r) ≡ 1 = grind arith in
     let w : (q + min 1 (suc r)) * size ≡ size * q + size = rw (o, mul_comm (q + 1) size, mul-add, mul-one) refl in
@@ -74,5 +76,6 @@ pieces-whole workers (x ∷ xs) some =
     ∙ take_all (div_ceil (length (x ∷ xs)) size * size) (x ∷ xs) (covers (length (x ∷ xs)) size (size_above (length (x ∷ xs)) workers some (omega arith)))
 
 -- what belongs to the pieces of a list belongs to runs of it
-pub runs_of_pieces : {X Y : Type 0} (P : List X → Y → Type 0) (workers : ℕ) (xs : List X) (ys : List Y) → 1 ≤ workers → Each P (pieces_of workers xs) ys → InRuns P xs ys
+pub runs_of_pieces : {X Y : Type 0} (P : List X → Y → Type 0) (workers : ℕ) (xs : List X) (ys : List Y) → 1 ≤ workers
+    → Each P (pieces_of workers xs) ys → InRuns P xs ys
 runs_of_pieces P workers xs ys some each = record { runs = pieces_of workers xs; whole = pieces-whole workers xs some; each = each }

@@ -14,6 +14,7 @@ use std::thread::{Threads, join};
 ///
 /// The list is cut into pieces of `ceil(n / workers)` items, the last one possibly shorter. Each piece is done by one
 /// thread, which enters the gate with the piece's number before its first item. Where there is no item, there is no piece.
+/// `NoMemory` of any item, or where there is no room for the answers, is the answer of all, and no answer is handed out then.
 pub fn by_pieces<
     R: Threads + Sync,
     T: Sync,
@@ -50,7 +51,7 @@ pub fn by_pieces<
 /// Answers each piece of a list as a whole, and gives the answers in the order of the pieces.
 ///
 /// The list is cut as [`by_pieces`] cuts it, and each piece is done by one thread, which enters the gate with the piece's
-/// number first.
+/// number first. Only a single piece is done by the caller's own thread. `NoMemory` of any piece is the answer of all.
 pub fn by_runs<
     R: Threads + Sync,
     T: Sync,
@@ -75,6 +76,11 @@ pub fn by_runs<
     }
     let size = piece_size(items.len(), workers);
     let count = piece_count(items.len(), size);
+    if count == 1 {
+        let mut only = Vec::new(alloc);
+        only.push(do_piece(items, size, 0, gate, answer)?)?;
+        return Ok(only);
+    }
     answer_pieces(rt, alloc, items, size, count, gate, answer)
 }
 
@@ -96,9 +102,9 @@ fn piece_count(items: usize, size: usize) -> u32
     items.div_ceil(size) as u32
 }
 
-// Answers the first pieces of a list, as many as counted, in their order. The last of them is done by a thread that is
-// started here, and those before it by the caller's: where a thread that has just started starts another one, the two are
-// often put on one processor (measured).
+// Answers the first pieces of a list, as many as counted, in their order, each by a thread of its own. The caller starts them
+// all: where a thread that has just started starts another one, the two are often put on one processor. And it does no piece
+// itself: as often one of the threads is put on its processor, and begins only when the caller waits (both measured).
 #[cycle(counted)]
 fn answer_pieces<
     R: Threads + Sync,
@@ -115,23 +121,20 @@ fn answer_pieces<
     gate: &G,
     answer: &F,
 ) -> Result<Vec<X>, NoMemory>
-    requires some { 0 < count }
     requires begin { (n : ℕ) → n < count → n * size < length items.now }
     requires accepts { AcceptsRuns F.Fn answer.now items.now }
     ensures { IfOk result (λ answers. Each (Gives F.Fn answer.now) (chunks_to size items.now count) answers.items) }
 {
-    let last = count - 1;
-    if last == 0 {
-        let mut first = Vec::new(alloc);
-        first.push(do_piece(items, size, 0, gate, answer)?)?;
-        return Ok(first);
+    if count == 0 {
+        return Ok(Vec::new(alloc));
     }
+    let last = count - 1;
     let there = || -> Result<X, NoMemory>
         requires { IsSync T.row × IsSync F.row × IsSync G.row × IsSend X.row × (last * size < length items.now) × AcceptsRuns F.Fn answer.now items.now }
         ensures { IfOk result (λ found. Gives F.Fn answer.entry.now (slice_chunk items.entry.now size last) found) }
     { do_piece(items, size, last, gate, answer) };
     let here = || -> Result<Vec<X>, NoMemory>
-        requires { IsSync R.row × IsSync T.row × IsSync F.row × IsSync G.row × IsSend X.row × (0 < last)
+        requires { IsSync R.row × IsSync T.row × IsSync F.row × IsSync G.row × IsSend X.row
             × ((n : ℕ) → n < last → n * size < length items.now) × AcceptsRuns F.Fn answer.now items.now }
         ensures { IfOk result (λ answers. Each (Gives F.Fn answer.entry.now) (chunks_to size items.entry.now last) answers.items) }
     { answer_pieces(rt, alloc, items, size, last, gate, answer) };

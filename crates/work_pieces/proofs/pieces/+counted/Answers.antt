@@ -12,7 +12,7 @@ returns g t c =
     let gives = Gives g.F.Fn c.args.answer.now in
     let last = c.args.count - 1 in
     last_piece gives c.args.size c.args.items.now c.args.count last
-    c.in_ok-all.all.items c.push-2.new.self.items c.in_ok-one.field-0 (omega arith)
+    c.in_ok-all.all.items c.push.new.self.items c.in_ok-one.field-0 (omega arith)
     (IfOk-at_ok (λ answers. Each gives (chunks_to c.args.size c.args.items.now last) answers.items) c.in_ok-all.was c.join-one.ensures.second)
     (IfOk-at_ok (λ found. gives (slice_chunk c.args.items.now c.args.size last) found) c.in_ok-one.was c.join-one.ensures.first)
-    c.in_ok-push-2.ensures.items
+    c.in_ok-push.ensures.items
