@@ -38,9 +38,6 @@ module _ (bodies : FinMap nat_cmp Bounds) where
   pub after_remove : (k j : ℕ) → get (remove bodies k) j ≡ cond (j == k) None (get bodies j)
   after_remove k j = get-remove nat_cmp_total bodies k j ∙ ap (λ b. cond b None (get bodies j)) (eq_cmp j k)
 
-  some_in : (o : Option Bounds) (b : Bounds) → o ≡ Some b → is_some o ≡ true
-  some_in o b e = ap is_some e
-
   pub holds_pushed : (es : List (ℕ × Bounds)) (k : ℕ) (v : Bounds) → Holds bodies es → contains_key bodies k ≡ false
       → Holds (insert bodies k v) (es ++ (k, v) ∷ [])
   holds_pushed es k v h absent = record { present = there; whole = back }

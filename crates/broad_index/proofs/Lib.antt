@@ -1,6 +1,5 @@
 pub mod AmongEntries
 pub mod Answering
-pub mod Gathering
 pub mod Holding
 pub mod MapMembers
 pub mod Merging

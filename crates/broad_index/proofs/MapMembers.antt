@@ -34,9 +34,6 @@ eq_cmp k x = elim (nat_cmp k x) as (λ r. r ≡ nat_cmp k x → is_eq r ≡ (k =
 at_most : (k x : ℕ) → k ≡ x → k ≤ x
 at_most k x e = omega arith
 
-tests_lt : (k x : ℕ) → k < x → nat_lt k x ≡ true
-tests_lt k x l = grind (arith, nat_tests)
-
 pub not_eq : (k x : ℕ) → x < k → (k == x) ≡ false
 not_eq k x l = grind (arith, nat_tests)
 
@@ -134,10 +131,6 @@ has_partners p slot body (e ∷ later) =
 abbrev near_at : List (ℕ × Bounds) → Pair → Bool
 near_at es p = nat_lt p.a p.b && both_meet (at p.a es) (at p.b es)
 
-both_none : (o : Option Bounds) → both_meet o None ≡ false
-both_none None = refl
-both_none (Some b) = refl
-
 meet_some : (body : Bounds) (o : Option Bounds) (k : ℕ) → passes (λ e. meets body e.1) k o ≡ both_meet (Some body) o
 meet_some body None k = refl
 meet_some body (Some b) k = refl
@@ -233,12 +226,3 @@ module _ (bodies : FinMap nat_cmp Bounds) where
       elim (get bodies slot) as
       (λ o. slots_rise (reach_of slot o (entries bodies))
       ≡ true) [ None ↦ refl | Some body ↦ where_rise (λ e. not (e.0 == slot) && meets body e.1) (entries bodies) sorted ]
-
-  pub near_by_reach : (p : Pair) → is_near bodies p ≡ (nat_lt p.a p.b && has_slot (reach bodies p.a) p.b)
-  near_by_reach p = elim (cases_Bool (nat_lt p.a p.b)) as (λ _. is_near bodies p ≡ (nat_lt p.a p.b && has_slot (reach bodies p.a) p.b)) [
-    | inl l ↦
-        let lt : p.a < p.b = ltb-true p.a p.b l in
-        let ne : (p.b == p.a) ≡ false = not_eq p.b p.a lt in
-        sym (ap (λ b. nat_lt p.a p.b && b) (reach_members p.a p.b) ∙ ap (λ b. nat_lt p.a p.b && (not b && both_meet (get bodies p.a) (get bodies p.b))) ne)
-    | inr l ↦ ap (λ b. b && both_meet (get bodies p.a) (get bodies p.b)) l ∙ sym (ap (λ b. b && has_slot (reach bodies p.a) p.b) l)
-  ]

@@ -1,5 +1,5 @@
 -- Searches of slots by a seeker: each gives what its slot reaches.
-use Rattle.std.proofs.Common.{◌≡◌, ℕ, ◌<◌, Bool, true, List, [], ◌∷◌, map, get_or, refl, sym, ap, ◌∙◌, subst}
+use Rattle.std.proofs.Common.{◌≡◌, ℕ, Bool, List, [], ◌∷◌, map, get_or, refl, sym, ap, subst}
 use Rattle.std.specs.List.{zip, All}
 use Rattle.std.specs.Ordering.{nat_cmp}
 use Rattle.std.specs.FinMap.{FinMap}
@@ -7,12 +7,9 @@ use Rattle.std.proofs.lemmas.List.Elements.{All-map}
 use Rattle.fixed_box.specs.Bounds.{Bounds}
 use Rattle.slot_search.specs.Reach.{reach}
 use Rattle.broad_index.specs.declared.pair.Pair.{Pair}
-use Rattle.broad_index.specs.Members.{has_slot, slots_rise, is_reached}
-use Rattle.broad_index.specs.Near.{near}
-use Rattle.broad_index.specs.Searched.{gathered, AreAllIn}
+use Rattle.broad_index.specs.Members.{has_slot, is_reached}
 use Rattle.broad_index.specs.Touched.{gathered_with, AreKept, AreMarked, Renewed}
-use Rattle.broad_index.proofs.Gathering.{gathered_is}
-use Rattle.broad_index.proofs.MapMembers.{reach_members, reach_rises}
+use Rattle.broad_index.proofs.MapMembers.{reach_members}
 use Rattle.broad_index.proofs.Renewing.{renewing}
 
 -- each slot beside what is made of it
@@ -29,16 +26,6 @@ module _ {X : Type 0} (P : ℕ × X → Type 0) (f : ℕ → X) where
   all_beside h slots = subst (All P) (sym (beside f slots)) (All-map P (λ s. (s, f s)) slots (λ k d _. h (get_or slots k d)))
 
 module _ (bodies : FinMap nat_cmp Bounds) where
-  pub all_sought : (slots : List ℕ) → slots_rise slots ≡ true → AreAllIn bodies slots → gathered (zip slots (map (reach bodies) slots)) ≡ near bodies
-  all_sought slots up all =
-      gathered_is bodies (zip slots (map (reach bodies) slots))
-      (ap slots_rise (firsts (reach bodies) slots) ∙ up)
-      (all_beside (λ r. slots_rise r.1 ≡ true) (reach bodies) (reach_rises bodies) slots)
-      (record {
-        each = all_beside (λ r. (k : ℕ) → r.0 < k → has_slot r.1 k ≡ is_reached bodies r.0 k) (reach bodies) (λ s k _. reach_members bodies s k) slots;
-        whole = subst (AreAllIn bodies) (sym (firsts (reach bodies) slots)) all;
-      })
-
   pub marked_sought : (marks : List Bool) (kept : List Pair) (slots : List ℕ) → AreMarked bodies marks slots → AreKept bodies marks kept
       → Renewed bodies marks kept (gathered_with (zip slots (map (reach bodies) slots)))
   marked_sought marks kept slots marked right =

@@ -1,4 +1,4 @@
-ghost use Rattle.std.specs.Prelude.{◌≡◌, ℕ, Bool, true, false, not, ◌&&◌, ◌||◌, ◌==◌, nat_lt, List, [], ◌∷◌, ◌++◌, map, filter, All, Some};
+ghost use Rattle.std.specs.Prelude.{◌≡◌, ℕ, Bool, true, false, ◌&&◌, ◌||◌, ◌==◌, List, [], ◌∷◌, ◌++◌, map, filter, Some};
 ghost use Rattle.std.specs.List.{zip};
 ghost use Rattle.std.specs.List.Sorted.{IsPermutation};
 ghost use Rattle.std.specs.Ordering.{nat_cmp};
@@ -7,12 +7,11 @@ ghost use Rattle.fixed_box.specs.Bounds.{Bounds};
 ghost use Rattle.slot_search.specs.Reach.{reach, reach_of};
 ghost use Rattle.broad_index.specs.declared.pair.Pair.{Pair};
 ghost use Rattle.broad_index.specs.declared.query.Query.{Query};
-ghost use Rattle.broad_index.specs.declared.query.Query.TheVariants.{Region};
 ghost use Rattle.broad_index.specs.Found.{found, found_of};
 ghost use Rattle.broad_index.specs.Held.{Holds, apart};
 ghost use Rattle.broad_index.specs.Members.{has_pair, has_slot, slots_rise, is_near, is_found, is_reached};
 ghost use Rattle.broad_index.specs.Near.{near, rises};
-ghost use Rattle.broad_index.specs.Searched.{gathered, AreReached, AreAllIn, Searched};
+ghost use Rattle.broad_index.specs.Searched.{AreReached};
 ghost use Rattle.broad_index.specs.Touched.{gathered_with, stays, AreKept, AreMarked, Renewed};
 
 /// Which pairs and slots the lists of a map have, and that a rising list is known by its members. It does nothing.
@@ -33,22 +32,6 @@ pub fn member_laws()
         → ((k : ℕ) → has_slot slots k ≡ is_found bodies query k) → slots ≡ found bodies query }
     ensures is_reach { (bodies : FinMap nat_cmp Bounds) (slot : ℕ) (slots : List ℕ) → slots_rise slots ≡ true
         → ((k : ℕ) → has_slot slots k ≡ is_reached bodies slot k) → slots ≡ reach bodies slot }
-{}
-
-/// How the pairs of a map come from searches of its slots. It does nothing.
-pub fn search_laws()
-    ensures near_by_reach { (bodies : FinMap nat_cmp Bounds) (p : Pair)
-        → is_near bodies p ≡ (nat_lt p.a p.b && has_slot (reach bodies p.a) p.b) }
-    // What a slot reaches is what its box finds, but for the slot.
-    ensures reached { (bodies : FinMap nat_cmp Bounds) (slot k : ℕ) (body : Bounds) → get bodies slot ≡ Some body
-        → is_reached bodies slot k ≡ (not (k == slot) && is_found bodies (Region body) k) }
-    ensures gathered { (bodies : FinMap nat_cmp Bounds) (rs : List (ℕ × List ℕ)) → Searched bodies rs
-        → (p : Pair) → has_pair (gathered rs) p ≡ is_near bodies p }
-    // Searches in the order of their slots need no sort.
-    ensures is_gathered { (bodies : FinMap nat_cmp Bounds) (rs : List (ℕ × List ℕ)) → slots_rise (map (λ r. r.0) rs) ≡ true
-        → All (λ r. slots_rise r.1 ≡ true) rs → Searched bodies rs → gathered rs ≡ near bodies }
-    ensures all_sought { (bodies : FinMap nat_cmp Bounds) (slots : List ℕ) → slots_rise slots ≡ true → AreAllIn bodies slots
-        → gathered (zip slots (map (reach bodies) slots)) ≡ near bodies }
 {}
 
 /// What is found among the entries of a map in any order, and how they stay its entries while it changes. It does nothing.

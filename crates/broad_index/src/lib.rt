@@ -16,8 +16,8 @@ mod sharing;
 mod space;
 
 pub use broad_phase::BroadPhase;
-pub use gather::{join_pieces, push_gathered, push_gathered_with, push_ordered_pairs};
-pub use laws::{holding_laws, keeping_laws, member_laws, search_laws};
+pub use gather::{join_pieces, push_ordered_pairs};
+pub use laws::{holding_laws, keeping_laws, member_laws};
 pub use pair::Pair;
 pub use pair_seeker::PairSeeker;
 pub use plain_index::PlainIndex;

@@ -32,7 +32,8 @@ fn settle_slots(slots: &mut Vec<u32>)
     slots.dedup();
 }
 
-/// Appends pairs that were found in any order, and any number of times, in rising order and each once.
+/// Appends pairs that were found in any order, and any number of times, in rising order and each once. `found` is sorted in
+/// place, and its repeats dropped.
 pub fn push_rising_pairs(found: &mut Vec<Pair>, out: &mut Vec<Pair>) -> Result<(), NoMemory>
     ensures near { (bodies : FinMap nat_cmp Bounds) → ((p : Pair) → has_pair found.old.items p ≡ is_near bodies p)
         → OnOk result (out.new.items ≡ out.old.items ++ near bodies) }
@@ -43,7 +44,8 @@ pub fn push_rising_pairs(found: &mut Vec<Pair>, out: &mut Vec<Pair>) -> Result<(
     Ok(())
 }
 
-/// Appends slots that were found in any order, and any number of times, in rising order and each once.
+/// Appends slots that were found in any order, and any number of times, in rising order and each once. `slots` is sorted in
+/// place, and its repeats dropped.
 pub fn push_rising_slots(slots: &mut Vec<u32>, out: &mut Vec<u32>) -> Result<(), NoMemory>
     ensures found { (bodies : FinMap nat_cmp Bounds) (query : Query) → ((k : ℕ) → has_slot slots.old.items k ≡ is_found bodies query k)
         → OnOk result (out.new.items ≡ out.old.items ++ found bodies query) }
@@ -110,7 +112,8 @@ fn is_marked(slot: u32, marks: &[bool]) -> bool
 }
 
 /// Replaces `out` by the pairs of a map: kept ones with no marked slot, and those that were found for marked slots, in any
-/// order and any number of times. `rest` is room. After an `Err` `out` may have any pairs.
+/// order and any number of times. `found` is sorted in place, and its repeats dropped; `rest` is room. After an `Err` `out`
+/// may have any pairs.
 pub fn renew_pairs(
     kept: &[Pair],
     marks: &[bool],

@@ -101,8 +101,7 @@ fn what_was_found_is_appended_once_and_rising(rt: HostRuntime) -> Result<(), Fai
 fn pairs_of_marked_slots_are_renewed(rt: HostRuntime) -> Result<(), Fail> {
     let kept = [Pair { a: 0, b: 1 }, Pair { a: 1, b: 2 }];
     let mut found = Vec::new(rt.alloc());
-    let lists = [Vec::from_slice(rt.alloc(), &[3, 0])?];
-    push_gathered_with(&[2], &lists, &mut found)?;
+    push_ordered_pairs(2, &[3, 0], &mut found)?;
     let mut rest = Vec::new(rt.alloc());
     let mut pairs = Vec::new(rt.alloc());
     let marks = [false, false, true, false];
@@ -117,16 +116,7 @@ fn pairs_of_marked_slots_are_renewed(rt: HostRuntime) -> Result<(), Fail> {
 }
 
 #[test]
-fn searches_of_all_slots_give_each_pair_once(rt: HostRuntime) -> Result<(), Fail> {
-    let lists = [
-        Vec::from_slice(rt.alloc(), &[4, 6])?,
-        Vec::from_slice(rt.alloc(), &[2])?,
-        Vec::from_slice(rt.alloc(), &[2])?,
-    ];
-    let mut pairs = Vec::new(rt.alloc());
-    push_gathered(&[2, 4, 6], &lists, &mut pairs)?;
-    let now = [Pair { a: 2, b: 4 }, Pair { a: 2, b: 6 }];
-    assert_eq!(rt; pairs.as_slice(), now.as_slice());
+fn pairs_of_a_slot_have_the_lower_one_first(rt: HostRuntime) -> Result<(), Fail> {
     let mut ordered = Vec::new(rt.alloc());
     push_ordered_pairs(4, &[6, 2], &mut ordered)?;
     let now = [Pair { a: 4, b: 6 }, Pair { a: 2, b: 4 }];
