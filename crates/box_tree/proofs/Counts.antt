@@ -1,7 +1,5 @@
 -- How many nodes searches look at.
-use Rattle.std.proofs.Common.{◌≡◌, ℕ, ◌+◌, ◌^◌, ◌<◌, cond, Option, None, Some, List, ◌∷◌, map, refl, sym, ap, ◌∙◌, arith}
-use Rattle.std.specs.List.{sum}
-use Rattle.std.proofs.lemmas.List.Sums.{sum_by-cons}
+use Rattle.std.proofs.Common.{◌≡◌, ℕ, ◌+◌, ◌^◌, ◌<◌, cond, Option, None, Some, refl, ap, ◌∙◌, arith}
 use Rattle.fixed_box.specs.Bounds.{Bounds, meets}
 use Rattle.broad_index.specs.declared.query.Query.TheVariants.{Region}
 use Rattle.tree_nodes.specs.Tree.{Tree, tip, fork, visits, visits_in}
@@ -28,17 +26,3 @@ raised_none a lt = grind (arith)
 
 pub raised_fits : (a n m : ℕ) → n ≡ raised a m → n < 2 ^ 64
 raised_fits a n m e = grind (arith)
-
-pub raised_on : (f : ℕ → ℕ) (a c x : ℕ) (xs : List ℕ) → c ≡ f x → raised (raised a c) (sum (map f xs)) ≡ raised a (sum (map f (x ∷ xs)))
-raised_on f a c x xs e =
-    raised_again a c (sum (map f xs))
-    ∙ ap (raised a) (ap (λ y. y + sum (map f xs)) e ∙ sym (sum_by-cons (λ (y : ℕ). y) (f x) (map f xs)))
-
--- a number that is raised at a node, and below both children
-pub raised_thrice : (a x l r here more all total : ℕ) → here ≡ raised a x → more ≡ raised here l → all ≡ raised more r
-    → total ≡ x + (l + r) → all ≡ raised a total
-raised_thrice a x l r here more all total eh em ea et =
-    ea
-    ∙ ap (λ n. raised n r) (em ∙ ap (λ n. raised n l) eh ∙ raised_again a x l)
-    ∙ raised_again a (x + l) r
-    ∙ ap (raised a) (omega arith)

@@ -7,8 +7,6 @@ use Rattle.std.proofs.Math.Nat.{pow-succ', div-div-eq-div-mul}
 use Rattle.std.specs.List.{filter}
 use Rattle.std.specs.Simd.Lanes.{mask_l}
 use Rattle.std.proofs.lemmas.Simd.{ones-mask_l}
-use Rattle.std.proofs.lemmas.List.{map-append}
-use Rattle.std.proofs.lemmas.List.Elements.{filter-append}
 use Rattle.std.proofs.lemmas.List.Sums.{sum_by-cons}
 use Rattle.std.specs.List.{count_by}
 use Rattle.fixed_box.specs.Bounds.{Bounds, encloses, meets}
@@ -19,12 +17,12 @@ use Rattle.broad_index.specs.Members.{has_pair}
 use Rattle.broad_index.specs.Touched.{ordered_pairs}
 use Rattle.lane_boxes.specs.Places.{next_eight}
 use Rattle.tree_nodes.specs.declared.node_view.NodeView.{NodeView}
-use Rattle.tree_nodes.specs.declared.node_view.NodeView.TheVariants.{Leaf as LeafNode, Inner}
+use Rattle.tree_nodes.specs.declared.node_view.NodeView.TheVariants.{Inner}
 use Rattle.tree_nodes.specs.Parts.{height_shown}
-use Rattle.tree_nodes.specs.Tree.{Tree, Leaf, tip, fork, top, leaves, height, bounds, view_of, view_in, visits, count_of}
+use Rattle.tree_nodes.specs.Tree.{Tree, tip, fork, top, leaves, height, bounds, view_of, view_in, visits, count_of}
 use Rattle.tree_nodes.specs.Tree.{Balanced, IsRefitted, IsTreeIn, Within}
-use Rattle.box_tree.specs.Boxes.{marked_slots, raised}
-use Rattle.box_tree.specs.Descent.{entry_of, exact, exact_in, IsInside, IsInsideIn, IsLeafInside}
+use Rattle.box_tree.specs.Boxes.{raised}
+use Rattle.box_tree.specs.Descent.{entry_of, exact, exact_in, IsInside, IsInsideIn}
 use Rattle.box_tree.specs.Group.{others_met, crossed, below, all_below, all_visits_in, picked, Adds, IsShown, IsBelow, BoxLaws, OpenedAs}
 use Rattle.box_tree.proofs.Descents.{exact_append}
 use Rattle.box_tree.proofs.Counts.{raised_again}
@@ -274,14 +272,6 @@ module _ (w : BoxLaws) where
       ap (λ u. all_below u es) is ∙ all_below_fork n k h l r i es
       ∙ ap (λ c. 2 * c + (all_below l es + all_below r es)) (sym (eo ∙ ap count_ones em ∙ ones_met h es))
 
--- the pairs below both children
-pub both_crossed : (bodies : List (Option Bounds)) (es : List (ℕ × Bounds)) (n k : ℕ) (h : Bounds) (l r t : Tree) → t ≡ fork n h k l r
-    → crossed es (exact bodies (leaves t)) ≡ crossed es (exact bodies (leaves l)) ++ crossed es (exact bodies (leaves r))
-both_crossed bodies es n k h l r t is =
-    ap (λ u. crossed es (exact bodies (leaves u))) is
-    ∙ ap (crossed es) (exact_append bodies (leaves l) (leaves r))
-    ∙ crossed_append es (exact bodies (leaves l)) (exact bodies (leaves r))
-
 -- the pairs of one leaf
 pub picked_crossed : (es : List (ℕ × Bounds)) (slot mask : ℕ) (b : Bounds) → mask ≡ bits_of b es
     → ordered_pairs slot (filter (λ s. not (s == slot)) (picked mask es)) ≡ crossed es (entry_of slot (Some b))
@@ -293,21 +283,6 @@ picked_crossed es slot mask b em =
     append_none : {X : Type 0} (xs : List X) → xs ++ [] ≡ xs
     append_none [] = refl
     append_none (x ∷ xs) = ap (λ ys. x ∷ ys) (append_none xs)
-
--- the touched ones below both children
-pub both_marked : (marks : List Bool) (n k : ℕ) (h : Bounds) (l r t : Tree) → t ≡ fork n h k l r
-    → marked_slots marks (leaves t) ≡ marked_slots marks (leaves l) ++ marked_slots marks (leaves r)
-both_marked marks n k h l r t is =
-    ap (λ u. marked_slots marks (leaves u)) is
-    ∙ ap (λ l. filter (λ s. get_or marks s false) l) (map-append (λ (x : Leaf). x.slot) (leaves l) (leaves r))
-    ∙ filter-append (λ s. get_or marks s false) (map (λ (x : Leaf). x.slot) (leaves l)) (map (λ (x : Leaf). x.slot) (leaves r))
-
--- and the one at a leaf
-pub leaf_marked : (o : Option Tree) (bodies : List (Option Bounds)) (marks : List Bool) (at slot : ℕ) (f : Bounds) (t : Tree) → IsBelow o bodies at t
-    → view_in o at ≡ Some (LeafNode slot f) → marked_slots marks (leaves t) ≡ cond (get_or marks slot false) (slot ∷ []) []
-leaf_marked o bodies marks at slot f t b e =
-    let own : (n : ℕ) × (t ≡ tip n slot f) × IsLeafInside bodies slot f = opened o bodies at (LeafNode slot f) t b e in
-    ap (λ u. marked_slots marks (leaves u)) own.1
 
 -- each node shows, from the top on
 shown_all : (w : BoxLaws) (root : Tree) → ((k : ℕ) → count_of root k ≤ 1) → (t : Tree) → Within root t → IsShown (Some root) t
@@ -398,9 +373,3 @@ pub visits_on : (o : Option Tree) (group more rest : List (ℕ × Bounds)) (a n 
 visits_on o group more rest a n e en =
     ap (λ m. raised m (all_visits_in o more)) en ∙ raised_again a (all_visits_in o group) (all_visits_in o more)
     ∙ ap (raised a) (sym (ap (all_visits_in o) (sym e) ∙ visits_append o group more))
-
--- the last ones
-pub rest_adds : (xs rest es : List (ℕ × Bounds)) (old now new : List Pair)
-    → ((p : Pair) → (has_pair now p || has_pair (crossed xs rest) p) ≡ (has_pair old p || has_pair (crossed xs es) p))
-    → new ≡ now ++ crossed xs rest → Adds old new (crossed xs es)
-rest_adds xs rest es old now new inv e p = ap (λ ps. has_pair ps p) e ∙ has_append now (crossed xs rest) p ∙ inv p

@@ -14,7 +14,7 @@ use Rattle.box_tree.specs.declared.preorder.NodeKind.{NodeKind}
 use Rattle.box_tree.specs.declared.preorder.NodeKind.TheVariants.{Leaf as LeafKind, Inner as InnerKind}
 use Rattle.box_tree.specs.Boxes.{raised}
 use Rattle.box_tree.specs.Descent.{entry_of, exact, exact_in, all_leaves, IsInside}
-use Rattle.box_tree.specs.Group.{touched_of, undone, others_met, crossed, picked, left_pairs, all_below, BoxLaws}
+use Rattle.box_tree.specs.Group.{undone, others_met, crossed, picked, left_pairs, all_below, BoxLaws}
 use Rattle.box_tree.specs.Preorder.{leaf_node, preorder, preorder_in, entry_at, listed, all_preorder, AllSound, below_each, IsListed, Reads}
 use Rattle.box_tree.proofs.Counts.{raised_again, raised_none}
 use Rattle.box_tree.proofs.CrossedPairs.{crossed_append}
@@ -104,9 +104,6 @@ listed_preorder bodies (fork n h k l r) =
 pub listed_in : (bodies : List (Option Bounds)) (o : Option Tree) → listed (preorder_in bodies o) ≡ exact_in bodies o
 listed_in bodies None = refl
 listed_in bodies (Some t) = listed_preorder bodies t
-
-pub touched_append : (marks : List Bool) (xs ys : List (ℕ × Bounds)) → touched_of marks (xs ++ ys) ≡ touched_of marks xs ++ touched_of marks ys
-touched_append marks xs ys = filter-append (λ (e : ℕ × Bounds). get_or marks e.0 false) xs ys
 
 undone_append : (done : List Bool) (xs ys : List (ℕ × Bounds)) → undone done (xs ++ ys) ≡ undone done xs ++ undone done ys
 undone_append done xs ys = filter-append (λ (e : ℕ × Bounds). not (get_or done e.0 false)) xs ys

@@ -195,6 +195,11 @@ module _ (o : Option Tree) (bodies fats : List (Option Bounds)) (numbers : List 
     pub shared_viewed : shared_from o bodies marks ≡ shared_slots v
     shared_viewed = own_shared ∙ ap shared_slots view
 
+    -- the same of lists that are read
+    pub shared_read : {bs : List (Option Bounds)} {ms : List Bool} {slots : List ℕ} → bs ≡ bodies → ms ≡ marks
+        → slots ≡ shared_from o bs ms → slots ≡ shared_slots v
+    shared_read {bs} {ms} eb em e = e ∙ ap (λ xs. shared_from o xs ms) eb ∙ ap (shared_from o bodies) em ∙ shared_viewed
+
     pub present_viewed : All (λ slot. contains_key v.bodies slot ≡ true) (shared_slots v)
     present_viewed =
         subst (λ (b : Boxes). All (λ slot. contains_key b.bodies slot ≡ true) (shared_slots b)) view

@@ -2,7 +2,7 @@
 use Rattle.std.proofs.Common.{◌≡◌, ◌≢◌, ℕ, zero, suc, ◌<◌, Bool, true, false, not, cond, nat_lt, ◌&&◌, ◌==◌, Option, None, Some, is_some, List, [], ◌∷◌}
 use Rattle.std.proofs.Common.{length, replicate, get_or, set, refl, sym, ap, ◌∙◌, subst, arith, ⊎_elim, ◌⊎◌}
 use Rattle.std.specs.Ordering.{nat_cmp}
-use Rattle.std.specs.FinMap.{FinMap, contains_key, get, empty}
+use Rattle.std.specs.FinMap.{FinMap, get, empty}
 use Rattle.std.proofs.lemmas.Bool.{cases_eq, and_parts, and_from, false≢true}
 use Rattle.std.proofs.lemmas.Bool.Decides.{nat_tests}
 use Rattle.std.proofs.lemmas.List.{get_or-set_same, get_or-set_other, length-set, length-replicate}
@@ -27,9 +27,6 @@ module _ {X : Type 0} where
   within [] k e = absurd (false≢true e)
   within (x ∷ xs) zero e = omega arith
   within (x ∷ xs) (suc k) e = let l = within xs k e in omega arith
-
-  pub is_some_map : (xs : List (Option X)) (k : ℕ) → contains_key (map_of xs) k ≡ is_some (get_or xs k None)
-  is_some_map xs k = ap is_some (get_map xs k)
 
   pub none_there : (o : Option X) → is_some o ≡ false → o ≡ None
   none_there None e = refl

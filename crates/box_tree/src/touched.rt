@@ -1,4 +1,5 @@
-ghost use Rattle.std.specs.Prelude.{◌≡◌, ◌||◌, ◌≤◌, ◌++◌, List, Option, ℕ, [], true, false, map, filter, not, ◌==◌, length, OnOk, IfOk, IfSome, slice_index_or};
+ghost use Rattle.std.specs.Prelude.{◌≡◌, ◌||◌, ◌≤◌, ◌++◌, ◌==◌, List, Option, ℕ, [], true, false, map, filter, not, length};
+ghost use Rattle.std.specs.Prelude.{OnOk, IfOk, IfSome, slice_index_or};
 ghost use Rattle.fixed_box.specs.Bounds.{Bounds};
 ghost use Rattle.fixed_box.specs.SlotMap.{map_of};
 ghost use Rattle.broad_index.specs.declared.pair.Pair.{Pair};
@@ -8,10 +9,10 @@ ghost use Rattle.broad_index.specs.Held.{Holds};
 ghost use Rattle.broad_index.specs.Members.{has_slot};
 ghost use Rattle.broad_index.specs.Touched.{ordered_pairs, gathered_with, AreKept, Renewed};
 ghost use Rattle.fixed_box.specs.declared.TheConstants.{SLOTS};
-ghost use Rattle.tree_nodes.specs.Tree.{Tree, leaves, leaves_in, visits_in};
+ghost use Rattle.tree_nodes.specs.Tree.{leaves_in, visits_in};
 ghost use Rattle.box_tree.specs.Boxes.{marked_slots, raised};
 ghost use Rattle.box_tree.specs.Descent.{exact_in, IsInsideIn};
-ghost use Rattle.box_tree.specs.Group.{crossed, touched_of, all_visits_in, Adds, AreOf, IsBelow};
+ghost use Rattle.box_tree.specs.Group.{crossed, touched_of, all_visits_in, Adds, AreOf};
 ghost use Rattle.box_tree.specs.Preorder.{preorder_in};
 ghost use Rattle.box_tree.specs.Searches.{boxed, looked_for, searches, shared_from, sought_from};
 ghost use Rattle.box_tree.specs.Ties.{Sound};
@@ -24,7 +25,7 @@ use crate::search::{push_others, push_sought, search_all};
 use broad_index::{Pair, Query, holding_laws, keeping_laws, push_ordered_pairs};
 use fixed_box::{FBox, NoMemory, SLOTS, box_laws};
 use std::alloc::Global;
-use tree_nodes::{NodeView, Nodes};
+use tree_nodes::Nodes;
 
 // From how many touched slots on they are searched for in groups. For fewer it doesn't pay to walk over the tree.
 const FEWEST_GROUPED: usize = 1_024;
@@ -120,20 +121,22 @@ pub(crate) fn push_shared(
         return Ok(());
     }
     out.clear();
-    let Some(root) = nodes.root() else {
+    let Some(_top) = nodes.root() else {
         return Ok(());
     };
     if let Some(list) = listing {
         push_marked_slots(list, marks, out)?;
         return Ok(());
     }
-    push_along(nodes, marks, root, out)?;
+    let mut list = Vec::new(*out.allocator());
+    list_preorder(nodes, bodies, &mut list)?;
+    push_marked_slots(&list, marks, out)?;
     Ok(())
 }
 
 // Appends the pairs of some slots with the boxes that theirs meet, and answers a number raised by how many nodes a descent
-// for each of them looks at. Where the nodes are listed, they are searched for
-// in groups, in the order in which they are given.
+// for each of them looks at. Where the nodes are listed, they are searched for in groups, in the order in which they are
+// given.
 pub(crate) fn search_run(
     nodes: &Nodes,
     bodies: &[Option<FBox>],
@@ -337,32 +340,6 @@ fn search_one(
     push_others(slot, met, others)?;
     push_ordered_pairs(slot, others, found)?;
     Ok(count)
-}
-
-// Appends the touched slots below a node, in the order of the leaves.
-fn push_along(nodes: &Nodes, marks: &[bool], at: usize, out: &mut Vec<u32>) -> Result<(), NoMemory>
-    requires { (bodies : List (Option Bounds)) × (t : Tree) × IsBelow nodes.now bodies at t }
-    ensures { (bodies : List (Option Bounds)) (t : Tree) → IsBelow nodes.now bodies at t →
-        OnOk result (out.new.items ≡ out.old.items ++ marked_slots marks.now (leaves t)) }
-{
-    match nodes.node(at) {
-        NodeView::Leaf { slot, fat: _ } => {
-            if is_marked(*slot, marks) {
-                out.push(*slot)?;
-            }
-            Ok(())
-        }
-        NodeView::Inner {
-            left,
-            right,
-            hull: _,
-            height: _,
-        } => {
-            push_along(nodes, marks, *left, out)?;
-            push_along(nodes, marks, *right, out)?;
-            Ok(())
-        }
-    }
 }
 
 // Marks a slot.

@@ -1,7 +1,7 @@
 -- Many slots come in the order of their leaves.
 use Rattle.std.proofs.Common.{◌≡◌, ℕ, IfSome, map, ◌++◌, ◌≤◌, ◌∙◌, ap, sym, subst, length, arith}
 use Rattle.fixed_box.specs.declared.TheConstants.{SLOTS}
-use Rattle.tree_nodes.specs.Tree.{leaves, leaves_in}
+use Rattle.tree_nodes.specs.Tree.{leaves_in}
 use Rattle.fixed_box.specs.Bounds.{Bounds}
 use Rattle.box_tree.specs.Boxes.{marked_slots}
 use Rattle.box_tree.specs.Group.{touched_of}
@@ -11,28 +11,29 @@ use Rattle.box_tree.proofs.Preorders.{listed_in}
 use Rattle.box_tree.proofs.SharedSlots.{shared_few, shared_many}
 use Rattle.box_tree.proofs.touched.push_shared.Goals as goal
 
-pub push_along-requires : goal.push_along-requires
-push_along-requires c =
-    let b = root_below c.box_law.ensures c.args.nodes.now c.args.bodies.now c.in-Some.root (sym c.root.ensures.value ∙ c.in-Some.is)
-    c.root.ensures.tree c.requires.inside in
-    (c.args.bodies.now, b.0, b.2)
-
 pub returns-clause-ok : goal.returns-clause-ok
 returns-clause-ok c =
-    let b = root_below c.box_law.ensures c.args.nodes.now c.args.bodies.now c.in-Some.root (sym c.root.ensures.value ∙ c.in-Some.is)
-    c.root.ensures.tree c.requires.inside in
-    c.in_ok-push_along.ensures c.args.bodies.now b.0 b.2
-    ∙ ap (λ l. l ++ marked_slots c.args.marks.now (leaves b.0)) c.clear.ensures.items
-    ∙ sym (ap (λ o. marked_slots c.args.marks.now (leaves_in o)) b.1)
-    ∙ shared_many c.args.nodes.now c.args.bodies.now c.args.marks.now c.push_sought.new.out.items c.in_ok-push_sought.ensures.ok (omega arith)
+    let marks = c.args.marks.now in
+    c.in_ok-push_marked_slots-2.ensures
+    ∙ ap (λ l. l ++ map (λ (e : ℕ × Bounds). e.0) (touched_of marks (listed c.deref.result.now))) c.clear.ensures.items
+    ∙ ap (λ l. map (λ (e : ℕ × Bounds). e.0) (touched_of marks (listed l))) (c.deref.ensures.value ∙ c.in_ok-list_preorder.ensures)
+    ∙ ap (λ es. map (λ (e : ℕ × Bounds). e.0) (touched_of marks es)) (listed_in c.args.bodies.now c.args.nodes.now)
+    ∙ sym c.requires.along
+    ∙ shared_many c.args.nodes.now c.args.bodies.now marks c.push_sought.new.out.items c.in_ok-push_sought.ensures.ok (omega arith)
 
 pub returns-clause-few : goal.returns-clause-few
 returns-clause-few c =
-    let b = root_below c.box_law.ensures c.args.nodes.now c.args.bodies.now c.in-Some.root (sym c.root.ensures.value ∙ c.in-Some.is)
+    let marks = c.args.marks.now in
+    let b = root_below c.box_law.ensures c.args.nodes.now c.args.bodies.now c.in-Some._top (sym c.root.ensures.value ∙ c.in-Some.is)
     c.root.ensures.tree c.requires.inside in
     subst (λ l. length l ≤ SLOTS)
-    (sym (c.in_ok-push_along.ensures c.args.bodies.now b.0 b.2 ∙ ap (λ l. l ++ marked_slots c.args.marks.now (leaves b.0)) c.clear.ensures.items))
-    (shared_few c.args.nodes.now c.root.ensures.tree b.0 b.1 c.args.marks.now)
+    (sym (c.in_ok-push_marked_slots-2.ensures
+    ∙ ap (λ l. l ++ map (λ (e : ℕ × Bounds). e.0) (touched_of marks (listed c.deref.result.now))) c.clear.ensures.items
+    ∙ ap (λ l. map (λ (e : ℕ × Bounds). e.0) (touched_of marks (listed l))) (c.deref.ensures.value ∙ c.in_ok-list_preorder.ensures)
+    ∙ ap (λ es. map (λ (e : ℕ × Bounds). e.0) (touched_of marks es)) (listed_in c.args.bodies.now c.args.nodes.now)
+    ∙ sym c.requires.along
+    ∙ ap (λ o. marked_slots marks (leaves_in o)) b.1))
+    (shared_few c.args.nodes.now c.root.ensures.tree b.0 b.1 marks)
 
 pub returns-in-Some-listing-clause-ok : goal.returns-in-Some-listing-clause-ok
 returns-in-Some-listing-clause-ok c =
@@ -51,7 +52,7 @@ returns-in-Some-listing-clause-few c =
     let marks = c.args.marks.now in
     let there : c.in-Some-listing.list.now ≡ preorder_in c.args.bodies.now c.args.nodes.now =
     subst (λ o. IfSome o (λ list. list.now ≡ preorder_in c.args.bodies.now c.args.nodes.now)) c.in-Some-listing.is c.requires.list in
-    let b = root_below c.box_law.ensures c.args.nodes.now c.args.bodies.now c.in-Some.root (sym c.root.ensures.value ∙ c.in-Some.is)
+    let b = root_below c.box_law.ensures c.args.nodes.now c.args.bodies.now c.in-Some._top (sym c.root.ensures.value ∙ c.in-Some.is)
     c.root.ensures.tree c.requires.inside in
     subst (λ l. length l ≤ SLOTS)
     (sym (c.in_ok-push_marked_slots.ensures

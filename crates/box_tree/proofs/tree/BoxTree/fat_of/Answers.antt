@@ -14,7 +14,8 @@ pub returns-then-slot-len-clause-none : goal.returns-then-slot-len-clause-none
 returns-then-slot-len-clause-none c =
     let s = c.self.inside in
     let e = get_or_read s.fats.items c.args.slot c.index.result.now (omega (arith, c.if-slot-len.true, c.len.ensures)) c.index.ensures None in
-    none_viewed s.fats.items s.bodies.items c.self.invariant.sound.fat c.args.self.now.bodies (ap (λ b. b.bodies) c.self.view_is) c.args.slot c.index.result.now e
+    none_viewed s.fats.items s.bodies.items c.self.invariant.sound.fat c.args.self.now.bodies (ap (λ b. b.bodies) c.self.view_is) c.args.slot
+    c.index.result.now e
 
 pub returns-then-slot-len-clause-inside : goal.returns-then-slot-len-clause-inside
 returns-then-slot-len-clause-inside c =

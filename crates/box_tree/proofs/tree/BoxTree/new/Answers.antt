@@ -7,7 +7,8 @@ use Rattle.box_tree.proofs.tree.BoxTree.new.Goals as goal
 
 pub invariant_of-result : goal.invariant_of-result
 invariant_of-result c =
-    unlisted (sound_none c.in_ok-new.field-0 c.in_ok-no_boxes.field-0.items c.in_ok-no_boxes-2.field-0.items c.in_ok-vec.field-0.items c.in_ok-vec-2.field-0.items
+    unlisted (sound_none c.in_ok-new.field-0 c.in_ok-no_boxes.field-0.items c.in_ok-no_boxes-2.field-0.items c.in_ok-vec.field-0.items
+    c.in_ok-vec-2.field-0.items
     c.new-2.result.items c.in_ok-new.ensures c.in_ok-no_boxes.ensures.len c.in_ok-no_boxes.ensures.none
     c.in_ok-no_boxes-2.ensures.len c.in_ok-no_boxes-2.ensures.none
     (ap length (c.in_ok-vec.ensures.items_if_clones_equal (λ _ e. e)) ∙ length-replicate {A = ℕ} 8192 0)

@@ -77,7 +77,8 @@ invariant_of-self-2 c =
     (set s.marks.items c.args.slot true) s.kept.items) (sym c.relink.ensures.fats)
     (sound_put s.nodes s.bodies.items s.fats.items s.numbers.items s.marks.items s.kept.items c.self.invariant.sound c.args.slot l
     c.keeping_laws.ensures.inserted c.relink.new.nodes c.relink.new.numbers.items c.fatten.result c.args.body c.fatten.ensures.held
-    c.relink.ensures.numbers_len (subst (λ fs. Ties c.relink.new.nodes fs c.relink.new.numbers.items) c.relink.ensures.fats c.relink.ensures.ties))) s.preorder.items
+    c.relink.ensures.numbers_len (subst (λ fs. Ties c.relink.new.nodes fs c.relink.new.numbers.items) c.relink.ensures.fats c.relink.ensures.ties)))
+    s.preorder.items
 
 pub returns-clause-told : goal.returns-clause-told
 returns-clause-told c =

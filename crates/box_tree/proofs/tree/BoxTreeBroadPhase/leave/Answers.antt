@@ -29,7 +29,8 @@ invariant_of-self c =
     let s = c.self.inside in
     let l = present_small s.nodes s.bodies.items s.fats.items s.numbers.items s.marks.items s.kept.items c.self.invariant.sound c.args.slot
     c.args.self.now.bodies (ap (λ b. b.bodies) c.self.view_is) c.requires.present in
-    unlisted (subst (λ fs. Sound c.drop_leaf.new.nodes (set s.bodies.items c.args.slot None) fs s.numbers.items (set s.marks.items c.args.slot true) s.kept.items)
+    unlisted (subst (λ fs. Sound c.drop_leaf.new.nodes (set s.bodies.items c.args.slot None) fs s.numbers.items
+    (set s.marks.items c.args.slot true) s.kept.items)
     (sym c.drop_leaf.ensures.fats)
     (sound_taken s.nodes s.bodies.items s.fats.items s.numbers.items s.marks.items s.kept.items c.self.invariant.sound c.args.slot l
     c.keeping_laws.ensures.removed c.drop_leaf.new.nodes

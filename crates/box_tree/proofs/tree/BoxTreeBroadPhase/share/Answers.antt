@@ -8,9 +8,8 @@ use Rattle.box_tree.specs.Boxes.{marked_slots}
 use Rattle.box_tree.specs.Descent.{exact_in}
 use Rattle.box_tree.specs.Group.{touched_of}
 use Rattle.box_tree.specs.Preorder.{preorder_in}
-use Rattle.box_tree.specs.Searches.{shared_from}
 use Rattle.box_tree.proofs.Searching.{inside_of}
-use Rattle.box_tree.proofs.SharedSlots.{along_is, list_there, shared_viewed, present_viewed}
+use Rattle.box_tree.proofs.SharedSlots.{along_is, list_there, shared_read, present_viewed}
 use Rattle.box_tree.proofs.tree.BoxTreeBroadPhase.share.Goals as goal
 
 pub push_shared-requires-clause-inside : goal.push_shared-requires-clause-inside
@@ -37,17 +36,14 @@ push_shared-requires-clause-along c =
 pub returns-clause-slots : goal.returns-clause-slots
 returns-clause-slots c =
     let s = c.self.inside in
-    c.in_ok-push_shared.ensures.ok
-    ∙ ap (λ bs. shared_from s.nodes bs c.deref-3.result.now) c.deref.ensures.value
-    ∙ ap (shared_from s.nodes s.bodies.items) c.deref-3.ensures.value
-    ∙ shared_viewed s.nodes s.bodies.items s.fats.items s.numbers.items s.marks.items s.kept.items c.self.invariant.sound c.args.self.now s.looked c.self.view_is
+    shared_read s.nodes s.bodies.items s.fats.items s.numbers.items s.marks.items s.kept.items c.self.invariant.sound c.args.self.now s.looked
+    c.self.view_is c.deref.ensures.value c.deref-3.ensures.value c.in_ok-push_shared.ensures.ok
 
 pub returns-clause-present : goal.returns-clause-present
 returns-clause-present c =
     let s = c.self.inside in
-    let e = c.in_ok-push_shared.ensures.ok
-    ∙ ap (λ bs. shared_from s.nodes bs c.deref-3.result.now) c.deref.ensures.value
-    ∙ ap (shared_from s.nodes s.bodies.items) c.deref-3.ensures.value
-    ∙ shared_viewed s.nodes s.bodies.items s.fats.items s.numbers.items s.marks.items s.kept.items c.self.invariant.sound c.args.self.now s.looked c.self.view_is in
+    let e = shared_read s.nodes s.bodies.items s.fats.items s.numbers.items s.marks.items s.kept.items c.self.invariant.sound c.args.self.now s.looked
+    c.self.view_is c.deref.ensures.value c.deref-3.ensures.value c.in_ok-push_shared.ensures.ok in
     subst (λ l. All (λ slot. contains_key c.args.self.now.bodies slot ≡ true) l) (sym e)
-    (present_viewed s.nodes s.bodies.items s.fats.items s.numbers.items s.marks.items s.kept.items c.self.invariant.sound c.args.self.now s.looked c.self.view_is)
+    (present_viewed s.nodes s.bodies.items s.fats.items s.numbers.items s.marks.items s.kept.items c.self.invariant.sound c.args.self.now s.looked
+    c.self.view_is)
