@@ -78,11 +78,6 @@ stopped_more a b text more fault s = record {
   uncalled = s.uncalled;
 }
 
-pub sent_more : {T : Type 0} (a b : Outlet) (text held more : List ℕ) (r : Result T SinkFault) → IsSent a b text held r
-    → IsSent a b (text ++ more) (held ++ more) r
-sent_more a b text held more (Ok _) s = handed_more a b text held more s
-sent_more a b text held more (Err fault) s = stopped_more a b text more fault s
-
 -- the same texts by other names
 pub handed_as : (a b : Outlet) (text held text' held' : List ℕ) → text ≡ text' → held ≡ held' → IsHanded a b text held → IsHanded a b text' held'
 handed_as a b text held text' held' e f h = subst (λ t. IsHanded a b t held') e (subst (λ t. IsHanded a b text t) f h)
@@ -101,10 +96,6 @@ pub sent_held : {T : Type 0} (a b : Outlet) (text held held' : List ℕ) (r : Re
 sent_held a b text held held' (Ok _) e s = subst (λ t. IsHanded a b text t) e s
 sent_held a b text held held' (Err fault) e s = s
 
--- an answer that is Ok, and one that isn't
-pub on_sent : {T : Type 0} (a b : Outlet) (text held : List ℕ) (x : T) (r : Result T SinkFault) → r ≡ Ok x → IsSent a b text held r → IsHanded a b text held
-on_sent a b text held x r is s = subst (λ r. IsSent a b text held r) is s
-
 -- what is held goes behind what was said
 pub said_on : (P Q : List ℕ → Type 0) (a b c : Outlet) (held piece left : List ℕ) → IsSaid a b held P → IsHanded b c (held ++ piece) left
     → ((all : List ℕ) → P all → Q (all ++ piece)) → IsSaid a c left Q
@@ -119,11 +110,6 @@ said_on P Q a b c held piece left s h grows =
       whole = subst Q same (grows (s.done ++ held) s.whole);
     }
 
-pub said_uncalled : {T : Type 0} (P : List ℕ → Type 0) (a b c : Outlet) (held text left : List ℕ) (r : Result T SinkFault) → IsSaid a b held P
-    → IsSent b c text left r → IsUncalled a c
-said_uncalled P a b c held text left (Ok x) s h = uncalled_on a b c s.unfailed s.uncalled h.uncalled
-said_uncalled P a b c held text left (Err fault) s h = uncalled_on a b c s.unfailed s.uncalled h.uncalled
-
 pub said_map : (P Q : List ℕ → Type 0) (a b : Outlet) (held : List ℕ) → IsSaid a b held P → ((all : List ℕ) → P all → Q all) → IsSaid a b held Q
 said_map P Q a b held s f = record { done = s.done; written = s.written; unfailed = s.unfailed; uncalled = s.uncalled; whole = f (s.done ++ held) s.whole }
 
@@ -134,10 +120,6 @@ pub said_each : {a b : Outlet} {held : List ℕ} (left : Option (List ℕ)) (P Q
 said_each {a} {b} {held} left P Q s f =
     said_map (λ all. IfSome left (λ given. P given all)) (λ all. IfSome left (λ given. Q given all)) a b held s
     (λ all ok. on_some left ok (λ given p. f given all p))
-
--- as a text of its own
-pub said_handed : (P : List ℕ → Type 0) (a b : Outlet) (held : List ℕ) (s : IsSaid a b held P) → IsHanded a b (s.done ++ held) held
-said_handed P a b held s = record { part = s.done; split = refl; written = s.written; unfailed = s.unfailed; uncalled = s.uncalled }
 
 -- a part of a part
 pub begun_within : (before now : Option (List ℕ)) (text whole : List ℕ) → IsBegun before now text → IsPrefix text whole → IsBegun before now whole
@@ -164,17 +146,6 @@ piece_written a b c text rest back n h piece same since left = record {
   unfailed = same ∙ h.unfailed;
   uncalled = uncalled_step a b c h.uncalled h.unfailed since;
 }
-
--- a call that fails
-pub call_failed : (a b c : Outlet) (text rest : List ℕ) (fault : SinkFault) → IsHanded a b text rest → c.written ≡ b.written
-    → SinkCount {T = Unit {0}} b.faults c.faults (Err fault) → CountsSince b.faults b.since c.since
-    → IsStopped a c text fault
-call_failed a b c text rest fault h same count since =
-    stopped_on a b c text rest fault h (record {
-      begun = record { part = []; prefix = (rest, refl); written = same ∙ append_known-nil b.written };
-      count = count;
-      uncalled = λ none. since ∙ ap (λ n. option_map (since_after n) b.since) none ∙ same_since b.since;
-    })
 
 -- an answer that carries a fault on
 pub stopped_so : {T : Type 0} (a b : Outlet) (text held : List ℕ) (r : Result T SinkFault) (fault : SinkFault) → IsErrAnd r (λ e. e ≡ fault)

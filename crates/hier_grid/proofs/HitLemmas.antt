@@ -1,17 +1,15 @@
 -- What is found among candidates, and the slots that are searched on several threads.
-use Rattle.std.proofs.Common.{◌≡◌, ℕ, Bool, true, false, cond, not, ◌&&◌, ◌||◌, ◌==◌, nat_lt, List, [], ◌∷◌, map, Option, None, Some}
+use Rattle.std.proofs.Common.{◌≡◌, ℕ, Bool, true, false, cond, not, ◌&&◌, ◌||◌, ◌==◌, List, [], ◌∷◌, map, Option, None, Some}
 use Rattle.std.proofs.Common.{is_some, refl, sym, ap, ◌∙◌, arith}
 use Rattle.std.specs.List.{filter}
 use Rattle.std.proofs.lemmas.Bool.{and_parts, false≢true}
 use Rattle.std.proofs.lemmas.Bool.Decides.{nat_tests}
 use Rattle.std.specs.Ordering.{nat_cmp, eq_by_cmp}
-use Rattle.std.specs.FinMap.{FinMap, entries, entries_sorted, get, get-entries, find}
+use Rattle.std.specs.FinMap.{FinMap, entries, get, get-entries, find}
 use Rattle.fixed_box.specs.Bounds.{Bounds, meets}
-use Rattle.fixed_box.specs.RisingLaws.{mapped_rise}
 use Rattle.broad_index.specs.Found.{query_meets}
 use Rattle.broad_index.specs.declared.query.Query.{Query}
-use Rattle.broad_index.specs.Members.{has_slot, slots_rise, both_meet, is_found, is_reached, meets_query}
-use Rattle.broad_index.specs.NearRises.{entries_rise, slot_lt, true_from}
+use Rattle.broad_index.specs.Members.{has_slot, both_meet, is_found, is_reached, meets_query}
 use Rattle.broad_index.specs.Searched.{AreAllIn}
 use Rattle.hier_grid.specs.Search.{HasMetIn, meets_at, is_partner, present}
 use Rattle.broad_index.specs.Space.{space}
@@ -69,7 +67,3 @@ present_in k (e ∷ es) h =
 
 pub all_present : (bodies : FinMap nat_cmp Bounds) → AreAllIn bodies (present bodies)
 all_present bodies k h = present_in k (entries bodies) (ap is_some (sym (get-entries bodies k)) ∙ h)
-
-pub present_rises : (bodies : FinMap nat_cmp Bounds) → slots_rise (present bodies) ≡ true
-present_rises bodies = mapped_rise slot_lt nat_lt (λ (e : ℕ × Bounds). e.0) (λ e f h. h) (entries bodies)
-    (entries_rise (entries bodies) (true_from _ (entries_sorted bodies)))

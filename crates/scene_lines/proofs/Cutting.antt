@@ -122,9 +122,6 @@ no_feed_below (b ∷ bs) h =
 pub no_feed_from : (bs : List ℕ) → length_ahead bs ≡ length bs → has_feed bs ≡ false
 no_feed_from bs h = ⊎_elim (λ some. absurd (omega (arith, feed_below bs some))) (λ none. none) (cases_Bool (has_feed bs))
 
-pub feed_from : (bs : List ℕ) → length_ahead bs < length bs → has_feed bs ≡ true
-feed_from bs h = ⊎_elim (λ some. some) (λ none. absurd (omega (arith, no_feed_below bs none))) (cases_Bool (has_feed bs))
-
 -- past bytes that are known to be no line feed, the search goes on
 pub length_ahead-drop : (seen : ℕ) (bs : List ℕ) → seen ≤ length_ahead bs → length_ahead bs ≡ seen + length_ahead (drop seen bs)
 length_ahead-drop zero bs h = omega arith

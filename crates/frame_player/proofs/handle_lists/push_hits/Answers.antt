@@ -1,3 +1,4 @@
+-- The slots that an index has found are the live boxes that meet the query.
 use Rattle.std.proofs.Common.{◌++◌, ap, ◌∙◌}
 use Rattle.std.proofs.lemmas.Result.{on_ok_weaker}
 use Rattle.frame_player.proofs.Touches.{hits_from_found}

@@ -1,3 +1,4 @@
+-- The pairs that an index has are those of the table, in order, and few.
 use Rattle.std.proofs.Common.{◌≡◌, ◌*◌, ◌≤◌, ◌++◌, List, [], length, true, ap, sym, ◌∙◌, subst}
 use Rattle.std.proofs.lemmas.Result.{on_ok_weaker}
 use Rattle.pair_events.specs.declared.hpair.HPair.{HPair}

@@ -1,3 +1,4 @@
+-- Each scene is played by the definitions, and the report comes out.
 use Rattle.std.proofs.Common.{refl}
 use Rattle.std.specs.Fmt.{digits}
 use Rattle.ray_slabs.specs.Crossing.{in_ray, in_seg}

@@ -1,3 +1,4 @@
+-- A digit more is read, and the value goes on by it.
 use Rattle.std.proofs.Common.{get_or, refl, sym, ◌∙◌}
 use Rattle.report_summary.proofs.Digits.{one_more}
 use Rattle.report_summary.proofs.number.number.Goals as goal

@@ -1,3 +1,4 @@
+-- A text without the byte stays whole, and one with it is cut at its place.
 use Rattle.memchr.specs.Find.{is_byte}
 use Rattle.report_summary.proofs.Cutting.{uncut, cut_at}
 use Rattle.report_summary.proofs.pieces.cut.Goals as goal
