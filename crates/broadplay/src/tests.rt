@@ -266,15 +266,17 @@ fn written_with_faults<R: Threads + Sync + Abort>(
     status: Status,
 ) -> Result<(), Fail> {
     for structure in ["plain", "sap", "tree", "grid"] {
-        let mut list = Vec::new(alloc);
-        for word in ["play", "--with", structure] {
-            list.push(String::from_str(alloc, word)?)?;
+        for workers in ["1", "4"] {
+            let mut list = play_with(alloc, structure)?;
+            for word in ["--workers", workers] {
+                list.push(String::from_str(alloc, word)?)?;
+            }
+            let mut source = MemSource::new(alloc, scene, 1, failing.0)?;
+            let mut sink = MemSink::new(alloc, 1, failing.1)?;
+            let answer = broadplay(rt, alloc, &list, &mut source, &mut sink);
+            assert_eq!(rt; sink.bytes(), report);
+            assert_eq!(rt; answer, status);
         }
-        let mut source = MemSource::new(alloc, scene, 1, failing.0)?;
-        let mut sink = MemSink::new(alloc, 1, failing.1)?;
-        let answer = broadplay(rt, alloc, &list, &mut source, &mut sink);
-        assert_eq!(rt; sink.bytes(), report);
-        assert_eq!(rt; answer, status);
     }
     Ok(())
 }
@@ -329,6 +331,20 @@ fn faults_end_a_play(rt: HostRuntime) -> Result<(), Fail> {
     Ok(())
 }
 
+// Blanks, comments of other bytes, ends of both kinds and a last line without one, read and written a byte at a time.
+#[test]
+fn a_scene_may_come_byte_by_byte(rt: HostRuntime) -> Result<(), Fail> {
+    let none: &[u32] = &[];
+    written_with_faults(
+        &rt,
+        rt.alloc(),
+        b"\tscene  1\r\n#\xff\xfe\r\n add 0 0 0\t1 1 1 # a\r\nadd 1 0 0 2 1 1\r\nframe",
+        (none, none),
+        b"add 0:0\nadd 1:0\nframe 1 1\nbegin 0:0 1:0\nend 5 1 2\n",
+        Status::Done,
+    )
+}
+
 // An added box passes the endpoints that its own come to stand before, and a moved one those that it moves past.
 #[test]
 fn exchanges_are_told_at_each_frame(rt: HostRuntime) -> Result<(), Fail> {
@@ -365,14 +381,26 @@ fn boxes_alike<R: Threads + Sync + Abort>(
         writeln!(scene, "add {corners}")?;
         writeln!(report, "add {slot}:0")?;
     }
-    writeln!(scene, "frame\nmove 0:0 {first}\nframe")?;
+    writeln!(scene, "frame")?;
     writeln!(report, "frame 1 44850")?;
     for a in 0..300 {
         for b in a + 1..300 {
             writeln!(report, "begin {a}:0 {b}:0")?;
         }
     }
-    writeln!(report, "{}frame 2 44551", exchanges[0])?;
+    report.push_str(exchanges[0])?;
+    let mut stopped = String::from_str(alloc, report.as_str())?;
+    writeln!(stopped, "end 302 1 300")?;
+    written(
+        rt,
+        alloc,
+        words,
+        scene.as_bytes(),
+        stopped.as_bytes(),
+        Status::Done,
+    )?;
+    writeln!(scene, "move 0:0 {first}\nframe")?;
+    writeln!(report, "frame 2 44551")?;
     for a in 1..300 {
         for b in a + 1..300 {
             writeln!(report, "stay {a}:0 {b}:0")?;
@@ -540,7 +568,11 @@ fn played_within<R: Threads + Sync + Abort>(
     let tree = BoxTree::new(alloc)?;
     played_over(rt, alloc, tree, 1, 3, &NoGate, scene, report, status)?;
     let grid = HierGrid::new(alloc)?;
-    played_over(rt, alloc, grid, 1, 3, &NoGate, scene, report, status)
+    played_over(rt, alloc, grid, 1, 3, &NoGate, scene, report, status)?;
+    let tree = BoxTree::new(alloc)?;
+    played_over(rt, alloc, tree, 4, 3, &Threaded, scene, report, status)?;
+    let grid = HierGrid::new(alloc)?;
+    played_over(rt, alloc, grid, 4, 3, &Threaded, scene, report, status)
 }
 
 #[test]

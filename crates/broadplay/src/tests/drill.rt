@@ -73,7 +73,7 @@ fn each_structure_has_the_same_summary(rt: HostRuntime) -> Result<(), Fail> {
     let (plain, _) = drilled(&rt, alloc, &["drill", "7", "2000", "50", "--with", "plain"])?;
     assert!(rt; plain.starts_with(b"boxes 2000\nframes 50\nadds 2050\npairs "));
     for structure in ["plain", "sap", "tree", "grid"] {
-        for workers in ["1", "4"] {
+        for workers in ["1", "4", "16"] {
             let (summary, status) = drilled(
                 &rt,
                 alloc,
@@ -93,6 +93,42 @@ fn each_structure_has_the_same_summary(rt: HostRuntime) -> Result<(), Fail> {
         }
     }
     Ok(())
+}
+
+// What a drill's scene gives over each structure that is shared, and over the plain list whose queries are, where each piece
+// has a thread of its own.
+fn played_by_threads<R: Threads + Sync + Abort>(
+    rt: &R,
+    alloc: Global,
+    workers: u32,
+    scene: &[u8],
+    report: &[u8],
+) -> Result<(), Fail>
+    requires { (1 ≤ workers) × (workers ≤ 16) }
+{
+    let done = Status::Done;
+    let tree = BoxTree::new(alloc)?;
+    played_over(
+        rt, alloc, tree, workers, MOST_LINES, &Threaded, scene, report, done,
+    )?;
+    let grid = HierGrid::new(alloc)?;
+    played_over(
+        rt, alloc, grid, workers, MOST_LINES, &Threaded, scene, report, done,
+    )?;
+    let plain = PlainIndex::new(alloc)?;
+    played_over(
+        rt, alloc, plain, workers, MOST_LINES, &Threaded, scene, report, done,
+    )
+}
+
+#[test]
+fn threads_give_a_drill_its_report(rt: HostRuntime) -> Result<(), Fail> {
+    let alloc = rt.alloc();
+    let mut scene = Vec::new(alloc);
+    drill_scene(alloc, 7, 2000, 50, &mut scene)?;
+    let report = report_of(&rt, alloc, "sap", &scene)?;
+    played_by_threads(&rt, alloc, 4, &scene, &report)?;
+    played_by_threads(&rt, alloc, 16, &scene, &report)
 }
 
 #[test]
