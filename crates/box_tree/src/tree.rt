@@ -36,7 +36,7 @@ use tree_nodes::{MOST_HEIGHT, Nodes};
 /// lists the nodes in preorder and searches for eight slots at once whose leaves stand side by side, and so does each piece of
 /// `pairs_with`, for which the nodes are listed once.
 ///
-/// Only `new`, `pairs`, `pairs_with` and `hits` take memory. The structure is never spent.
+/// Changes take no memory; `new` and every search do. The structure is never spent.
 #[derive(Drop)]
 pub struct BoxTree {
     nodes: Nodes,

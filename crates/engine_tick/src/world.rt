@@ -27,13 +27,14 @@ impl<B: BroadPhase + Drop> World<B> {
         World { index }
     }
 
-    /// A body comes in, under a slot that has none.
+    /// A body comes in, under a slot that has none. After an `Err` the index is spent.
     pub fn enter(&mut self, slot: u32, body: FBox) -> Result<(), NoMemory>
         requires sound { B.spent self.old.index ≡ false }
         requires small { slot < SLOTS }
         requires absent { map.contains_key (B.bodies self.old.index) slot ≡ false }
         ensures entered { OnOk result (B.bodies self.new.index ≡ map.insert (B.bodies self.old.index) slot body) }
         ensures sound { OnOk result (B.spent self.new.index ≡ false) }
+        ensures err { OnErr result (B.spent self.new.index ≡ true) }
     {
         // No count of exchanges is wanted here, and one that begins anew has room.
         self.index.clear_exchanges();

@@ -9,8 +9,11 @@ pub enum Status {
     Refused { line: u32, cause: Cause },
     /// The command line has no meaning.
     Usage,
+    /// The source failed. The replies to the lines that had ended are written, if the sink didn't fail too.
     ReadFault,
+    /// The sink failed, and the source didn't. A part of the report is written.
     WriteFault,
+    /// Memory ran out. A part of the report is written.
     NoMemory,
 }
 
@@ -26,5 +29,6 @@ pub struct Options {
 /// What a scene may have at most.
 #[derive(Clone, Copy, Debug, PartialEq, Eq)]
 pub struct Limits {
+    /// How many lines, from 1 to 268,435,456. The first one past them is refused.
     pub lines: u32,
 }

@@ -36,8 +36,7 @@ const LISTED_FROM: usize = 1_024;
 /// 16,384 buckets. `pairs` with fewer slots and no such copies at hand, and a query, follow the links between the slots of a
 /// bucket instead.
 ///
-/// Only `new`, `pairs`, `pairs_with` and `hits` take memory; `add`, `shift` and `leave` take a time that doesn't grow with
-/// the number of boxes.
+/// Changes take no memory, and a time that doesn't grow with the number of boxes; `new` and every search take some.
 #[derive(Drop)]
 pub struct HierGrid {
     alloc: Global,

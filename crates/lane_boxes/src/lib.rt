@@ -1,4 +1,4 @@
-//! Boxes in six columns, tested eight at a time by the lanes of vectors.
+//! Boxes in six columns, tested eight at a time by the lanes of vectors, and packets of eight boxes that are tested at once.
 #![tactic(auto)]
 
 mod axis;

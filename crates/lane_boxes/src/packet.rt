@@ -11,8 +11,8 @@ use fixed_box::{FBox, Fix};
 use std::marker::Model;
 use std::simd::prelude::*;
 
-/// Eight boxes side by side in lanes, to be tested at once with many others, as a packet of rays is with the boxes of a tree
-/// (Wald and others, 2001). It takes no memory.
+/// Eight boxes side by side in lanes, to be tested at once with many others, as a packet of rays is with the nodes of a tree
+/// (Wald and others, Interactive Rendering with Coherent Ray Tracing, 2001). It takes no memory.
 ///
 /// ```
 /// let packet = BoxPacket::new(&boxes);

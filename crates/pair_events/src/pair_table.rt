@@ -38,7 +38,8 @@ impl PairTable {
     }
 
     /// Appends what the present pairs change, and keeps them: first each present pair, as it begins or stays, and then
-    /// each former one that is over. After an `Err` the table and `out` are as before, and `now` is dropped.
+    /// each former one that is over. The present pairs rise by their slots, each with its lower slot first. After an `Err`
+    /// the table and `out` are as before, and `now` is dropped. It takes a step for each pair of both lists.
     pub fn turn(&mut self, now: Vec<HPair>, out: &mut Vec<Told>) -> Result<(), NoMemory>
         requires { is_in_order now.items ≡ true }
         ensures told { OnOk result (out.new.items ≡ out.old.items ++ events self.old now.items) }

@@ -15,7 +15,7 @@ const FEWEST_SHARED: usize = 128;
 ///
 /// The queries are cut into pieces of `ceil(n / workers)`, numbered from 0, and each piece is done by one thread, which
 /// enters the gate once before its first query. Where the gate doesn't need threads, a few queries are answered by the
-/// caller's thread in one piece.
+/// caller's thread in one piece. Where memory runs out in any piece, no list is handed out.
 pub fn hits_many<R: Threads + Sync, B: BroadPhase + Sync, G: Gate + Sync>(
     rt: &R,
     alloc: Global,

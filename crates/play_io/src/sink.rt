@@ -34,7 +34,8 @@ pub trait Sink {
     /// How many calls came after the first that failed, where the sink tells it: 0 while nobody calls it again.
     ghost since: { Self → Option ℕ };
 
-    /// Takes bytes from the front of the piece, and answers how many.
+    /// Takes bytes from the front of the piece, and answers how many: at least one of a piece that has any. After an `Err`
+    /// none is taken; a failure is counted as a fault, and want of memory isn't.
     fn write(&mut self, piece: &[u8]) -> Result<usize, SinkFault>
         ensures written { PutsFront (written self.old) (written self.new) result piece.now }
         ensures length { IsWriteOf result piece.now }
@@ -42,7 +43,7 @@ pub trait Sink {
         ensures count { SinkCount (faults self.old) (faults self.new) result }
         ensures since { CountsSince (faults self.old) (since self.old) (since self.new) };
 
-    /// Settles all that was written.
+    /// Settles all that was written. After an `Err` as much is settled as before.
     fn flush(&mut self) -> Result<(), SinkFault>
         ensures written { written self.new ≡ written self.old }
         ensures settled { Settles (written self.old) (settled self.old) (settled self.new) result }

@@ -11,7 +11,7 @@ use work_pieces::{Gate, by_pieces};
 /// What meets the box of each slot, in the slots' order, and the sum of what the searches cost.
 ///
 /// The slots are cut into pieces of `ceil(n / workers)`, numbered from 0, and each piece is done by one thread, which
-/// enters the gate once before its first slot.
+/// enters the gate once before its first slot. Where memory runs out in any piece, no list is handed out.
 pub fn seek_many<R: Threads + Sync, K: Seeker + Sync, G: Gate + Sync>(
     rt: &R,
     alloc: Global,
