@@ -5,10 +5,10 @@ use Rattle.std.specs.List.{flat_map, list_all, list_any}
 use Rattle.std.proofs.lemmas.Int.{ints}
 use Rattle.std.proofs.lemmas.List.Folds.{list_any-append}
 use Rattle.ray_slabs.specs.Crossing.{Slab, Fraction, fits, crossings, crossings_by, candidates, fits_ray, fits_seg}
-use Rattle.ray_slabs.specs.Interval.{at_most}
+use Rattle.ray_slabs.specs.Mirrored.{at_most}
 use Rattle.ray_slabs.proofs.Order.{same_le, at_most_trans, at_most_refl, at_most_total}
 use Rattle.ray_slabs.proofs.Crossed.{along, rising, falling}
-use Rattle.ray_slabs.proofs.Narrowed.{first_of, second_of, all_of}
+use Rattle.ray_slabs.proofs.Passing.{first_of, second_of, all_of}
 
 -- the fractions that fit a slab: all or none, or those from one crossing to another
 data Fit (s : Slab) : Type 0 where
@@ -142,7 +142,7 @@ pub record Found (Q : Fraction → Bool) : Type 0 where
   pub passes : Q place ≡ true
 
 -- each has a denominator above 0
-abbrev AllAboveZero : List Fraction → Type 0
+abbrev pub AllAboveZero : List Fraction → Type 0
 AllAboveZero [] = Unit {0}
 AllAboveZero (x ∷ xs) = (pos 0 <ℤ x.den) × AllAboveZero xs
 

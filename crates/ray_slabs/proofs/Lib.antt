@@ -2,8 +2,10 @@ pub mod Answered
 pub mod Candidates
 pub mod Crossed
 pub mod Enclosed
+pub mod Entering
 pub mod Meeting
-pub mod Missed
-pub mod Narrowed
+pub mod MeetingFirst
 pub mod Order
+pub mod Pairs
+pub mod Passing
 pub mod Read

@@ -7,7 +7,7 @@ use Rattle.ray_slabs.specs.WideBounds.{WideBounds}
 use Rattle.ray_slabs.specs.Crossing.{Slab, Fraction, fits, slabs_of, fits_ray, fits_seg, in_ray, in_seg}
 use Rattle.ray_slabs.specs.Law.{IsWithin, RayMeets, SegMeets}
 use Rattle.ray_slabs.proofs.Order.{le_of_test, test_of_le}
-use Rattle.ray_slabs.proofs.Narrowed.{first_of, second_of, all_of}
+use Rattle.ray_slabs.proofs.Passing.{first_of, second_of, all_of}
 use Rattle.ray_slabs.proofs.Candidates.{Found, found_among, ray_candidate, seg_candidate}
 
 within : (p q : ℕ) (f d lo hi : ℤ) → fits (record { num = pos p; den = pos q }) (record { from = f; dir = d; lo = lo; hi = hi }) ≡ true → IsWithin p q f d lo hi
@@ -24,12 +24,12 @@ tested p q f d lo hi h =
     all_of (int_le (pos q *ℤ lo) place) (int_le place (pos q *ℤ hi)) (test_of_le (pos q *ℤ lo) place h.0) (test_of_le place (pos q *ℤ hi) h.1)
 
 -- The fraction's numbers, and what fits at them.
-record Numbers (f d : Vector) (b : WideBounds) (num den : ℤ) : Type 0 where
-  meets : RayMeets f d b
-  num_is : pos meets.p ≡ num
-  den_is : pos meets.q ≡ den
+pub record Numbers (f d : Vector) (b : WideBounds) (num den : ℤ) : Type 0 where
+  pub meets : RayMeets f d b
+  pub num_is : pos meets.p ≡ num
+  pub den_is : pos meets.q ≡ den
 
-numbers : (f d : Vector) (b : WideBounds) (num den : ℤ) → pos 0 <ℤ den → fits_ray (slabs_of f d b) (record { num = num; den = den }) ≡ true
+pub numbers : (f d : Vector) (b : WideBounds) (num den : ℤ) → pos 0 <ℤ den → fits_ray (slabs_of f d b) (record { num = num; den = den }) ≡ true
     → Numbers f d b num den
 numbers f d b (pos p) (pos q) h e =
     let t : Fraction = record { num = pos p; den = pos q } in
@@ -53,7 +53,7 @@ numbers f d b (pos p) (pos q) h e =
 numbers f d b (pos p) (negsuc q) h e = absurd (omega (arith, ints))
 numbers f d b (negsuc p) den h e = let no : ⊥ = cc in absurd no
 
-fitted : (f d : Vector) (b : WideBounds) (m : RayMeets f d b) → fits_ray (slabs_of f d b) (record { num = pos m.p; den = pos m.q }) ≡ true
+pub fitted : (f d : Vector) (b : WideBounds) (m : RayMeets f d b) → fits_ray (slabs_of f d b) (record { num = pos m.p; den = pos m.q }) ≡ true
 fitted f d b m =
     let t : Fraction = record { num = pos m.p; den = pos m.q } in
     let x : Slab = record { from = f.x; dir = d.x; lo = b.lo.x; hi = b.hi.x } in

@@ -1,93 +1,32 @@
 -- The order of whole numbers under a factor, and the order of fractions by cross products.
-use Rattle.std.proofs.Common.{◌≡◌, refl, sym, ap, ◌∙◌, ◌+◌, ◌*◌, Bool, true, false, ◌&&◌, ℤ, pos, negsuc, ◌+ℤ◌, ◌-ℤ◌, ◌*ℤ◌, neg_ℤ, ◌≤ℤ◌, ◌<ℤ◌, int_le, arith}
+use Rattle.std.proofs.Common.{◌≡◌, ◌∙◌, ◌+◌, ◌*◌, true, false, ℤ, pos, ◌*ℤ◌, neg_ℤ, ◌≤ℤ◌, ◌<ℤ◌, arith}
 use Rattle.std.proofs.lemmas.Int.{ints}
-use Rattle.std.proofs.Math.IntN.{*ℤ_comm}
-use Rattle.std.proofs.Math.Nat.{mul-le-mul_left, le_of_mul-le-mul_left}
-use borrow.Author.Differences.{up, down, le_out, at_most_in, same_in, product_is, neg_is}
+use borrow.Author.Differences.{up, down, product_is, neg_is}
 use Rattle.ray_slabs.specs.Crossing.{Fraction}
-use Rattle.ray_slabs.specs.Interval.{at_most}
+pub use Rattle.ray_slabs.specs.ProductLaws.{sub_mul, add_mul, sub_mul_sub, mul_swap, same_test, scaled, unscaled, le_of_test, test_of_le, same_le}
+use Rattle.ray_slabs.specs.Mirrored.{at_most}
 
--- the laws of products that `omega` lacks
-pub sub_mul : (a b k : ℤ) → (a -ℤ b) *ℤ k ≡ a *ℤ k -ℤ b *ℤ k
-sub_mul a b k =
-    let parts : up (a -ℤ b) + down a + up b ≡ down (a -ℤ b) + up a + down b = omega (arith, ints) in
-    omega (arith, ints, ap (λ n. n * up k) parts, ap (λ n. n * down k) parts)
-
-pub add_mul : (a b k : ℤ) → (a +ℤ b) *ℤ k ≡ a *ℤ k +ℤ b *ℤ k
-add_mul a b k =
-    let parts : up (a +ℤ b) + down a + down b ≡ down (a +ℤ b) + up a + up b = omega (arith, ints) in
-    omega (arith, ints, ap (λ n. n * up k) parts, ap (λ n. n * down k) parts)
-
--- each of two differences multiplied out
-pub sub_mul_sub : (a b c d : ℤ) → (a -ℤ b) *ℤ (c -ℤ d) ≡ (a *ℤ c -ℤ a *ℤ d) -ℤ (b *ℤ c -ℤ b *ℤ d)
-sub_mul_sub a b c d =
-    let first : a *ℤ (c -ℤ d) ≡ a *ℤ c -ℤ a *ℤ d = *ℤ_comm a (c -ℤ d) ∙ sub_mul c d a ∙ (λ i. *ℤ_comm c a i -ℤ *ℤ_comm d a i) in
-    let second : b *ℤ (c -ℤ d) ≡ b *ℤ c -ℤ b *ℤ d = *ℤ_comm b (c -ℤ d) ∙ sub_mul c d b ∙ (λ i. *ℤ_comm c b i -ℤ *ℤ_comm d b i) in
-    sub_mul a b (c -ℤ d) ∙ (λ i. first i -ℤ second i)
-
+-- more laws of products
 pub mul_neg : (a b : ℤ) → a *ℤ neg_ℤ b ≡ neg_ℤ (a *ℤ b)
 mul_neg a b =
     let ups : up (a *ℤ neg_ℤ b) ≡ up a * down b + down a * up b = (product_is a (neg_ℤ b)).0 ∙ (λ i. up a * (neg_is b).0 i + down a * (neg_is b).1 i) in
     let downs : down (a *ℤ neg_ℤ b) ≡ up a * up b + down a * down b = (product_is a (neg_ℤ b)).1 ∙ (λ i. up a * (neg_is b).1 i + down a * (neg_is b).0 i) in
     omega (arith, ints)
 
-pub mul_swap : (a b c : ℤ) → (a *ℤ b) *ℤ c ≡ (a *ℤ c) *ℤ b
-mul_swap a b c =
-    let ups : (x y z : ℤ) → up ((x *ℤ y) *ℤ z) ≡ (up x * up y + down x * down y) * up z + (up x * down y + down x * up y) * down z =
-    λ x y z. (product_is (x *ℤ y) z).0 ∙ (λ i. (product_is x y).0 i * up z + (product_is x y).1 i * down z) in
-    let downs : (x y z : ℤ) → down ((x *ℤ y) *ℤ z) ≡ (up x * up y + down x * down y) * down z + (up x * down y + down x * up y) * up z =
-    λ x y z. (product_is (x *ℤ y) z).1 ∙ (λ i. (product_is x y).0 i * down z + (product_is x y).1 i * up z) in
-    same_in ((a *ℤ b) *ℤ c) ((a *ℤ c) *ℤ b) (omega (arith, ups a b c, ups a c b, downs a b c, downs a c b))
-
--- a test that passes, and what it says
-pub le_of_test : (a b : ℤ) → int_le a b ≡ true → a ≤ℤ b
-le_of_test a b e = omega (arith, ints)
-
-pub test_of_le : (a b : ℤ) → a ≤ℤ b → int_le a b ≡ true
-test_of_le a b h = sym (omega (arith, ints))
-
--- tests that pass together are one
-pub same_test : (x y : Bool) → (x ≡ true → y ≡ true) → (y ≡ true → x ≡ true) → x ≡ y
-same_test true true f g = refl
-same_test true false f g = sym (f refl)
-same_test false true f g = g refl
-same_test false false f g = refl
-
--- a test is one where the other makes it superfluous
-pub implied_first : (x y : Bool) → (y ≡ true → x ≡ true) → y ≡ (x && y)
-implied_first true y f = refl
-implied_first false true f = sym (f refl)
-implied_first false false f = refl
-
-pub implied_last : (x y : Bool) → (x ≡ true → y ≡ true) → x ≡ (x && y)
-implied_last true y f = sym (f refl)
-implied_last false y f = refl
-
--- a factor above 0 keeps an order, and can be taken away
-pub scaled : (a b k : ℤ) → pos 0 ≤ℤ k → a ≤ℤ b → (a *ℤ k) ≤ℤ (b *ℤ k)
-scaled a b (pos n) h le = omega (arith, ints, mul-le-mul_left n (le_out a b le))
-scaled a b (negsuc n) h le = absurd (omega (arith, ints))
-
-pub unscaled : (a b k : ℤ) → pos 0 <ℤ k → (a *ℤ k) ≤ℤ (b *ℤ k) → a ≤ℤ b
-unscaled a b (pos n) h le = at_most_in a b (le_of_mul-le-mul_left {k = n} (omega (arith, ints)) (omega (arith, ints)))
-unscaled a b (negsuc n) h le = absurd (omega (arith, ints))
-
--- equal differences have one test
-pub same_le : (a b c d : ℤ) → (b -ℤ a) ≡ (d -ℤ c) → int_le a b ≡ int_le c d
-same_le a b c d e = same_test (int_le a b) (int_le c d) (λ h. test_of_le c d (omega (arith, ints, le_of_test a b h)))
-    (λ h. test_of_le a b (omega (arith, ints, le_of_test c d h)))
-
--- the order of fractions
-pub at_most_trans : (a b c : Fraction) → pos 0 <ℤ a.den → pos 0 <ℤ b.den → pos 0 <ℤ c.den → at_most a b ≡ true → at_most b c ≡ true → at_most a c ≡ true
-at_most_trans a b c ha hb hc ab bc =
-    let by_c : ((a.num *ℤ b.den) *ℤ c.den) ≤ℤ ((b.num *ℤ a.den) *ℤ c.den) = scaled (a.num *ℤ b.den) (b.num *ℤ a.den) c.den (omega (arith, ints))
+-- The order of fractions. The outer denominators may be 0.
+pub by_middle : (a b c : Fraction) → pos 0 ≤ℤ a.den → pos 0 <ℤ b.den → pos 0 ≤ℤ c.den → at_most a b ≡ true → at_most b c ≡ true → at_most a c ≡ true
+by_middle a b c ha hb hc ab bc =
+    let by_c : ((a.num *ℤ b.den) *ℤ c.den) ≤ℤ ((b.num *ℤ a.den) *ℤ c.den) = scaled (a.num *ℤ b.den) (b.num *ℤ a.den) c.den hc
     (le_of_test (a.num *ℤ b.den) (b.num *ℤ a.den) ab) in
-    let by_a : ((b.num *ℤ c.den) *ℤ a.den) ≤ℤ ((c.num *ℤ b.den) *ℤ a.den) = scaled (b.num *ℤ c.den) (c.num *ℤ b.den) a.den (omega (arith, ints))
+    let by_a : ((b.num *ℤ c.den) *ℤ a.den) ≤ℤ ((c.num *ℤ b.den) *ℤ a.den) = scaled (b.num *ℤ c.den) (c.num *ℤ b.den) a.den ha
     (le_of_test (b.num *ℤ c.den) (c.num *ℤ b.den) bc) in
     let swapped : (a.num *ℤ b.den) *ℤ c.den ≡ (a.num *ℤ c.den) *ℤ b.den = mul_swap a.num b.den c.den in
     let swapped' : (b.num *ℤ a.den) *ℤ c.den ≡ (b.num *ℤ c.den) *ℤ a.den = mul_swap b.num a.den c.den in
     let swapped'' : (c.num *ℤ b.den) *ℤ a.den ≡ (c.num *ℤ a.den) *ℤ b.den = mul_swap c.num b.den a.den in
     test_of_le (a.num *ℤ c.den) (c.num *ℤ a.den) (unscaled (a.num *ℤ c.den) (c.num *ℤ a.den) b.den hb (omega (arith, ints)))
+
+pub at_most_trans : (a b c : Fraction) → pos 0 <ℤ a.den → pos 0 <ℤ b.den → pos 0 <ℤ c.den → at_most a b ≡ true → at_most b c ≡ true → at_most a c ≡ true
+at_most_trans a b c ha hb hc ab bc = by_middle a b c (omega (arith, ints)) hb (omega (arith, ints)) ab bc
 
 pub at_most_refl : (a : Fraction) → at_most a a ≡ true
 at_most_refl a = test_of_le (a.num *ℤ a.den) (a.num *ℤ a.den) (omega (arith, ints))

@@ -1,8 +1,10 @@
 pub mod Crossing
 pub mod Examples
-pub mod Interval
+pub mod First
+pub mod FirstLaws
 pub mod Law
-pub mod Miss
+pub mod Mirrored
+pub mod ProductLaws
 pub mod Range
 pub mod Vector
 pub mod WideBounds
