@@ -9,3 +9,4 @@ mod PutsThen
 mod RoundTrip
 mod Rounding
 mod Shown
+mod Spaced

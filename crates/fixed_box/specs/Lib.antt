@@ -10,3 +10,4 @@ pub mod Rising
 pub mod RisingLaws
 pub mod SlotMap
 pub mod SlotMapLaws
+pub mod Space

@@ -3,7 +3,7 @@ ghost use Rattle.std.specs.FinMap as map;
 ghost use Rattle.fixed_box.specs.Bounds.{Bounds, meets};
 ghost use Rattle.hier_grid.specs.Grid.{AreKeyed, IsSized};
 ghost use Rattle.hier_grid.specs.Search.{HasMetIn, HasNearby, IsAbove, IsBare, NearsAfter, NearsIn, NearsLevel, StaysNearby};
-ghost use Rattle.broad_index.specs.Space.{space};
+ghost use Rattle.fixed_box.specs.Space.{space};
 
 use crate::cell::cell_of;
 use crate::leveled_boxes::LeveledBoxes;
