@@ -2,12 +2,6 @@ pub mod Bounds
 pub mod Decimal
 pub mod Fix
 pub mod Fronts
-pub mod LinkLaws
-pub mod Links
 pub mod Point
 pub mod Puts
-pub mod Rising
-pub mod RisingLaws
-pub mod SlotMap
-pub mod SlotMapLaws
 pub mod Space

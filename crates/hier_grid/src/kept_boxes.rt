@@ -9,9 +9,9 @@ use crate::cell::cell_of;
 use crate::leveled_boxes::LeveledBoxes;
 use crate::near_cells::{count_beside, push_after, push_beside, visit_rows};
 use crate::nearby::Nearby;
-use crate::slot_boxes::SlotBoxes;
 use cell_table::{CellKey, CellTable, LEVELS};
 use fixed_box::{FBox, NoMemory, SLOTS};
+use slot_lists::SlotBoxes;
 use std::alloc::Global;
 use std::marker::Model;
 
