@@ -1,7 +1,9 @@
 pub mod Bounds
 pub mod Decimal
+pub mod DigitLaws
 pub mod Fix
-pub mod Fronts
+pub mod MagnitudeLaws
 pub mod Point
 pub mod Puts
+pub mod RoundingLaws
 pub mod Space

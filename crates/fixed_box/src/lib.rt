@@ -5,10 +5,8 @@ mod fbox;
 mod fix_fault;
 mod laws;
 mod no_memory;
-mod number_front;
 mod parsing;
 mod point;
-mod printed_front;
 mod printing;
 mod space;
 
@@ -16,10 +14,8 @@ pub use fbox::FBox;
 pub use fix_fault::FixFault;
 pub use laws::{box_laws, slot_law};
 pub use no_memory::NoMemory;
-pub use number_front::{digits_ahead, fix_ahead};
 pub use parsing::read_fix;
 pub use point::Point;
-pub use printed_front::printed_fix_ahead;
 pub use printing::{print_fix, printed_reads_back};
 pub use space::space_law;
 
