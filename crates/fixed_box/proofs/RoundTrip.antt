@@ -1,6 +1,6 @@
 -- What is printed reads back.
-use Rattle.std.proofs.Common.{◌≡◌, ℕ, zero, suc, ◌+◌, ◌*◌, ◌/◌, ◌%◌, ◌^◌, ◌<◌, ◌≤◌, Bool, true, false, cond, T, ◌&&◌, nat_le, ◌==◌, ℤ, pos, negsuc}
-use Rattle.std.proofs.Common.{neg_ℤ, ◌≤ℤ◌, int_le, List, [], ◌∷◌, ◌++◌, length, decimal, Some, None, Result, Ok, Err, refl, ap, ◌∙◌, arith}
+use Rattle.std.proofs.Common.{◌≡◌, ℕ, zero, suc, ◌+◌, ◌*◌, ◌/◌, ◌%◌, ◌^◌, ◌<◌, ◌≤◌, Bool, true, false, cond, ◌&&◌, ◌==◌, ℤ, pos, negsuc}
+use Rattle.std.proofs.Common.{neg_ℤ, ◌≤ℤ◌, List, [], ◌∷◌, ◌++◌, length, decimal, Some, None, Ok, refl, ap, ◌∙◌, arith}
 use Rattle.std.specs.List.{All}
 use Rattle.std.specs.Char.{is_ascii_digit, digit_value}
 use Rattle.std.specs.Str.{all_ascii_digits}
@@ -14,8 +14,6 @@ use Rattle.std.proofs.lemmas.Int.Digits.{digits_value_push}
 use Rattle.std.proofs.lemmas.Fmt.{digits_decimal, digits_value-decimal, decimal_nonempty, length-decimal-le}
 use Rattle.std.proofs.lemmas.Str.Parse.{IsNumeralModel, numerals_by_value, tells_all_ascii_digits}
 use Rattle.std.proofs.Math.Nat.{pow-suc}
-use Rattle.fixed_box.specs.declared.fix_fault.FixFault.{FixFault}
-use Rattle.fixed_box.specs.declared.fix_fault.FixFault.TheVariants.{Range}
 use Rattle.fixed_box.specs.Fix.{Digits, is_numeral, digits_of_text, digits_of_parts, nearest_raw, number_of, within_range, fix_of_digits, fix, show}
 use Rattle.fixed_box.specs.Fix.{show_magnitude, last_digits, hundred_thousandths}
 use Rattle.fixed_box.specs.DigitLaws.{digits_push, is_numeral_from, within, split_digits, split_alone}
