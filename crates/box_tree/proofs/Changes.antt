@@ -13,9 +13,9 @@ use Rattle.tree_nodes.specs.Tree.{Tree}
 use Rattle.box_tree.specs.declared.TheConstants.{MARGIN}
 use Rattle.box_tree.specs.declared.moved.Moved.TheVariants.{Inside, Relinked}
 use Rattle.box_tree.specs.Boxes.{is_inside, shifted, told}
-use Rattle.fixed_box.specs.SlotMap.{map_of}
+use Rattle.slot_lists.specs.SlotMap.{map_of}
 use Rattle.box_tree.specs.Ties.{Ties, Sound}
-use Rattle.fixed_box.specs.SlotMapLaws.{get_map, map_put, map_take}
+use Rattle.slot_lists.specs.SlotMapLaws.{get_map, map_put, map_take}
 use Rattle.box_tree.proofs.Soundness.{within, none_there, fat_inside, fat_put, fat_taken, sound_changed}
 
 abbrev pub Inserted : Type 0

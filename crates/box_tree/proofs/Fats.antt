@@ -9,7 +9,7 @@ use Rattle.fixed_box.specs.Bounds.{Bounds, encloses}
 use Rattle.broad_index.specs.Held.{Holds}
 use Rattle.tree_nodes.specs.Tree.{Tree, Leaf, leaves_in}
 use Rattle.box_tree.specs.Boxes.{fat_entry}
-use Rattle.fixed_box.specs.SlotMap.{map_of}
+use Rattle.slot_lists.specs.SlotMap.{map_of}
 use Rattle.box_tree.specs.Ties.{Ties, AreFat}
 use Rattle.box_tree.proofs.Changes.{get_viewed, has_viewed}
 use Rattle.box_tree.proofs.Soundness.{none_there}

@@ -4,8 +4,8 @@ use Rattle.std.proofs.Common.{length, map, get_or, refl, sym, ap, ◌∙◌, sub
 use Rattle.std.specs.List.{Contains}
 use Rattle.std.proofs.lemmas.Bool.{or_cases, eqb-true}
 use Rattle.fixed_box.specs.Bounds.{Bounds, meets}
-use Rattle.fixed_box.specs.SlotMap.{map_of}
-use Rattle.fixed_box.specs.SlotMapLaws.{get_map}
+use Rattle.slot_lists.specs.SlotMap.{map_of}
+use Rattle.slot_lists.specs.SlotMapLaws.{get_map}
 use Rattle.broad_index.specs.declared.pair.Pair.{Pair}
 use Rattle.broad_index.specs.Held.{Holds}
 use Rattle.broad_index.specs.Members.{has_pair, has_slot}

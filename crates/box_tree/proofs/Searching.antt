@@ -24,9 +24,9 @@ use Rattle.tree_nodes.specs.Tree.{Tree, Leaf, tip, fork, leaves, leaves_in}
 use Rattle.box_tree.specs.Boxes.{Boxes, visits_for, cost, sought, raised, searched, untouched}
 use Rattle.box_tree.specs.Descent.{entry_of, exact, exact_in, IsLeafInside, IsInside, IsInsideIn}
 use Rattle.box_tree.specs.Searches.{looked_for, sought_from, reached_by, reached_in, searches}
-use Rattle.fixed_box.specs.SlotMap.{map_of}
+use Rattle.slot_lists.specs.SlotMap.{map_of}
 use Rattle.box_tree.specs.Ties.{Sound}
-use Rattle.fixed_box.specs.SlotMapLaws.{get_map, entries_of_map, tie_same, tie_other}
+use Rattle.slot_lists.specs.SlotMapLaws.{get_map, entries_of_map, tie_same, tie_other}
 use Rattle.box_tree.proofs.LeafTies.{some_there}
 use Rattle.box_tree.proofs.Soundness.{within, sound_paired}
 

@@ -13,8 +13,8 @@ use Rattle.std.proofs.lemmas.List.Folds.{list_any-append}
 use Rattle.std.proofs.lemmas.List.Sums.{sum_by-cons, sum_by-append}
 use Rattle.fixed_box.specs.declared.TheConstants.{SLOTS}
 use Rattle.fixed_box.specs.Bounds.{Bounds}
-use Rattle.fixed_box.specs.SlotMap.{map_of}
-use Rattle.fixed_box.specs.SlotMapLaws.{get_map}
+use Rattle.slot_lists.specs.SlotMap.{map_of}
+use Rattle.slot_lists.specs.SlotMapLaws.{get_map}
 use Rattle.broad_index.specs.declared.pair.Pair.{Pair}
 use Rattle.broad_index.specs.Members.{has_pair, has_slot, is_near}
 use Rattle.broad_index.specs.Searched.{AreReached}

@@ -17,9 +17,9 @@ use Rattle.broad_index.specs.Touched.{AreKept}
 use Rattle.tree_nodes.specs.Tree.{Tree}
 use Rattle.box_tree.specs.declared.preorder.ListedNode.{ListedNode}
 use Rattle.box_tree.specs.Boxes.{Boxes, untouched, no_boxes}
-use Rattle.fixed_box.specs.SlotMap.{map_of}
+use Rattle.slot_lists.specs.SlotMap.{map_of}
 use Rattle.box_tree.specs.Ties.{Ties, AreFat, Sound, Whole}
-use Rattle.fixed_box.specs.SlotMapLaws.{get_map}
+use Rattle.slot_lists.specs.SlotMapLaws.{get_map}
 
 module _ {X : Type 0} where
   -- a slot that has a value is one of the list

@@ -6,7 +6,7 @@ use Rattle.std.proofs.lemmas.Bool.{cases_eq, eq-eqb}
 use Rattle.std.proofs.lemmas.Bool.Decides.{nat_tests}
 use Rattle.std.proofs.lemmas.List.Sums.{sum_by-cons}
 use Rattle.fixed_box.specs.Bounds.{Bounds}
-use Rattle.fixed_box.specs.SlotMap.{entries_from}
+use Rattle.slot_lists.specs.SlotMap.{entries_from}
 use Rattle.broad_index.specs.declared.pair.Pair.{Pair}
 use Rattle.tree_nodes.specs.Tree.{Tree, Leaf, leaves_in, IsTreeIn, one, visits_in}
 use Rattle.box_tree.specs.Boxes.{visits_for}

@@ -8,7 +8,7 @@ use Rattle.tree_nodes.specs.Tree.{Tree, leaves_in}
 use Rattle.box_tree.specs.declared.touched.TheConstants.{FEWEST_GROUPED}
 use Rattle.box_tree.specs.Boxes.{marked_slots, raised, visits_for}
 use Rattle.box_tree.specs.Descent.{entry_of, exact_in}
-use Rattle.fixed_box.specs.SlotMap.{entries_from}
+use Rattle.slot_lists.specs.SlotMap.{entries_from}
 
 -- the marked ones of slots that have boxes, counted from n
 abbrev pub sought_from : List Bool → ℕ → List (Option Bounds) → List ℕ

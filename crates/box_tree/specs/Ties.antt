@@ -6,7 +6,7 @@ use Rattle.broad_index.specs.declared.pair.Pair.{Pair}
 use Rattle.broad_index.specs.Near.{rises}
 use Rattle.broad_index.specs.Touched.{AreKept}
 use Rattle.tree_nodes.specs.Tree.{Tree, Leaf, leaves_in, IsTreeIn}
-use Rattle.fixed_box.specs.SlotMap.{map_of}
+use Rattle.slot_lists.specs.SlotMap.{map_of}
 use Rattle.box_tree.specs.declared.preorder.ListedNode.{ListedNode}
 use Rattle.box_tree.specs.Preorder.{preorder_in}
 

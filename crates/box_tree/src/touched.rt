@@ -1,7 +1,7 @@
 ghost use Rattle.std.specs.Prelude.{◌≡◌, ◌||◌, ◌≤◌, ◌++◌, ◌==◌, List, Option, ℕ, [], true, false, map, filter, not, length};
 ghost use Rattle.std.specs.Prelude.{OnOk, IfOk, IfSome, slice_index_or};
 ghost use Rattle.fixed_box.specs.Bounds.{Bounds};
-ghost use Rattle.fixed_box.specs.SlotMap.{map_of};
+ghost use Rattle.slot_lists.specs.SlotMap.{map_of};
 ghost use Rattle.broad_index.specs.declared.pair.Pair.{Pair};
 ghost use Rattle.broad_index.specs.declared.query.Query.TheVariants.{Region};
 ghost use Rattle.broad_index.specs.Found.{found_of};

@@ -59,7 +59,7 @@ pub struct BoxTree {
 
 impl Model for BoxTree {
     ghost use Rattle.box_tree.specs.Boxes.{Boxes, coded_boxes};
-    ghost use Rattle.fixed_box.specs.SlotMap.{map_of};
+    ghost use Rattle.slot_lists.specs.SlotMap.{map_of};
     ghost use Rattle.box_tree.specs.Ties.{Whole};
 
     ghost Value = { Boxes };

@@ -14,7 +14,7 @@ use Rattle.fixed_box.specs.Bounds.{Bounds, meets}
 use Rattle.broad_index.specs.declared.pair.Pair.{Pair}
 use Rattle.broad_index.specs.declared.query.Query.{Query}
 use Rattle.broad_index.specs.Found.{found, query_meets}
-use Rattle.fixed_box.specs.RisingLaws.{filtered_rise, mapped_rise}
+use Rattle.slot_lists.specs.RisingLaws.{filtered_rise, mapped_rise}
 use Rattle.broad_index.specs.Near.{partners, near_of, near}
 use Rattle.broad_index.specs.NearRises.{true_from, slot_lt, entries_rise}
 use Rattle.broad_index.specs.Members.{same_pair, has_pair, has_slot, slots_rise, both_meet, is_near, meets_query, is_found, is_reached}

@@ -8,7 +8,7 @@ use Rattle.std.proofs.Math.Seq.{take-length}
 use Rattle.std.proofs.lemmas.Bool.Decides.{nat_tests}
 use Rattle.std.proofs.lemmas.List.Folds.{list_any-append}
 use Rattle.broad_index.specs.declared.pair.Pair.{Pair}
-use Rattle.fixed_box.specs.RisingLaws.{all_weaker}
+use Rattle.slot_lists.specs.RisingLaws.{all_weaker}
 use Rattle.broad_index.specs.Near.{precedes, rises}
 use Rattle.broad_index.specs.Members.{same_pair, has_pair}
 

@@ -12,7 +12,7 @@ use Rattle.broad_index.specs.declared.query.Query.{Query}
 use Rattle.broad_index.specs.Entries.{is_met_at}
 use Rattle.broad_index.specs.Found.{query_meets}
 use Rattle.broad_index.specs.Members.{meets_query}
-use Rattle.broad_index.specs.Space.{space}
+use Rattle.fixed_box.specs.Space.{space}
 
 -- one box, before those that are kept already
 kept_more : (at : ℕ → Bool) (near exact : Bool) (from : ℕ) (b : Bounds) (ns es : List (ℕ × Bounds)) → at from ≡ exact → (exact ≡ true → near ≡ true)

@@ -1,7 +1,7 @@
 -- Rising lists of slots or of pairs that have the same members are one list.
 use Rattle.std.proofs.Common.{◌≡◌, ℕ, ◌<◌, true, ◌&&◌, ◌==◌, nat_lt, List, refl, ap, ◌∙◌, arith, inl, inr, ◌⊎◌}
 use Rattle.std.proofs.lemmas.Bool.{eq-eqb, eqb-true, and_parts, and_from, or_cases, ltb-true}
-use Rattle.fixed_box.specs.RisingLaws.{Tells, one_rising}
+use Rattle.slot_lists.specs.RisingLaws.{Tells, one_rising}
 use Rattle.broad_index.specs.declared.pair.Pair.{Pair}
 use Rattle.broad_index.specs.Near.{precedes, rises}
 use Rattle.broad_index.specs.Members.{same_pair, has_pair, has_slot, slots_rise}

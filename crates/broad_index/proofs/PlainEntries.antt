@@ -18,7 +18,7 @@ use Rattle.broad_index.specs.declared.pair.Pair.{Pair}
 use Rattle.broad_index.specs.Entries.{AreEntries, Placed, pairs_at}
 use Rattle.broad_index.specs.Index.{bodies_of}
 use Rattle.broad_index.specs.Near.{near_of, partners}
-use Rattle.broad_index.specs.Space.{space}
+use Rattle.fixed_box.specs.Space.{space}
 use Rattle.broad_index.proofs.SortedEntries.{absent_from, entries_of_sorted, from_sorted-put, from_sorted-remove, insert_is_put, key_there}
 use Rattle.broad_index.proofs.SortedEntries.{partitioned, present_from, present_within, rising_few, set_is_put, sorted_put, sorted_removed}
 

@@ -14,7 +14,7 @@ use Rattle.std.proofs.lemmas.Cmp.{nat_cmp_total, on_total, then_total}
 use Rattle.std.proofs.lemmas.List.Kept.{IsStrictlySortedBy-dedup}
 use Rattle.std.proofs.lemmas.List.Sorted.{list_any-IsPermutation}
 use Rattle.broad_index.specs.declared.pair.Pair.{Pair}
-use Rattle.fixed_box.specs.Rising.{rises_by}
+use Rattle.slot_lists.specs.Rising.{rises_by}
 use Rattle.broad_index.specs.Near.{precedes, rises}
 use Rattle.broad_index.specs.PairOrder.{pair_cmp}
 use Rattle.broad_index.specs.Members.{same_pair, slots_rise}

@@ -8,7 +8,7 @@ use Rattle.fixed_box.specs.declared.TheConstants.{SLOTS}
 use Rattle.broad_index.specs.declared.pair.Pair.{Pair}
 use Rattle.broad_index.specs.declared.query.Query.{Query}
 use Rattle.broad_index.specs.Members.{meets_query}
-use Rattle.broad_index.specs.Space.{space}
+use Rattle.fixed_box.specs.Space.{space}
 
 -- the slots rise, and are slots, and the boxes lie in space
 pub record AreEntries (slots : List ℕ) (boxes : List Bounds) : Type 0 where

@@ -10,5 +10,4 @@ pub mod NearRises
 pub mod PairOrder
 pub mod Regions
 pub mod Searched
-pub mod Space
 pub mod Touched

@@ -7,7 +7,7 @@ use Rattle.fixed_box.specs.Bounds.{Bounds, meets}
 use Rattle.broad_index.specs.declared.pair.Pair.{Pair}
 use Rattle.broad_index.specs.declared.query.Query.{Query}
 use Rattle.broad_index.specs.Found.{query_meets}
-use Rattle.fixed_box.specs.Rising.{rises_by}
+use Rattle.slot_lists.specs.Rising.{rises_by}
 
 abbrev pub same_pair : Pair → Pair → Bool
 same_pair p q = p.a == q.a && p.b == q.b

@@ -3,7 +3,7 @@ use Rattle.std.specs.Prelude.{ℕ, Bool, ◌&&◌, ◌||◌, nat_lt, ◌==◌, L
 use Rattle.std.specs.Ordering.{nat_cmp}
 use Rattle.std.specs.FinMap.{FinMap, entries}
 use Rattle.fixed_box.specs.Bounds.{Bounds, meets}
-use Rattle.fixed_box.specs.Rising.{rises_by}
+use Rattle.slot_lists.specs.Rising.{rises_by}
 use Rattle.broad_index.specs.declared.pair.Pair.{Pair}
 
 -- a slot with each later one whose box meets its box

@@ -11,8 +11,8 @@ use Rattle.std.specs.FinMap.Entries.{below_all}
 use Rattle.std.proofs.lemmas.Bool.Decides.{nat_tests}
 use Rattle.std.proofs.lemmas.List.Folds.{list_all-append, list_all-map}
 use Rattle.fixed_box.specs.Bounds.{Bounds, meets}
-use Rattle.fixed_box.specs.Rising.{rises_by}
-use Rattle.fixed_box.specs.RisingLaws.{all_hold, filtered_rise, joined_rise, mapped_rise}
+use Rattle.slot_lists.specs.Rising.{rises_by}
+use Rattle.slot_lists.specs.RisingLaws.{all_hold, filtered_rise, joined_rise, mapped_rise}
 use Rattle.broad_index.specs.declared.pair.Pair.{Pair}
 use Rattle.broad_index.specs.Near.{partners, near_of, near, precedes, rises}
 

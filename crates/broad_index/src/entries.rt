@@ -6,9 +6,8 @@ ghost use Rattle.broad_index.specs.Found.{found};
 ghost use Rattle.broad_index.specs.Near.{near, near_of};
 
 use crate::met_places::push_met_places;
-use crate::space::space_law;
 use crate::{Pair, Query};
-use fixed_box::{FBox, NoMemory, SLOTS};
+use fixed_box::{FBox, NoMemory, SLOTS, space_law};
 use lane_boxes::{Columns, beside_laws, place_laws};
 use std::alloc::Global;
 use std::marker::Model;

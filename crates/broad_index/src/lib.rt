@@ -13,7 +13,6 @@ mod query;
 mod regions;
 mod rising;
 mod sharing;
-mod space;
 
 pub use broad_phase::BroadPhase;
 pub use gather::{join_pieces, push_ordered_pairs};
@@ -24,7 +23,6 @@ pub use plain_index::PlainIndex;
 pub use query::{QKind, Query};
 pub use rising::{push_rising_pairs, push_rising_slots, renew_pairs, settle_pairs};
 pub use sharing::{FEWEST_SOUGHT, pays_threads};
-pub use space::space_law;
 pub use work_pieces::{Gate, NoGate};
 
 #[cfg(test)]

@@ -3,7 +3,7 @@ ghost use Rattle.fixed_box.specs.Bounds.{meets};
 ghost use Rattle.lane_boxes.specs.Places.{places};
 ghost use Rattle.broad_index.specs.Entries.{is_met_at};
 ghost use Rattle.broad_index.specs.Found.{query_meets};
-ghost use Rattle.broad_index.specs.Space.{space};
+ghost use Rattle.fixed_box.specs.Space.{space};
 
 use crate::Query;
 use fixed_box::NoMemory;

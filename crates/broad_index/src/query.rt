@@ -1,7 +1,7 @@
 ghost use Rattle.std.specs.Prelude.{◌≡◌, true, IsTrue};
 ghost use Rattle.fixed_box.specs.Bounds.{Bounds, meets};
 ghost use Rattle.broad_index.specs.Found.{query_meets, kind_of};
-ghost use Rattle.broad_index.specs.Space.{space};
+ghost use Rattle.fixed_box.specs.Space.{space};
 
 use crate::regions::{flat_box, ray_box, seg_box};
 use fixed_box::{FBox, Point};

@@ -3,7 +3,7 @@ ghost use Rattle.fixed_box.specs.Bounds.{Bounds, holds, meets};
 ghost use Rattle.ray_slabs.specs.Crossing.{in_ray, in_seg};
 ghost use Rattle.ray_slabs.specs.WideBounds.{widened_box};
 ghost use Rattle.broad_index.specs.Regions.{IsNearest, IsFar, AreTouched};
-ghost use Rattle.broad_index.specs.Space.{space};
+ghost use Rattle.fixed_box.specs.Space.{space};
 
 use fixed_box::{FBox, Point, box_laws};
 use ray_slabs::{Ray, Seg, WPoint, ray_law, seg_law};

@@ -1,16 +1,20 @@
 ghost use Rattle.std.specs.Prelude.{◌≡◌, ◌≤◌, true, map, string_bytes, IfSome};
+ghost use Rattle.work_pieces.specs.declared.TheConstants.{MOST_WORKERS};
 ghost use Rattle.broadplay.specs.JobWords.{job, drill_job, drill_of, with_options, job_of, IsLoad};
 ghost use Rattle.broadplay.specs.JobWords.{choices_of, choose, choose_exchanges, no_choices, structure_of, workers_of, number_within, counts};
 
+use fixed_box::SLOTS;
 use frame_player::Options;
+use made_scene::MOST_FRAMES;
 use scene_words::numeral;
+use work_pieces::MOST_WORKERS;
 
 /// What the program is to do.
 #[derive(Clone, Copy, Debug, PartialEq, Eq)]
 pub enum Task {
     /// Play the scene on standard input, and write its report.
     Play,
-    /// Make a scene of 1 to 8,192 boxes and 1 to 100 frames, play it, and write a summary.
+    /// Make a scene of 1 to `SLOTS` boxes and 1 to `MOST_FRAMES` frames, play it, and write a summary.
     Drill { seed: u64, boxes: u32, frames: u32 },
 }
 
@@ -46,7 +50,7 @@ pub(crate) struct Choices {
 /// The job of a command line without the program's name, and `None` where it has no meaning.
 pub fn read_words(words: &[String]) -> Option<Job>
     ensures job { result ≡ job (map string_bytes words.now) }
-    ensures workers { IfSome result (λ j. (1 ≤ j.options.workers) × (j.options.workers ≤ 16)) }
+    ensures workers { IfSome result (λ j. (1 ≤ j.options.workers) × (j.options.workers ≤ MOST_WORKERS)) }
     ensures counted { IfSome result (λ j. j.options.exchanges ≡ true → counts j.structure ≡ true) }
     ensures loads { IfSome result (λ j. IsLoad j.task) }
 {
@@ -63,7 +67,7 @@ pub fn read_words(words: &[String]) -> Option<Job>
 // The three numbers of a drill, and its options.
 fn drill_job(words: &[String]) -> Option<Job>
     ensures job { result ≡ drill_job (map string_bytes words.now) }
-    ensures workers { IfSome result (λ j. (1 ≤ j.options.workers) × (j.options.workers ≤ 16)) }
+    ensures workers { IfSome result (λ j. (1 ≤ j.options.workers) × (j.options.workers ≤ MOST_WORKERS)) }
     ensures counted { IfSome result (λ j. j.options.exchanges ≡ true → counts j.structure ≡ true) }
     ensures loads { IfSome result (λ j. IsLoad j.task) }
 {
@@ -79,8 +83,8 @@ fn drill_of(seed: &[u8], boxes: &[u8], frames: &[u8]) -> Option<Task>
     ensures loads { IfSome result (λ task. IsLoad task) }
 {
     let seed = number_within(20, 0, u64::MAX, seed)?;
-    let boxes = number_within(4, 1, 8192, boxes)?;
-    let frames = number_within(3, 1, 100, frames)?;
+    let boxes = number_within(4, 1, u64::from(SLOTS), boxes)?;
+    let frames = number_within(3, 1, u64::from(MOST_FRAMES), frames)?;
     Some(Task::Drill {
         seed,
         boxes: boxes as u32,
@@ -106,7 +110,7 @@ fn number_within(most: usize, least: u64, greatest: u64, word: &[u8]) -> Option<
 fn with_options(task: Task, words: &[String]) -> Option<Job>
     requires load { IsLoad task }
     ensures job { result ≡ with_options task (map string_bytes words.now) }
-    ensures workers { IfSome result (λ j. (1 ≤ j.options.workers) × (j.options.workers ≤ 16)) }
+    ensures workers { IfSome result (λ j. (1 ≤ j.options.workers) × (j.options.workers ≤ MOST_WORKERS)) }
     ensures counted { IfSome result (λ j. j.options.exchanges ≡ true → counts j.structure ≡ true) }
     ensures loads { IfSome result (λ j. IsLoad j.task) }
 {
@@ -115,10 +119,10 @@ fn with_options(task: Task, words: &[String]) -> Option<Job>
 
 // The job of the options. Exchanges are shown of a structure that counts them alone.
 fn job_of(task: Task, choices: Choices) -> Option<Job>
-    requires workers { IfSome choices.workers (λ n. (1 ≤ n) × (n ≤ 16)) }
+    requires workers { IfSome choices.workers (λ n. (1 ≤ n) × (n ≤ MOST_WORKERS)) }
     requires load { IsLoad task }
     ensures job { result ≡ job_of task choices }
-    ensures workers { IfSome result (λ j. (1 ≤ j.options.workers) × (j.options.workers ≤ 16)) }
+    ensures workers { IfSome result (λ j. (1 ≤ j.options.workers) × (j.options.workers ≤ MOST_WORKERS)) }
     ensures counted { IfSome result (λ j. j.options.exchanges ≡ true → counts j.structure ≡ true) }
     ensures loads { IfSome result (λ j. IsLoad j.task) }
 {
@@ -139,7 +143,7 @@ fn job_of(task: Task, choices: Choices) -> Option<Job>
 // The options in any order, each at most once.
 fn read_options(words: &[String]) -> Option<Choices>
     ensures choices { result ≡ choices_of no_choices (map string_bytes words.now) }
-    ensures workers { IfSome result (λ c. IfSome c.workers (λ n. (1 ≤ n) × (n ≤ 16))) }
+    ensures workers { IfSome result (λ c. IfSome c.workers (λ n. (1 ≤ n) × (n ≤ MOST_WORKERS))) }
 {
     let mut choices = Choices {
         structure: None,
@@ -177,9 +181,9 @@ fn choose_exchanges(choices: Choices) -> Option<Choices>
 
 // One option of two words.
 fn choose(choices: Choices, word: &str, value: &str) -> Option<Choices>
-    requires { IfSome choices.workers (λ n. (1 ≤ n) × (n ≤ 16)) }
+    requires { IfSome choices.workers (λ n. (1 ≤ n) × (n ≤ MOST_WORKERS)) }
     ensures choices { result ≡ choose choices word.now value.now }
-    ensures workers { IfSome result (λ c. IfSome c.workers (λ n. (1 ≤ n) × (n ≤ 16))) }
+    ensures workers { IfSome result (λ c. IfSome c.workers (λ n. (1 ≤ n) × (n ≤ MOST_WORKERS))) }
 {
     match word {
         "--with" if choices.structure.is_none() => {
@@ -214,8 +218,8 @@ fn read_structure(word: &str) -> Option<Structure>
 
 fn read_workers(word: &[u8]) -> Option<u32>
     ensures workers { result ≡ workers_of word.now }
-    ensures within { IfSome result (λ n. (1 ≤ n) × (n ≤ 16)) }
+    ensures within { IfSome result (λ n. (1 ≤ n) × (n ≤ MOST_WORKERS)) }
 {
-    let number = number_within(2, 1, 16, word)?;
+    let number = number_within(2, 1, u64::from(MOST_WORKERS), word)?;
     Some(number as u32)
 }

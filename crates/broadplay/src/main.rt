@@ -3,6 +3,7 @@
 #![tactic(auto)]
 
 mod job;
+mod named;
 mod run_job;
 
 use frame_player::Status;

@@ -1,14 +1,14 @@
-ghost use Rattle.std.specs.Prelude.{◌≡◌, ◌≢◌, ◌↔◌, ◌-◌, ◌^◌, ◌<◌, ◌≤◌, true, map, string_bytes, None, IfOk};
-ghost use Rattle.broad_index.specs.Fresh.{IsFresh};
+ghost use Rattle.std.specs.Prelude.{◌≡◌, ◌≢◌, ◌↔◌, ◌-◌, ◌^◌, ◌<◌, ◌≤◌, true, map, string_bytes, None};
 ghost use Rattle.frame_player.specs.declared.status.Status.TheVariants.{Usage};
 ghost use Rattle.frame_player.specs.Outcome.{ends};
-ghost use Rattle.broadplay.specs.JobWords.{job, IsLoad};
+ghost use Rattle.work_pieces.specs.declared.TheConstants.{MOST_WORKERS};
+ghost use Rattle.broadplay.specs.JobWords.{counts, job, IsLoad};
 ghost use Rattle.broadplay.specs.JobOutcome.{IsJobDone, IsTaskDone, is_drill, reads_nothing};
 
 use crate::job::{Job, Structure, Task, read_words};
+use crate::named::Named;
 use box_tree::BoxTree;
-use broad_index::{BroadPhase, NoGate, PlainIndex};
-use fixed_box::NoMemory;
+use broad_index::{NoGate, PlainIndex};
 use frame_player::{Limits, Status, play};
 use hier_grid::HierGrid;
 use play_io::{Sink, Source};
@@ -55,25 +55,24 @@ pub fn broadplay<R: Threads + Sync, S: Source, K: Sink>(
         return Status::Usage;
     };
     match job.structure {
-        Structure::Plain => run_over(rt, alloc, PlainIndex::new(alloc), job, source, sink),
-        Structure::Sap => run_over(rt, alloc, Sap::new(alloc), job, source, sink),
-        Structure::Tree => run_over(rt, alloc, BoxTree::new(alloc), job, source, sink),
-        Structure::Grid => run_over(rt, alloc, HierGrid::new(alloc), job, source, sink),
+        Structure::Plain => run_over::<R, PlainIndex, S, K>(rt, alloc, job, source, sink),
+        Structure::Sap => run_over::<R, Sap, S, K>(rt, alloc, job, source, sink),
+        Structure::Tree => run_over::<R, BoxTree, S, K>(rt, alloc, job, source, sink),
+        Structure::Grid => run_over::<R, HierGrid, S, K>(rt, alloc, job, source, sink),
     }
 }
 
-// Does a job over a structure, where there was memory to make it.
-fn run_over<R: Threads + Sync, B: BroadPhase + Sync + Drop, S: Source, K: Sink>(
+// Does a job over the structure that it names, where there is memory to make it.
+fn run_over<R: Threads + Sync, B: Named, S: Source, K: Sink>(
     rt: &R,
     alloc: Global,
-    made: Result<B, NoMemory>,
     job: Job,
     source: &mut S,
     sink: &mut K,
 ) -> Status
-    requires fresh { IfOk made (λ index. IsFresh (B.bodies index) (B.spent index) (B.exchanges index)) }
-    requires workers { (1 ≤ job.options.workers) × (job.options.workers ≤ 16) }
-    requires shown { job.options.exchanges ≡ true → B.COUNTS ≡ true }
+    requires named { B.STRUCTURE ≡ job.structure }
+    requires workers { (1 ≤ job.options.workers) × (job.options.workers ≤ MOST_WORKERS) }
+    requires counted { job.options.exchanges ≡ true → counts job.structure ≡ true }
     requires load { IsLoad job.task }
     requires source_count { S.faults source.old < 2 ^ 64 - 1 }
     requires sink_count { K.faults sink.old < 2 ^ 64 - 1 }
@@ -84,7 +83,7 @@ fn run_over<R: Threads + Sync, B: BroadPhase + Sync + Drop, S: Source, K: Sink>(
     ensures uncalled { K.faults sink.old ≡ 0 → K.since sink.new ≡ K.since sink.old }
     ensures never_usage { result ≢ Usage }
 {
-    let Ok(index) = made else {
+    let Ok(index) = B::made(alloc) else {
         return Status::NoMemory;
     };
     match job.task {

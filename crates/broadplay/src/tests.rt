@@ -1,6 +1,7 @@
 ghost use Rattle.std.specs.Prelude.{◌≤◌};
 ghost use Rattle.broad_index.specs.Fresh.{IsFresh};
 ghost use Rattle.scene_lines.specs.declared.TheConstants.{MOST_LINES};
+ghost use Rattle.work_pieces.specs.declared.TheConstants.{MOST_WORKERS};
 
 mod drill;
 
@@ -48,7 +49,7 @@ impl Gate for Threaded {
     fn enter(&self, _piece: u32) {}
 }
 
-// What each structure that is shared writes for a scene where four threads search, however little there is.
+// What the tree and the grid write for a scene where four threads search, however little there is.
 fn written_by_threads<R: Threads + Sync + Abort>(
     rt: &R,
     alloc: Global,
@@ -63,14 +64,10 @@ fn written_by_threads<R: Threads + Sync + Abort>(
     let grid = HierGrid::new(alloc)?;
     played_over(
         rt, alloc, grid, 4, MOST_LINES, &Threaded, scene, report, status,
-    )?;
-    let plain = PlainIndex::new(alloc)?;
-    played_over(
-        rt, alloc, plain, 4, MOST_LINES, &Threaded, scene, report, status,
     )
 }
 
-// What each structure writes for a scene, with one thread and with several.
+// What each structure writes for a scene, with one thread, and the tree and the grid with several.
 fn written_by_all<R: Threads + Sync + Abort>(
     rt: &R,
     alloc: Global,
@@ -78,16 +75,11 @@ fn written_by_all<R: Threads + Sync + Abort>(
     report: &[u8],
     status: Status,
 ) -> Result<(), Fail> {
-    let words: [&[&str]; 9] = [
+    let words: [&[&str]; 4] = [
         &["play"],
-        &["play", "--workers", "4"],
-        &["play", "--with", "sap"],
-        &["play", "--with", "plain"],
         &["play", "--workers", "16", "--with", "plain"],
         &["play", "--with", "tree"],
-        &["play", "--with", "tree", "--workers", "4"],
         &["play", "--with", "grid"],
-        &["play", "--with", "grid", "--workers", "4"],
     ];
     for list in words {
         written(rt, alloc, list, scene, report, status)?;
@@ -256,7 +248,7 @@ fn a_line_has_at_most_1024_bytes(rt: HostRuntime) -> Result<(), Fail> {
     Ok(())
 }
 
-// What each structure writes for a scene where calls of the source and of the sink fail, a byte at a time.
+// What two structures write for a scene where calls of the source and of the sink fail, a byte at a time.
 fn written_with_faults<R: Threads + Sync + Abort>(
     rt: &R,
     alloc: Global,
@@ -265,18 +257,16 @@ fn written_with_faults<R: Threads + Sync + Abort>(
     report: &[u8],
     status: Status,
 ) -> Result<(), Fail> {
-    for structure in ["plain", "sap", "tree", "grid"] {
-        for workers in ["1", "4"] {
-            let mut list = play_with(alloc, structure)?;
-            for word in ["--workers", workers] {
-                list.push(String::from_str(alloc, word)?)?;
-            }
-            let mut source = MemSource::new(alloc, scene, 1, failing.0)?;
-            let mut sink = MemSink::new(alloc, 1, failing.1)?;
-            let answer = broadplay(rt, alloc, &list, &mut source, &mut sink);
-            assert_eq!(rt; sink.bytes(), report);
-            assert_eq!(rt; answer, status);
+    for structure in ["sap", "tree"] {
+        let mut list = play_with(alloc, structure)?;
+        for word in ["--workers", "4"] {
+            list.push(String::from_str(alloc, word)?)?;
         }
+        let mut source = MemSource::new(alloc, scene, 1, failing.0)?;
+        let mut sink = MemSink::new(alloc, 1, failing.1)?;
+        let answer = broadplay(rt, alloc, &list, &mut source, &mut sink);
+        assert_eq!(rt; sink.bytes(), report);
+        assert_eq!(rt; answer, status);
     }
     Ok(())
 }
@@ -422,12 +412,11 @@ fn boxes_alike<R: Threads + Sync + Abort>(
 
 #[test]
 fn boxes_alike_are_all_pairs(rt: HostRuntime) -> Result<(), Fail> {
-    let words: [&[&str]; 5] = [
+    let words: [&[&str]; 4] = [
         &["play", "--with", "plain"],
         &["play", "--with", "sap"],
-        &["play", "--with", "tree"],
-        &["play", "--with", "grid"],
         &["play", "--with", "tree", "--workers", "4"],
+        &["play", "--with", "grid"],
     ];
     for list in words {
         boxes_alike(
@@ -531,7 +520,7 @@ fn played_over<R: Threads + Sync + Abort, B: BroadPhase + Sync + Drop, G: Gate +
     status: Status,
 ) -> Result<(), Fail>
     requires fresh { IsFresh (B.bodies index) (B.spent index) (B.exchanges index) }
-    requires workers { (1 ≤ workers) × (workers ≤ 16) }
+    requires workers { (1 ≤ workers) × (workers ≤ MOST_WORKERS) }
     requires lines { (1 ≤ lines) × (lines ≤ MOST_LINES) }
 {
     let mut source = HonestSource::new(alloc, scene, 5)?;
@@ -563,16 +552,8 @@ fn played_within<R: Threads + Sync + Abort>(
 ) -> Result<(), Fail> {
     let plain = PlainIndex::new(alloc)?;
     played_over(rt, alloc, plain, 1, 3, &NoGate, scene, report, status)?;
-    let sap = Sap::new(alloc)?;
-    played_over(rt, alloc, sap, 1, 3, &NoGate, scene, report, status)?;
     let tree = BoxTree::new(alloc)?;
-    played_over(rt, alloc, tree, 1, 3, &NoGate, scene, report, status)?;
-    let grid = HierGrid::new(alloc)?;
-    played_over(rt, alloc, grid, 1, 3, &NoGate, scene, report, status)?;
-    let tree = BoxTree::new(alloc)?;
-    played_over(rt, alloc, tree, 4, 3, &Threaded, scene, report, status)?;
-    let grid = HierGrid::new(alloc)?;
-    played_over(rt, alloc, grid, 4, 3, &Threaded, scene, report, status)
+    played_over(rt, alloc, tree, 4, 3, &Threaded, scene, report, status)
 }
 
 #[test]
@@ -676,19 +657,14 @@ fn lines_before(bytes: &[u8], but: usize) -> &[u8] {
     rest
 }
 
-// The level over a structure, where the read of such a number fails.
-fn read_fails<R: Threads + Sync + Abort>(
-    rt: &R,
-    alloc: Global,
-    structure: &str,
-    k: u32,
-) -> Result<(), Fail> {
-    let list = play_with(alloc, structure)?;
+// The level where the read of such a number fails. A play knows no structure, so that one stands for all.
+fn read_fails<R: Threads + Sync + Abort>(rt: &R, alloc: Global, k: u32) -> Result<(), Fail> {
+    let list = play_with(alloc, "tree")?;
     let mut source = MemSource::new(alloc, LEVEL, 1, &[k])?;
     let mut sink = MemSink::new(alloc, 1024, &[])?;
     let answer = broadplay(rt, alloc, &list, &mut source, &mut sink);
     let taken = LEVEL.split_at((k as usize).min(LEVEL.len())).0;
-    let report = report_of(rt, alloc, structure, lines_before(taken, 0))?;
+    let report = report_of(rt, alloc, "tree", lines_before(taken, 0))?;
     assert_eq!(rt; answer, Status::ReadFault);
     assert_eq!(rt; sink.bytes(), lines_before(&report, 1));
     assert_eq!(rt; source.calls(), u64::from(k) + 1);
@@ -697,23 +673,20 @@ fn read_fails<R: Threads + Sync + Abort>(
 
 #[test]
 fn each_read_that_fails_ends_a_play(rt: HostRuntime) -> Result<(), Fail> {
-    for structure in ["plain", "sap", "tree", "grid"] {
-        for k in 0..LEVEL.len() + 1 {
-            read_fails(&rt, rt.alloc(), structure, k as u32)?;
-        }
+    for k in 0..LEVEL.len() + 1 {
+        read_fails(&rt, rt.alloc(), k as u32)?;
     }
     Ok(())
 }
 
-// The level over a structure, where the call of the sink of such a number fails, and whether the play came to its end.
+// The level where the call of the sink of such a number fails, and whether the play came to its end.
 fn write_fails<R: Threads + Sync + Abort>(
     rt: &R,
     alloc: Global,
-    structure: &str,
     report: &[u8],
     k: u32,
 ) -> Result<bool, Fail> {
-    let list = play_with(alloc, structure)?;
+    let list = play_with(alloc, "tree")?;
     let mut source = HonestSource::new(alloc, LEVEL, 1024)?;
     let mut sink = MemSink::new(alloc, 1, &[k])?;
     let answer = broadplay(rt, alloc, &list, &mut source, &mut sink);
@@ -731,12 +704,11 @@ fn write_fails<R: Threads + Sync + Abort>(
 fn each_write_fails<R: Threads + Sync + Abort>(
     rt: &R,
     alloc: Global,
-    structure: &str,
     report: &[u8],
 ) -> Result<usize, Fail> {
     // The report is shorter than so many bytes, each of which is a write of its own before the flush.
     for k in 0..1_000 {
-        if write_fails(rt, alloc, structure, report, k)? {
+        if write_fails(rt, alloc, report, k)? {
             return Ok(k as usize);
         }
     }
@@ -746,35 +718,9 @@ fn each_write_fails<R: Threads + Sync + Abort>(
 #[test]
 fn each_write_that_fails_ends_a_play(rt: HostRuntime) -> Result<(), Fail> {
     let alloc = rt.alloc();
-    for structure in ["plain", "sap", "tree", "grid"] {
-        let report = report_of(&rt, alloc, structure, LEVEL)?;
-        let calls = each_write_fails(&rt, alloc, structure, &report)?;
-        assert_eq!(rt; calls, report.len() + 1);
-    }
-    Ok(())
-}
-
-// The first bytes of the level, so many, over a structure.
-fn part_begins<R: Threads + Sync + Abort>(
-    rt: &R,
-    alloc: Global,
-    structure: &str,
-    k: usize,
-) -> Result<(), Fail> {
-    let part = LEVEL.split_at(k.min(LEVEL.len())).0;
-    let whole_lines = report_of(rt, alloc, structure, lines_before(part, 0))?;
-    let report = report_of(rt, alloc, structure, part)?;
-    assert!(rt; report.starts_with(lines_before(&whole_lines, 1)));
-    Ok(())
-}
-
-#[test]
-fn a_part_of_a_scene_has_a_part_of_its_report(rt: HostRuntime) -> Result<(), Fail> {
-    for structure in ["plain", "sap", "tree", "grid"] {
-        for k in 0..LEVEL.len() + 1 {
-            part_begins(&rt, rt.alloc(), structure, k)?;
-        }
-    }
+    let report = report_of(&rt, alloc, "tree", LEVEL)?;
+    let calls = each_write_fails(&rt, alloc, &report)?;
+    assert_eq!(rt; calls, report.len() + 1);
     Ok(())
 }
 
@@ -808,13 +754,15 @@ fn many_lines_pass_through_short_reads(rt: HostRuntime) -> Result<(), Fail> {
         scene.push_str("frame\n")?;
     }
     let mut source = HonestSource::new(alloc, scene.as_bytes(), 3)?;
-    let mut sink = HonestSink::new(alloc, 65_536);
+    let mut sink = MemSink::new(alloc, u32::MAX, &[])?;
     let answer = broadplay(&rt, alloc, &list, &mut source, &mut sink);
     assert_eq!(rt; answer, Status::Done);
     assert!(rt;
         sink.bytes()
             .ends_with(b"frame 200000 0\nend 200001 200000 0\n")
     );
+    // The text goes out in pieces while the scene is played.
+    assert!(rt; sink.calls() > 30);
     Ok(())
 }
 
@@ -870,37 +818,82 @@ impl Gate for Meeting {
     }
 }
 
-#[test]
-fn two_threads_answer_two_queries(rt: HostRuntime) -> Result<(), Fail> {
-    let alloc = rt.alloc();
-    let gate = Meeting {
+// A gate at which nobody has met yet.
+fn meeting() -> Meeting {
+    Meeting {
         entered: [AtomicBool::new(false), AtomicBool::new(false)],
         met: AtomicU32::new(0),
-    };
-    let scene = b"scene 1\nadd 0 0 0 1 1 1\npoint 0 0 0\npoint 9 9 9\n";
-    let options = Options {
-        workers: 2,
-        exchanges: false,
-    };
-    let limits = Limits { lines: 9 };
-    let index = PlainIndex::new(alloc)?;
-    let mut source = HonestSource::new(alloc, scene, 1024)?;
-    let mut sink = HonestSink::new(alloc, 1024);
-    let answer = play(
-        &rt,
-        alloc,
-        index,
-        options,
-        limits,
-        &gate,
-        &mut source,
-        &mut sink,
-    );
-    assert_eq!(rt; answer, Status::Done);
-    assert_eq!(rt;
-        sink.bytes(),
-        b"add 0:0\npoint 1 0:0\npoint 0\nend 4 0 1\n".as_slice()
-    );
+    }
+}
+
+// Blank lines and comments end no run of queries.
+#[test]
+fn two_threads_answer_two_queries(rt: HostRuntime) -> Result<(), Fail> {
+    let gate = meeting();
+    let index = PlainIndex::new(rt.alloc())?;
+    let scene = b"scene 1\nadd 0 0 0 1 1 1\npoint 0 0 0\n\n# next\npoint 9 9 9\n";
+    let report = b"add 0:0\npoint 1 0:0\npoint 0\nend 6 0 1\n";
+    let done = Status::Done;
+    played_over(&rt, rt.alloc(), index, 2, 9, &gate, scene, report, done)?;
     assert_eq!(rt; gate.met.load(Ordering::SeqCst), 2);
+    Ok(())
+}
+
+#[test]
+fn two_threads_seek_the_pairs_of_a_frame(rt: HostRuntime) -> Result<(), Fail> {
+    let gate = meeting();
+    let index = BoxTree::new(rt.alloc())?;
+    let scene = b"scene 1\nadd 0 0 0 1 1 1\nadd 1 0 0 2 1 1\nframe\n";
+    let report = b"add 0:0\nadd 1:0\nframe 1 1\nbegin 0:0 1:0\nend 4 1 2\n";
+    let done = Status::Done;
+    played_over(&rt, rt.alloc(), index, 2, 9, &gate, scene, report, done)?;
+    assert_eq!(rt; gate.met.load(Ordering::SeqCst), 2);
+    Ok(())
+}
+
+// A gate that counts the pieces.
+#[derive(Drop)]
+struct Counting {
+    pieces: AtomicU32,
+}
+
+impl Gate for Counting {
+    fn enter(&self, _piece: u32) {
+        self.pieces.fetch_add(1, Ordering::SeqCst);
+    }
+}
+
+// A run of 257 queries is answered as 256 in a piece for each worker, and one.
+#[test]
+fn at_most_256_queries_are_a_run(rt: HostRuntime) -> Result<(), Fail> {
+    let alloc = rt.alloc();
+    let mut scene = String::from_str(alloc, "scene 1\n")?;
+    let mut report = String::new(alloc);
+    for _ in 0..257 {
+        scene.push_str("point 0 0 0\n")?;
+        report.push_str("point 0\n")?;
+    }
+    report.push_str("end 258 0 0\n")?;
+    let gate = Counting {
+        pieces: AtomicU32::new(0),
+    };
+    let index = PlainIndex::new(alloc)?;
+    let (scene, report) = (scene.as_bytes(), report.as_bytes());
+    let done = Status::Done;
+    played_over(&rt, alloc, index, 16, 999, &gate, scene, report, done)?;
+    assert_eq!(rt; gate.pieces.load(Ordering::SeqCst), 17);
+    Ok(())
+}
+
+// One read takes all that there is room for, and another finds the end.
+#[test]
+fn a_short_scene_is_read_at_once(rt: HostRuntime) -> Result<(), Fail> {
+    let alloc = rt.alloc();
+    let list = play_with(alloc, "plain")?;
+    let mut source = MemSource::new(alloc, LEVEL, u32::MAX, &[])?;
+    let mut sink = HonestSink::new(alloc, 1024);
+    let answer = broadplay(&rt, alloc, &list, &mut source, &mut sink);
+    assert_eq!(rt; answer, Status::Done);
+    assert_eq!(rt; source.calls(), 2);
     Ok(())
 }

@@ -15,12 +15,12 @@ use Rattle.std.specs.Prelude.{ℤ}
 use Rattle.fixed_box.specs.declared.TheConstants.{SLOTS}
 use Rattle.cell_table.specs.declared.TheConstants.{BUCKETS}
 use Rattle.cell_table.specs.declared.cell_key.CellKey.{CellKey}
-use Rattle.fixed_box.specs.SlotMap.{entries_from, map_of}
+use Rattle.slot_lists.specs.SlotMap.{entries_from, map_of}
 use Rattle.cell_table.specs.Cells.{IsDistinct as DistinctSlots, is_cell, IsBucket, Visits, VisitsRow, has, same_cell, slots_in}
-use Rattle.fixed_box.specs.Links.{Fresh, Distinct}
-use Rattle.fixed_box.specs.LinkLaws.{distinct_is}
+use Rattle.slot_lists.specs.Links.{Fresh, Distinct}
+use Rattle.slot_lists.specs.LinkLaws.{distinct_is}
 use Rattle.cell_table.specs.Kept.{IsKept, Rings, picked, at, meets_test, bucket_of, ring_of, walk}
-use Rattle.fixed_box.specs.SlotMapLaws.{entries_of_map, get_map}
+use Rattle.slot_lists.specs.SlotMapLaws.{entries_of_map, get_map}
 use Rattle.cell_table.proofs.RingLemmas.{fresh_not, walk_ring}
 
 abbrev pub Above : ℕ → List ℕ → Type 0

@@ -12,10 +12,10 @@ use Rattle.fixed_box.specs.declared.TheConstants.{SLOTS}
 use Rattle.cell_table.specs.declared.TheConstants.{BUCKETS, LEVELS}
 use Rattle.cell_table.specs.declared.rings.TheConstants.{NODES}
 use Rattle.cell_table.specs.declared.cell_key.CellKey.{CellKey}
-use Rattle.fixed_box.specs.SlotMap.{entries_from, map_of}
+use Rattle.slot_lists.specs.SlotMap.{entries_from, map_of}
 use Rattle.cell_table.specs.Cells.{slots_at}
 use Rattle.cell_table.specs.Kept.{Ring, IsKept, bucket_of, in_bucket, meets_test, put_next, put_prev, take_next, take_prev, slots_from}
-use Rattle.fixed_box.specs.SlotMapLaws.{get_map, entries_of_map}
+use Rattle.slot_lists.specs.SlotMapLaws.{get_map, entries_of_map}
 use Rattle.cell_table.proofs.RingLemmas.{put_same, put_other, take_same, take_other, Beside, take_inside}
 
 abbrev pub one_if : Bool → ℕ

@@ -8,10 +8,10 @@ use Rattle.std.proofs.lemmas.Bool.Decides.{nat_tests}
 use Rattle.std.proofs.lemmas.Grind.{get_or_default_zero}
 use Rattle.std.proofs.lemmas.List.{length-append, get_or_append_left, get_or-append-add, get_or_past, get_or-set_other, get_or-set_same}
 use Rattle.fixed_box.specs.declared.TheConstants.{SLOTS}
-use Rattle.fixed_box.specs.Links.{Distinct}
-use Rattle.fixed_box.specs.LinkLaws.{Fresh-append, length-le}
-use Rattle.fixed_box.specs.SlotMap.{map_of}
-use Rattle.fixed_box.specs.SlotMapLaws.{get_map}
+use Rattle.slot_lists.specs.Links.{Distinct}
+use Rattle.slot_lists.specs.LinkLaws.{Fresh-append, length-le}
+use Rattle.slot_lists.specs.SlotMap.{map_of}
+use Rattle.slot_lists.specs.SlotMapLaws.{get_map}
 use Rattle.cell_table.specs.declared.TheConstants.{BUCKETS}
 use Rattle.cell_table.specs.declared.cell_key.CellKey.{CellKey}
 use Rattle.cell_table.specs.Cells.{IsDistinct, has}

@@ -7,8 +7,8 @@ use Rattle.cell_table.specs.declared.TheConstants.{BUCKETS, LEVELS}
 use Rattle.cell_table.specs.declared.rings.TheConstants.{NODES}
 use Rattle.cell_table.specs.declared.cell_key.CellKey.{CellKey}
 use Rattle.cell_table.specs.Cells.{has, same_cell}
-use Rattle.fixed_box.specs.SlotMap.{entries_from}
-use Rattle.fixed_box.specs.Links.{Distinct, Links}
+use Rattle.slot_lists.specs.SlotMap.{entries_from}
+use Rattle.slot_lists.specs.Links.{Distinct, Links}
 
 -- the bucket that a key is hashed into
 abbrev pub bucket_of : CellKey → ℕ

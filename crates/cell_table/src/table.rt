@@ -33,7 +33,7 @@ impl Model for CellTable {
     ghost use Rattle.std.specs.FinMap.{FinMap, code};
     ghost use Rattle.cell_table.specs.declared.cell_key.CellKey.{CellKey};
     ghost use Rattle.cell_table.specs.Cells.{coded_key};
-    ghost use Rattle.fixed_box.specs.SlotMap.{map_of};
+    ghost use Rattle.slot_lists.specs.SlotMap.{map_of};
     ghost use Rattle.cell_table.specs.Kept.{IsKept};
 
     ghost Value = { FinMap nat_cmp CellKey };

@@ -2,10 +2,10 @@
 use Rattle.std.proofs.Common.{◌≡◌, ◌≢◌, ℕ, ◌+◌, ◌<◌, ◌≤◌, List, [], ◌∷◌, ◌++◌, length, get_or, set, sym, ◌∙◌, arith, append_assoc}
 use Rattle.std.proofs.lemmas.List.{get_or-set_same, get_or-set_other, get_or_read, length-set}
 use Rattle.endpoint_list.specs.declared.TheConstants.{NODES}
-use Rattle.fixed_box.specs.Links.{Fresh, Distinct, Below, Links}
-use Rattle.fixed_box.specs.LinkLaws.{Fresh-left, Fresh-right, Distinct-left, Distinct-right, Distinct-apart, Distinct-without, Below-left}
-use Rattle.fixed_box.specs.LinkLaws.{Below-right, Below-weaker, frame_next, frame_prev, before_end, retarget_last, retarget_first, Links-append}
-use Rattle.fixed_box.specs.LinkLaws.{Links-left, Links-right, after_start}
+use Rattle.slot_lists.specs.Links.{Fresh, Distinct, Below, Links}
+use Rattle.slot_lists.specs.LinkLaws.{Fresh-left, Fresh-right, Distinct-left, Distinct-right, Distinct-apart, Distinct-without, Below-left}
+use Rattle.slot_lists.specs.LinkLaws.{Below-right, Below-weaker, frame_next, frame_prev, before_end, retarget_last, retarget_first, Links-append}
+use Rattle.slot_lists.specs.LinkLaws.{Links-left, Links-right, after_start}
 use Rattle.endpoint_list.specs.Links.{IsKept, exchanged_next, exchanged_prev}
 use Rattle.endpoint_list.proofs.NodeLemmas.{Below-Fresh, Below-swap}
 use Rattle.endpoint_list.proofs.NodeLemmas.{Distinct-swap, Fresh-swap}

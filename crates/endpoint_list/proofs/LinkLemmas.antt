@@ -4,8 +4,8 @@ use Rattle.std.proofs.Common.{not, eqb, refl, sym, ap, ◌∙◌, subst, arith, 
 use Rattle.std.proofs.lemmas.Bool.{cases_eq, cases_Bool}
 use Rattle.endpoint_list.specs.declared.TheConstants.{NODES}
 use Rattle.endpoint_list.specs.NodeList.{has, first_of, last_of, IsNodeList}
-use Rattle.fixed_box.specs.Links.{Fresh, Distinct, Below, Links}
-use Rattle.fixed_box.specs.LinkLaws.{Distinct-apart, Distinct-without, Below-left, Below-right, Below-weaker, length-le, before_end, Links-left, Links-right}
+use Rattle.slot_lists.specs.Links.{Fresh, Distinct, Below, Links}
+use Rattle.slot_lists.specs.LinkLaws.{Distinct-apart, Distinct-without, Below-left, Below-right, Below-weaker, length-le, before_end, Links-left, Links-right}
 use Rattle.endpoint_list.specs.Links.{walk, listed, neighbour, IsKept}
 use Rattle.endpoint_list.proofs.NodeLemmas.{has_fresh, node_list}
 

@@ -3,8 +3,8 @@ use Rattle.std.proofs.Common.{◌≡◌, ℕ, ◌<◌, ◌≤◌, List, [], ◌�
 use Rattle.std.proofs.lemmas.Bool.{cases_eq}
 use Rattle.endpoint_list.specs.declared.TheConstants.{NODES}
 use Rattle.endpoint_list.specs.NodeList.{has, IsDistinct, IsNodeList}
-use Rattle.fixed_box.specs.Links.{Fresh, Distinct, Below}
-use Rattle.fixed_box.specs.LinkLaws.{Fresh-append}
+use Rattle.slot_lists.specs.Links.{Fresh, Distinct, Below}
+use Rattle.slot_lists.specs.LinkLaws.{Fresh-append}
 use Rattle.endpoint_list.specs.Links.{IsKept}
 
 pub Distinct-push : (xs : List ℕ) (y : ℕ) → Distinct xs → Fresh y xs → Distinct (xs ++ y ∷ [])

@@ -2,8 +2,8 @@
 use Rattle.std.proofs.Common.{◌≡◌, ◌≢◌, ℕ, ◌+◌, ◌<◌, ◌≤◌, List, [], ◌∷◌, ◌++◌, length, get_or, set, replicate, sym, ap, ◌∙◌, arith}
 use Rattle.std.proofs.lemmas.List.{get_or-set_same, get_or-set_other, length-set, length-replicate, get_or-replicate}
 use Rattle.endpoint_list.specs.declared.TheConstants.{NODES}
-use Rattle.fixed_box.specs.Links.{Fresh, Below, Links}
-use Rattle.fixed_box.specs.LinkLaws.{Fresh-left, Fresh-right, Below-weaker, frame_next, frame_prev, before_end, retarget_last, Links-append}
+use Rattle.slot_lists.specs.Links.{Fresh, Below, Links}
+use Rattle.slot_lists.specs.LinkLaws.{Fresh-left, Fresh-right, Below-weaker, frame_next, frame_prev, before_end, retarget_last, Links-append}
 use Rattle.endpoint_list.specs.Links.{IsKept, put_next, put_prev}
 use Rattle.endpoint_list.proofs.NodeLemmas.{Below-Fresh, Below-push, Distinct-push}
 use Rattle.endpoint_list.proofs.LinkLemmas.{before_end_below}

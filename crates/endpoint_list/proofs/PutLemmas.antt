@@ -2,10 +2,10 @@
 use Rattle.std.proofs.Common.{◌≡◌, ◌≢◌, ℕ, ◌+◌, ◌<◌, List, [], ◌∷◌, ◌++◌, length, get_or, set, sym, ◌∙◌, arith}
 use Rattle.std.proofs.lemmas.List.{get_or-set_same, get_or-set_other, length-set}
 use Rattle.endpoint_list.specs.declared.TheConstants.{NODES}
-use Rattle.fixed_box.specs.Links.{Fresh, Distinct, Below, Links}
-use Rattle.fixed_box.specs.LinkLaws.{Fresh-append, Fresh-left, Fresh-right, Fresh-here, Fresh-without, Distinct-left, Distinct-right, Distinct-apart}
-use Rattle.fixed_box.specs.LinkLaws.{Distinct-without, Below-left, Below-right, Below-weaker, frame_next, frame_prev, before_end, retarget_last}
-use Rattle.fixed_box.specs.LinkLaws.{Links-append, Links-left, Links-right}
+use Rattle.slot_lists.specs.Links.{Fresh, Distinct, Below, Links}
+use Rattle.slot_lists.specs.LinkLaws.{Fresh-append, Fresh-left, Fresh-right, Fresh-here, Fresh-without, Distinct-left, Distinct-right, Distinct-apart}
+use Rattle.slot_lists.specs.LinkLaws.{Distinct-without, Below-left, Below-right, Below-weaker, frame_next, frame_prev, before_end, retarget_last}
+use Rattle.slot_lists.specs.LinkLaws.{Links-append, Links-left, Links-right}
 use Rattle.endpoint_list.specs.Links.{IsKept, put_next, put_prev}
 use Rattle.endpoint_list.proofs.NodeLemmas.{Below-Fresh}
 use Rattle.endpoint_list.proofs.LinkLemmas.{before_end_fresh}

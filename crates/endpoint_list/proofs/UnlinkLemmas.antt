@@ -3,10 +3,10 @@ use Rattle.std.proofs.Common.{◌≡◌, ◌≢◌, ℕ, ◌+◌, List, [], ◌�
 use Rattle.std.proofs.lemmas.List.{get_or-set_same, get_or-set_other, length-set}
 use Rattle.std.proofs.lemmas.Bool.{cases_eq}
 use Rattle.endpoint_list.specs.declared.TheConstants.{NODES}
-use Rattle.fixed_box.specs.Links.{Fresh, Distinct, Below, Links}
-use Rattle.fixed_box.specs.LinkLaws.{Fresh-append, Fresh-left, Fresh-right, Distinct-left, Distinct-right, Distinct-apart, Distinct-without}
-use Rattle.fixed_box.specs.LinkLaws.{Below-left, Below-right, Below-weaker, frame_next, frame_prev, before_end, retarget_last, Links-append}
-use Rattle.fixed_box.specs.LinkLaws.{Links-left, Links-right}
+use Rattle.slot_lists.specs.Links.{Fresh, Distinct, Below, Links}
+use Rattle.slot_lists.specs.LinkLaws.{Fresh-append, Fresh-left, Fresh-right, Distinct-left, Distinct-right, Distinct-apart, Distinct-without}
+use Rattle.slot_lists.specs.LinkLaws.{Below-left, Below-right, Below-weaker, frame_next, frame_prev, before_end, retarget_last, Links-append}
+use Rattle.slot_lists.specs.LinkLaws.{Links-left, Links-right}
 use Rattle.endpoint_list.specs.Links.{IsKept, unlinked_next, unlinked_prev}
 use Rattle.endpoint_list.proofs.NodeLemmas.{Below-Fresh, Below-without}
 use Rattle.endpoint_list.proofs.LinkLemmas.{before_end_fresh}

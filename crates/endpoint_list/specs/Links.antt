@@ -1,7 +1,7 @@
 -- This file only serves proofs: the links that keep a list. The node NODES stands before the first and behind the last.
 use Rattle.std.specs.Prelude.{◌≡◌, ℕ, zero, suc, ◌+◌, ◌<◌, ◌==◌, nat_lt, if◌then◌else◌, List, [], ◌∷◌, length, slice_index, slice_set, Option, None, Some}
 use Rattle.endpoint_list.specs.declared.TheConstants.{NODES}
-use Rattle.fixed_box.specs.Links.{Fresh, Distinct, Below, Links}
+use Rattle.slot_lists.specs.Links.{Fresh, Distinct, Below, Links}
 
 -- the nodes from u on, at most n
 unfoldable pub walk : List ℕ → ℕ → ℕ → List ℕ

@@ -1,17 +1,18 @@
 -- Digits read one after another, against the parts between points.
-use Rattle.std.proofs.Common.{◌≡◌, ℕ, suc, ◌+◌, ◌-◌, ◌*◌, ◌^◌, ◌<◌, ◌≤◌, Bool, true, false, cond, ◌&&◌, ◌==◌, nat_le, List, [], ◌∷◌, ◌++◌, length}
+use Rattle.std.proofs.Common.{◌≡◌, ℕ, suc, ◌+◌, ◌-◌, ◌*◌, ◌^◌, ◌<◌, ◌≤◌, Bool, true, false, cond, ◌&&◌, ◌==◌, nat_le, List, [], ◌∷◌, length}
 use Rattle.std.proofs.Common.{take, drop, get_or, Option, Some, None, refl, sym, ap, ◌∙◌, arith, if◌then◌else◌, zero-add, option_map}
 use Rattle.std.specs.List.{slice_split, onto_first}
-use Rattle.std.specs.Char.{is_ascii_digit, digit_value}
+use Rattle.std.specs.Char.{is_ascii_digit}
 use Rattle.std.specs.Str.{all_ascii_digits}
 use Rattle.std.specs.Str.Parse.{digits_value_after, digits_value}
-use Rattle.std.proofs.lemmas.Bool.{and_right, and_parts}
+use Rattle.std.proofs.lemmas.Bool.{and_right}
 use Rattle.std.proofs.lemmas.List.{take_all}
 use Rattle.std.proofs.lemmas.Bool.Decides.{nat_tests}
 use Rattle.std.proofs.Math.Nat.{pow-succ', mul_assoc}
 use Rattle.fixed_box.specs.declared.parsing.Decimal.{Decimal}
 use Rattle.fixed_box.specs.Fix.{is_numeral, digits_of_parts}
 use Rattle.fixed_box.specs.Decimal.{decimal_of, with_fraction}
+use Rattle.fixed_box.specs.DigitLaws.{digit_value_is, digit_no_point}
 
 -- so many digits, and then others, are one to `most` digits
 abbrev pub is_run : ℕ → ℕ → List ℕ → Bool
@@ -31,9 +32,6 @@ decimal_after n count [] = number_if (is_run 10 count []) n 0 1
 decimal_after n count (ds ∷ []) = number_if (is_run 10 count ds) (digits_value_after 10 n ds) 0 1
 decimal_after n count (ds ∷ fs ∷ []) = if is_run 10 count ds then with_fraction (digits_value_after 10 n ds) fs else None
 decimal_after n count (ds ∷ fs ∷ _ ∷ _) = None
-
-pub digit_value_is : (b : ℕ) → is_ascii_digit b ≡ true → digit_value b ≡ b - 48
-digit_value_is b h = grind (arith, nat_tests)
 
 value_step : (n b : ℕ) (ds : List ℕ) → is_ascii_digit b ≡ true → digits_value_after 10 n (b ∷ ds) ≡ digits_value_after 10 (10 * n + (b - 48)) ds
 value_step n b ds h = ap (λ m. digits_value_after 10 m ds) (omega (arith, digit_value_is b h))
@@ -125,9 +123,6 @@ decimal_point n count b text e low high =
     let r : is_run 10 count [] ≡ true = grind (arith, nat_tests) in
     ap (λ x. decimal_after n count (slice_split is_point (x ∷ text))) e ∙ fraction_by_split n count text (slice_split is_point text) (split_of text) r
 
-digit_no_point : (b : ℕ) → is_ascii_digit b ≡ true → is_point b ≡ false
-digit_no_point b h = grind (arith, nat_tests)
-
 step_parts : (n count b : ℕ) (parts : List (List ℕ)) → is_ascii_digit b ≡ true
     → decimal_after n count (onto_first b parts) ≡ decimal_after (10 * n + (b - 48)) (count + 1) parts
 step_parts n count b [] h =
@@ -215,9 +210,6 @@ fraction_step_at whole fraction scale count [] some h = absurd (omega arith)
 fraction_step_at whole fraction scale count (b ∷ bs) some h =
     fraction_step whole fraction scale count b bs h ∙ ap (fraction_after whole (10 * fraction + (b - 48)) (scale * 10) (count + 1)) (sym (rest_of b bs))
 
-pub digit_small : (b : ℕ) → is_ascii_digit b ≡ true → b - 48 ≤ 9
-digit_small b h = grind (arith, nat_tests)
-
 pub decimal_step_at : (n count : ℕ) (text : List ℕ) → 1 ≤ length text → is_ascii_digit (get_or text 0 0) ≡ true
     → decimal_after n count (slice_split is_point text) ≡ decimal_after (10 * n + (get_or text 0 0 - 48)) (count + 1)
     (slice_split is_point (take (length text - 1) (drop 1 text)))
@@ -239,18 +231,3 @@ pub decimal_full_at : (n count : ℕ) (text : List ℕ) → count ≡ 10 → 1 �
     → decimal_after n count (slice_split is_point text) ≡ None
 decimal_full_at n count [] e some h = absurd (omega arith)
 decimal_full_at n count (b ∷ bs) e some h = ap (λ k. decimal_after n k (slice_split is_point (b ∷ bs))) e ∙ decimal_full n b bs h
-
--- digits up to a point are a part, and digits alone are the one part
-pub split_digits : (ds text : List ℕ) → all_ascii_digits ds ≡ true → slice_split is_point (ds ++ 46 ∷ text) ≡ ds ∷ slice_split is_point text
-split_digits [] text h = refl
-split_digits (d ∷ ds) text h =
-    let parts = and_parts (is_ascii_digit d) (all_ascii_digits ds) h in
-    ap (λ t. cond t ([] ∷ slice_split is_point (ds ++ 46 ∷ text)) (onto_first d (slice_split is_point (ds ++ 46 ∷ text)))) (digit_no_point d parts.0)
-    ∙ ap (onto_first d) (split_digits ds text parts.1)
-
-pub split_alone : (ds : List ℕ) → all_ascii_digits ds ≡ true → slice_split is_point ds ≡ ds ∷ []
-split_alone [] h = refl
-split_alone (d ∷ ds) h =
-    let parts = and_parts (is_ascii_digit d) (all_ascii_digits ds) h in
-    ap (λ t. cond t ([] ∷ slice_split is_point ds) (onto_first d (slice_split is_point ds))) (digit_no_point d parts.0)
-    ∙ ap (onto_first d) (split_alone ds parts.1)

@@ -1,11 +1,8 @@
 mod BoxLaws
 mod Corners
 mod DigitRuns
-mod FrontNumbers
 mod Levels
-mod Magnitude
-mod PrintedWords
 mod PutsThen
 mod RoundTrip
-mod Rounding
 mod Shown
+mod Spaced

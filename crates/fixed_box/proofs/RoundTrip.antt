@@ -1,6 +1,6 @@
 -- What is printed reads back.
-use Rattle.std.proofs.Common.{◌≡◌, ℕ, zero, suc, ◌+◌, ◌*◌, ◌/◌, ◌%◌, ◌^◌, ◌<◌, ◌≤◌, Bool, true, false, cond, T, ◌&&◌, nat_le, ◌==◌, ℤ, pos, negsuc}
-use Rattle.std.proofs.Common.{neg_ℤ, ◌≤ℤ◌, int_le, List, [], ◌∷◌, ◌++◌, length, decimal, Some, None, Result, Ok, Err, refl, ap, ◌∙◌, arith}
+use Rattle.std.proofs.Common.{◌≡◌, ℕ, zero, suc, ◌+◌, ◌*◌, ◌/◌, ◌%◌, ◌^◌, ◌<◌, ◌≤◌, Bool, true, false, cond, ◌&&◌, ◌==◌, ℤ, pos, negsuc}
+use Rattle.std.proofs.Common.{neg_ℤ, ◌≤ℤ◌, List, [], ◌∷◌, ◌++◌, length, decimal, Some, None, Ok, refl, ap, ◌∙◌, arith}
 use Rattle.std.specs.List.{All}
 use Rattle.std.specs.Char.{is_ascii_digit, digit_value}
 use Rattle.std.specs.Str.{all_ascii_digits}
@@ -14,19 +14,12 @@ use Rattle.std.proofs.lemmas.Int.Digits.{digits_value_push}
 use Rattle.std.proofs.lemmas.Fmt.{digits_decimal, digits_value-decimal, decimal_nonempty, length-decimal-le}
 use Rattle.std.proofs.lemmas.Str.Parse.{IsNumeralModel, numerals_by_value, tells_all_ascii_digits}
 use Rattle.std.proofs.Math.Nat.{pow-suc}
-use Rattle.fixed_box.specs.declared.fix_fault.FixFault.{FixFault}
-use Rattle.fixed_box.specs.declared.fix_fault.FixFault.TheVariants.{Range}
 use Rattle.fixed_box.specs.Fix.{Digits, is_numeral, digits_of_text, digits_of_parts, nearest_raw, number_of, within_range, fix_of_digits, fix, show}
 use Rattle.fixed_box.specs.Fix.{show_magnitude, last_digits, hundred_thousandths}
-use Rattle.fixed_box.proofs.DigitRuns.{split_digits, split_alone}
-use Rattle.fixed_box.proofs.Magnitude.{number_of-digits}
-use Rattle.fixed_box.proofs.Rounding.{nearest_negative}
+use Rattle.fixed_box.specs.DigitLaws.{digits_push, is_numeral_from, within, split_digits, split_alone}
+use Rattle.fixed_box.specs.MagnitudeLaws.{number_of-digits}
+use Rattle.fixed_box.specs.RoundingLaws.{nearest_negative}
 use Rattle.fixed_box.proofs.Shown.{length-last_digits, length_units}
-
-pub digits_push : (ds : List ℕ) (d : ℕ) → all_ascii_digits ds ≡ true → is_ascii_digit d ≡ true → all_ascii_digits (ds ++ d ∷ []) ≡ true
-digits_push [] d h last = ap (λ t. t && true) last
-digits_push (c ∷ ds) d h last = let parts = and_parts (is_ascii_digit c) (all_ascii_digits ds) h in ap (λ t. t && all_ascii_digits (ds ++ d ∷ [])) parts.0
-    ∙ digits_push ds d parts.1 last
 
 last_digit : (n : ℕ) → is_ascii_digit (48 + n % 10) ≡ true
 last_digit n = let small : n % 10 < 10 = omega arith in grind (arith, nat_tests)
@@ -46,12 +39,6 @@ last_digits_value (suc count) n small =
 
 own : IsNumeralModel (λ ds. all_ascii_digits ds ≡ true) (digits_value 10)
 own = numerals_by_value (λ ds. all_ascii_digits ds ≡ true) tells_all_ascii_digits
-
-pub is_numeral_from : (most : ℕ) (ds : List ℕ) → 0 < length ds → length ds ≤ most → all_ascii_digits ds ≡ true → is_numeral most ds ≡ true
-is_numeral_from most ds low high h =
-    let some : nat_le 1 (length ds) ≡ true = grind (arith, nat_tests) in
-    let few : nat_le (length ds) most ≡ true = grind (arith, nat_tests) in
-    ap (λ t. t && nat_le (length ds) most && all_ascii_digits ds) some ∙ ap (λ t. t && all_ascii_digits ds) few ∙ h
 
 abbrev shown_digits : ℕ → Digits
 shown_digits q = record { whole = decimal (q / 100000); fraction = last_digits 5 (q % 100000) }
@@ -80,15 +67,6 @@ number_shown q small =
 -- hundred-thousandths are fine enough to tell raw numbers apart
 rounds_back : (a : ℕ) → (131072 * hundred_thousandths a + 100000) / 200000 ≡ a
 rounds_back a = omega arith
-
-pub within : (r : ℤ) → negsuc 2147483647 ≤ℤ r → r ≤ℤ pos 2147483647 → within_range r ≡ Ok r
-within r low high =
-    ap (λ t. cond (t && int_le r (pos 2147483647)) (Ok r) (Err Range)) (true_from _ low.le)
-    ∙ ap (λ t. cond {A = Result ℤ FixFault} t (Ok r) (Err Range)) (true_from _ high.le)
-  where
-    true_from : (b : Bool) → T b → b ≡ true
-    true_from true h = refl
-    true_from false h = absurd h
 
 -- a text that begins with a digit has no sign
 unsigned_fix : (ds text : List ℕ) → 0 < length ds → all_ascii_digits ds ≡ true → fix (ds ++ text) ≡ fix_of_digits false (digits_of_text (ds ++ text))

@@ -1,12 +1,9 @@
 pub mod Bounds
 pub mod Decimal
+pub mod DigitLaws
 pub mod Fix
-pub mod Fronts
-pub mod LinkLaws
-pub mod Links
+pub mod MagnitudeLaws
 pub mod Point
 pub mod Puts
-pub mod Rising
-pub mod RisingLaws
-pub mod SlotMap
-pub mod SlotMapLaws
+pub mod RoundingLaws
+pub mod Space

@@ -1,6 +1,7 @@
 ghost use Rattle.std.specs.Prelude.{◌≡◌, IsTrue};
 ghost use Rattle.fixed_box.specs.declared.point.Point.{Point};
 ghost use Rattle.fixed_box.specs.Bounds.{Bounds, meets, holds, encloses, hull};
+ghost use Rattle.fixed_box.specs.declared.TheConstants.{SLOTS};
 
 /// Laws of boxes for proofs, with nothing to run: a box encloses itself and what its parts enclose, the hull of two
 /// boxes encloses both, and what meets a box, or lies in it, meets or lies in each box that encloses it.
@@ -14,4 +15,9 @@ pub fn box_laws()
         IsTrue (meets inner other) → IsTrue (meets outer other) }
     ensures held { (outer inner : Bounds) (at : Point) → IsTrue (encloses outer inner) →
         IsTrue (holds inner at) → IsTrue (holds outer at) }
+{}
+
+/// A law for proofs, with nothing to run: so many slots there are, and with another number this crate has no proof.
+pub fn slot_law()
+    ensures slots { SLOTS ≡ 8192 }
 {}

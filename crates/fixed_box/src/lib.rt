@@ -5,21 +5,19 @@ mod fbox;
 mod fix_fault;
 mod laws;
 mod no_memory;
-mod number_front;
 mod parsing;
 mod point;
-mod printed_front;
 mod printing;
+mod space;
 
 pub use fbox::FBox;
 pub use fix_fault::FixFault;
-pub use laws::box_laws;
+pub use laws::{box_laws, slot_law};
 pub use no_memory::NoMemory;
-pub use number_front::{digits_ahead, fix_ahead};
 pub use parsing::read_fix;
 pub use point::Point;
-pub use printed_front::printed_fix_ahead;
 pub use printing::{print_fix, printed_reads_back};
+pub use space::space_law;
 
 /// A coordinate in raw units: `raw` stands for `raw / 65,536`.
 pub type Fix = i32;

@@ -11,8 +11,9 @@ use Rattle.broad_index.specs.Found.{query_meets}
 use Rattle.broad_index.specs.declared.query.Query.{Query}
 use Rattle.broad_index.specs.Members.{has_slot, both_meet, is_found, is_reached, meets_query}
 use Rattle.broad_index.specs.Searched.{AreAllIn}
-use Rattle.hier_grid.specs.Search.{HasMetIn, meets_at, is_partner, present}
-use Rattle.broad_index.specs.Space.{space}
+use Rattle.hier_grid.specs.Search.{HasMetIn, meets_at, is_partner}
+use Rattle.slot_lists.specs.Present.{present}
+use Rattle.fixed_box.specs.Space.{space}
 use Rattle.hier_grid.proofs.GridLemmas.{low_level, tie_is}
 use Rattle.hier_grid.proofs.SlotLemmas.{all_among}
 

@@ -12,7 +12,7 @@ use Rattle.std.specs.FinMap.{FinMap, get, get-insert, get-remove, insert, remove
 use Rattle.fixed_box.specs.Bounds.{Bounds, level_of}
 use Rattle.fixed_box.specs.declared.TheConstants.{SLOTS}
 use Rattle.cell_table.specs.declared.TheConstants.{LEVELS}
-use Rattle.fixed_box.specs.SlotMapLaws.{tie_same, tie_other}
+use Rattle.slot_lists.specs.SlotMapLaws.{tie_same, tie_other}
 use Rattle.hier_grid.specs.Leveled.{Row, blank, no_row, IsRow, StandsAt, row_at, IsBoxOf, IsLeveled}
 use Rattle.hier_grid.proofs.GridLemmas.{low_level, some_is, none_some}
 use Rattle.hier_grid.proofs.RowLemmas.{swapped_here, swapped_other, swapped_len, few, at_most}

@@ -1,4 +1,3 @@
-mod BoxLemmas
 mod BucketLemmas
 mod CellLemmas
 mod CellRowLemmas

@@ -4,7 +4,7 @@ use Rattle.std.proofs.lemmas.Bool.{cases_eq}
 use Rattle.std.proofs.lemmas.Cmp.{nat_cmp_total}
 use Rattle.std.specs.Ordering.{nat_cmp, eq_by_cmp}
 use Rattle.std.specs.FinMap.{FinMap, get, insert, remove, contains_key, get-insert, get-remove, same_map, nat_cmp-IsAntisymmetric}
-use Rattle.fixed_box.specs.SlotMapLaws.{tie_same, tie_other}
+use Rattle.slot_lists.specs.SlotMapLaws.{tie_same, tie_other}
 
 module _ {X : Type 0} where
   pub insert_again : (m : FinMap nat_cmp X) (s : ℕ) (k : X) → insert (remove m s) s k ≡ insert m s k

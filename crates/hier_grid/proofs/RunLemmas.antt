@@ -13,7 +13,8 @@ use Rattle.work_pieces.specs.Runs.{put_together}
 use Rattle.broad_index.specs.declared.pair.Pair.{Pair}
 use Rattle.broad_index.specs.Members.{has_pair, has_slot, is_near, same_pair}
 use Rattle.broad_index.specs.Touched.{ordered}
-use Rattle.hier_grid.specs.Search.{FindsFor, FindsRun, HasPairs, present}
+use Rattle.hier_grid.specs.Search.{FindsFor, FindsRun, HasPairs}
+use Rattle.slot_lists.specs.Present.{present}
 use Rattle.hier_grid.proofs.HitLemmas.{all_present}
 use Rattle.hier_grid.proofs.PairLemmas.{all_found, more_pairs}
 

@@ -6,7 +6,7 @@ use Rattle.fixed_box.specs.Bounds.{Bounds, cell_side, level_of, longest_side, me
 use Rattle.fixed_box.specs.Point.{is_at_most}
 use Rattle.cell_table.specs.declared.cell_key.CellKey.{CellKey}
 use Rattle.hier_grid.specs.Cells.{cell_of}
-use Rattle.broad_index.specs.Space.{space}
+use Rattle.fixed_box.specs.Space.{space}
 
 -- a box in space with its corners in order, which is shorter than the cells of its level
 pub record IsSized (b : Bounds) : Type 0 where

@@ -61,10 +61,6 @@ NearsAfter bodies level body near =
     (q : ℕ) (b : Bounds) → get bodies q ≡ Some b → level_of b ≡ level → IsAfter (cell_of b) (cell_on level body.lo) → meets body b ≡ true
     → IsNearby near q b
 
--- all present slots, rising
-abbrev pub present : FinMap nat_cmp Bounds → List ℕ
-present bodies = map (λ e. e.0) (entries bodies)
-
 -- a slot whose box meets another box
 abbrev pub meets_at : FinMap nat_cmp Bounds → Bounds → ℕ → Bool
 meets_at bodies body q = both_meet (Some body) (get bodies q)

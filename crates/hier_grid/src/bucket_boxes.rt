@@ -7,10 +7,10 @@ ghost use Rattle.hier_grid.specs.Search.{HasPairs};
 use crate::cell_row::CellRow;
 use crate::kept_boxes::KeptBoxes;
 use crate::partners::is_sought;
-use crate::slot_boxes::SlotBoxes;
 use broad_index::Pair;
 use cell_table::BucketList;
 use fixed_box::{FBox, NoMemory};
+use slot_lists::SlotBoxes;
 use std::alloc::Global;
 
 /// A slot beside its box.

@@ -2,9 +2,8 @@ ghost use Rattle.std.specs.Prelude.{◌≡◌, ℤ, pos, negsuc, ◌<◌, ◌≤
 ghost use Rattle.hier_grid.specs.Cells.{cell_at, cell_of, cell_on};
 ghost use Rattle.hier_grid.specs.Grid.{IsSized};
 
-use broad_index::space_law;
 use cell_table::{CellKey, LEVELS};
-use fixed_box::{FBox, Fix, Point};
+use fixed_box::{FBox, Fix, Point, space_law};
 
 /// The level and the cell of a box.
 pub(crate) fn cell_of(body: &FBox) -> CellKey

@@ -4,7 +4,8 @@ ghost use Rattle.std.specs.List.{All};
 ghost use Rattle.broad_index.specs.Fresh.{IsFresh};
 ghost use Rattle.hier_grid.specs.Buckets.{HasBuckets};
 ghost use Rattle.hier_grid.specs.Grid.{AreKeyed};
-ghost use Rattle.hier_grid.specs.Search.{FindsRun, present};
+ghost use Rattle.hier_grid.specs.Search.{FindsRun};
+ghost use Rattle.slot_lists.specs.Present.{present};
 
 use crate::bucket_boxes::BucketBoxes;
 use crate::hits::{push_hits, push_reach};

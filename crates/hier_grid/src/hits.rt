@@ -7,9 +7,9 @@ ghost use Rattle.slot_search.specs.Reach.{reach};
 use crate::kept_boxes::KeptBoxes;
 use crate::nearby::Nearby;
 use crate::partners::push_partners;
-use crate::slot_boxes::SlotBoxes;
 use broad_index::{Query, push_rising_slots};
 use fixed_box::{FBox, NoMemory};
+use slot_lists::SlotBoxes;
 use std::alloc::Global;
 
 /// Appends the present slots whose boxes meet a query, rising. The query is tested against the boxes near its region.
@@ -43,12 +43,22 @@ fn push_found(
 {
     let mut rest = slots;
     'slots: while let [slot, more @ ..] = rest {
-        if boxes.is_found(*slot, query) {
+        if is_found(boxes, *slot, query) {
             out.push(*slot)?;
         }
         rest = more;
     }
     Ok(())
+}
+
+// Whether a slot has a box that meets a query.
+fn is_found(boxes: &SlotBoxes, slot: u32, query: &Query) -> bool
+    ensures { result ≡ is_found boxes.now query.now slot }
+{
+    match boxes.box_of(slot) {
+        Some(body) => query.meets(&body),
+        None => false,
+    }
 }
 
 /// Appends the other present slots whose boxes meet a present slot's, rising, and answers how many exact boxes were

@@ -3,15 +3,15 @@ ghost use Rattle.std.specs.FinMap as map;
 ghost use Rattle.fixed_box.specs.Bounds.{Bounds, meets};
 ghost use Rattle.hier_grid.specs.Grid.{AreKeyed, IsSized};
 ghost use Rattle.hier_grid.specs.Search.{HasMetIn, HasNearby, IsAbove, IsBare, NearsAfter, NearsIn, NearsLevel, StaysNearby};
-ghost use Rattle.broad_index.specs.Space.{space};
+ghost use Rattle.fixed_box.specs.Space.{space};
 
 use crate::cell::cell_of;
 use crate::leveled_boxes::LeveledBoxes;
 use crate::near_cells::{count_beside, push_after, push_beside, visit_rows};
 use crate::nearby::Nearby;
-use crate::slot_boxes::SlotBoxes;
 use cell_table::{CellKey, CellTable, LEVELS};
 use fixed_box::{FBox, NoMemory, SLOTS};
+use slot_lists::SlotBoxes;
 use std::alloc::Global;
 use std::marker::Model;
 

@@ -5,9 +5,9 @@ ghost use Rattle.hier_grid.specs.Leveled.{row_at};
 ghost use Rattle.hier_grid.specs.Search.{HasMet, HasMore};
 
 use crate::level_row::LevelRow;
-use crate::slot_boxes::SlotBoxes;
 use cell_table::LEVELS;
 use fixed_box::{FBox, NoMemory, SLOTS};
+use slot_lists::SlotBoxes;
 use std::alloc::Global;
 use std::marker::Model;
 

@@ -14,7 +14,6 @@ mod near_cells;
 mod nearby;
 mod pair_search;
 mod partners;
-mod slot_boxes;
 
 pub use grid::HierGrid;
 

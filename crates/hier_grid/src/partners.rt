@@ -1,10 +1,10 @@
 ghost use Rattle.std.specs.Prelude.{◌≡◌, ◌++◌, ◌==◌, ◌&&◌, ◌||◌, not, nat_lt, filter, OnOk};
 ghost use Rattle.broad_index.specs.Touched.{ordered_pairs};
-ghost use Rattle.hier_grid.specs.Search.{is_partner};
+ghost use Rattle.hier_grid.specs.Search.{is_partner, meets_at};
 
-use crate::slot_boxes::SlotBoxes;
 use broad_index::Pair;
 use fixed_box::{FBox, NoMemory};
+use slot_lists::SlotBoxes;
 
 /// Appends a slot's partners among others, either any or those with higher slots alone. Each is compared, and
 /// counted.
@@ -59,7 +59,18 @@ pub(crate) fn push_pairs(
 fn is_partner(boxes: &SlotBoxes, slot: u32, body: &FBox, any: bool, other: u32) -> bool
     ensures { result ≡ is_partner boxes.now slot body.now any other }
 {
-    is_sought(slot, any, other) & boxes.meets(other, body)
+    is_sought(slot, any, other) & meets_at(boxes, body, other)
+}
+
+// Whether a slot has a box that meets another.
+#[inline(always)]
+fn meets_at(boxes: &SlotBoxes, body: &FBox, slot: u32) -> bool
+    ensures { result ≡ meets_at boxes.now body.now slot }
+{
+    match boxes.box_of(slot) {
+        Some(own) => body.overlaps(&own),
+        None => false,
+    }
 }
 
 /// Whether another slot may be a partner.

@@ -1,5 +1,6 @@
 ghost use Rattle.std.specs.Prelude.{◌≡◌, ◌≤◌, ◌++◌, take, vec_len, OnOk, OnErr};
 ghost use Rattle.fixed_box.specs.declared.TheConstants.{SLOTS};
+ghost use Rattle.made_scene.specs.declared.TheConstants.{MOST_FRAMES};
 ghost use Rattle.made_scene.specs.MadeScene.{made_text};
 ghost use Rattle.scene_words.specs.declared.command.Command.TheVariants.{Header};
 ghost use Rattle.scene_words.specs.declared.version.Version.TheVariants.{One};
@@ -13,7 +14,7 @@ use std::alloc::Global;
 /// Appends the text of a made scene: so many boxes, that all move in each of so many frames. In each frame one of them is
 /// replaced, and one query of each kind is put there. Equal arguments make equal text, on every machine.
 ///
-/// Boxes are at most `SLOTS`, so that all may live at once, and frames at most 100. Before the first move the boxes lie
+/// Boxes are at most `SLOTS`, so that all may live at once, and frames at most `MOST_FRAMES`. Before the first move the boxes lie
 /// between 0 and 269 units, with sides from 1 to 13 units; a step moves a box by less than half a unit along each axis.
 /// The text has `1 + boxes + frames * (boxes + 7)` lines of at most 105 bytes. While it is made, a box and a generation
 /// are kept for each slot. After `NoMemory` `out` is as before.
@@ -25,7 +26,7 @@ pub fn drill_scene(
     out: &mut Vec<u8>,
 ) -> Result<(), NoMemory>
     requires boxes { (1 ≤ boxes) × (boxes ≤ SLOTS) }
-    requires frames { (1 ≤ frames) × (frames ≤ 100) }
+    requires frames { (1 ≤ frames) × (frames ≤ MOST_FRAMES) }
     ensures ok { OnOk result (out.new.items ≡ out.old.items ++ made_text seed boxes frames) }
     ensures err { OnErr result (out.new.items ≡ out.old.items) }
 {
@@ -46,7 +47,7 @@ fn put_scene(
     out: &mut Vec<u8>,
 ) -> Result<(), NoMemory>
     requires boxes { (1 ≤ boxes) × (boxes ≤ SLOTS) }
-    requires frames { frames ≤ 100 }
+    requires frames { frames ≤ MOST_FRAMES }
     ensures ok { OnOk result (out.new.items ≡ out.old.items ++ made_text seed boxes frames) }
     ensures kept { take (vec_len out.old) out.new.items ≡ out.old.items }
 {

@@ -1,6 +1,7 @@
 ghost use Rattle.std.specs.Prelude.{◌≡◌, ◌≤◌, ◌+◌, ◌*◌, ℕ, length};
 ghost use Rattle.std.specs.List.{All};
 ghost use Rattle.fixed_box.specs.declared.TheConstants.{SLOTS};
+ghost use Rattle.made_scene.specs.declared.TheConstants.{MOST_FRAMES};
 ghost use Rattle.made_scene.specs.MadeScene.{made_scene};
 ghost use Rattle.scene_words.specs.Ranges.{IsInRange};
 
@@ -8,6 +9,11 @@ ghost use Rattle.scene_words.specs.Ranges.{IsInRange};
 /// its line reads back as the command; and a header, the adds, and in each frame the moves and seven commands more are
 /// all that there is.
 pub fn made_scene_laws()
-    ensures in_range { (seed boxes count : ℕ) → boxes ≤ SLOTS → count ≤ 100 → All IsInRange (made_scene seed boxes count) }
+    ensures in_range { (seed boxes count : ℕ) → boxes ≤ SLOTS → count ≤ MOST_FRAMES → All IsInRange (made_scene seed boxes count) }
     ensures count { (seed boxes count : ℕ) → length (made_scene seed boxes count) ≡ 1 + boxes + count * (boxes + 7) }
+{}
+
+/// A law for proofs, with nothing to run: the most frames, as a number.
+pub fn made_limits()
+    ensures frames { MOST_FRAMES ≡ 100 }
 {}

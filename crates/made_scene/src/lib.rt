@@ -8,7 +8,10 @@ mod made_box;
 mod scene_maker;
 
 pub use drill::drill_scene;
-pub use laws::made_scene_laws;
+pub use laws::{made_limits, made_scene_laws};
+
+/// The most frames of a made scene.
+pub const MOST_FRAMES: u32 = 100;
 
 #[cfg(test)]
 mod tests;

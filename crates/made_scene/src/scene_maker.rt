@@ -1,5 +1,6 @@
 ghost use Rattle.std.specs.Prelude.{◌≡◌, ◌++◌, ◌≤◌, ◌<◌, ◌%◌, length, slice_index, take, vec_len, OnOk, OnErr};
 ghost use Rattle.fixed_box.specs.declared.TheConstants.{SLOTS};
+ghost use Rattle.made_scene.specs.declared.TheConstants.{MOST_FRAMES};
 ghost use Rattle.made_scene.specs.MadeScene.{start, adds, moves, replacement, questions, frames, one_frame};
 ghost use Rattle.made_scene.specs.MadeScene.{with_new, with_moved, add_command, move_command, body_at, next_slot, chosen, past_choice, everyone, origin};
 ghost use Rattle.made_scene.specs.Ranges.{IsNear, IsAfter, IsMoving};
@@ -80,7 +81,7 @@ impl SceneMaker {
     #[tactic(auto, using(crate::proofs::PartsPut::frame_put))]
     pub(crate) fn put_frames(&mut self, count: u32, out: &mut Vec<u8>) -> Result<(), NoMemory>
         requires some { 1 ≤ length self.old.bodies }
-        requires few { count ≤ 100 }
+        requires few { count ≤ MOST_FRAMES }
         requires start { IsAfter 0 self.old }
         ensures text { OnOk result (out.new.items ≡ out.old.items ++ scene_text (frames count self.old).commands) }
         ensures kept { take (vec_len out.old) out.new.items ≡ out.old.items }

@@ -4,7 +4,7 @@ use Rattle.std.specs.List.{list_all}
 use Rattle.std.specs.Cmp.{first_so, second_so}
 use Rattle.std.specs.Cmp.Derive.{both_true}
 use Rattle.std.proofs.lemmas.Bool.Decides.{nat_tests}
-use Rattle.fixed_box.specs.RisingLaws.{all_weaker}
+use Rattle.slot_lists.specs.RisingLaws.{all_weaker}
 use Rattle.pair_events.specs.declared.hpair.HPair.{HPair}
 use Rattle.pair_events.specs.declared.told.Told.{Told}
 use Rattle.pair_events.specs.declared.told.Event.TheVariants.{Begin, Stay, Over}

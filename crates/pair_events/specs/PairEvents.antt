@@ -1,7 +1,7 @@
 -- What has changed between the pairs of two frames.
 use Rattle.std.specs.Prelude.{Bool, true, not, ◌&&◌, ◌||◌, ◌==◌, nat_lt, List, [], ◌∷◌, ◌++◌, map, filter, if◌then◌else◌}
 use Rattle.std.specs.List.{list_any, list_all}
-use Rattle.fixed_box.specs.Rising.{rises_by}
+use Rattle.slot_lists.specs.Rising.{rises_by}
 use Rattle.live_table.specs.declared.handle.Handle.{Handle}
 use Rattle.pair_events.specs.declared.hpair.HPair.{HPair}
 use Rattle.pair_events.specs.declared.told.Told.{Told}

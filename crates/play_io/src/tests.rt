@@ -4,22 +4,36 @@ use std::io;
 use std::io::{Read, Write};
 use std::test::Fail;
 
-// A device that fails each time.
+// A device that fails the first time, and works from then on.
 #[derive(Drop)]
-struct Broken;
+struct Shaky {
+    failed: bool,
+}
 
-impl Read for Broken {
+impl Read for Shaky {
     fn read(&mut self, _buf: &mut [u8]) -> io::Result<usize> {
+        if self.failed {
+            return Ok(0);
+        }
+        self.failed = true;
         Err(io::Error::from(AllocError))
     }
 }
 
-impl Write for Broken {
-    fn write(&mut self, _buf: &[u8]) -> io::Result<usize> {
+impl Write for Shaky {
+    fn write(&mut self, buf: &[u8]) -> io::Result<usize> {
+        if self.failed {
+            return Ok(buf.len());
+        }
+        self.failed = true;
         Err(io::Error::from(AllocError))
     }
 
     fn flush(&mut self) -> io::Result<()> {
+        if self.failed {
+            return Ok(());
+        }
+        self.failed = true;
         Err(io::Error::from(AllocError))
     }
 }
@@ -70,14 +84,21 @@ fn files_pass_on_bytes_and_faults(rt: HostRuntime) -> Result<(), Fail> {
     assert_eq!(rt; into, *b"ab");
     assert_eq!(rt; source.read(&mut into), Ok(1));
     assert_eq!(rt; source.read(&mut into), Ok(0));
-    assert_eq!(rt; FileSource::new(Broken).read(&mut into), Err(Failed));
+    let mut shaky = FileSource::new(Shaky { failed: false });
+    assert_eq!(rt; shaky.read(&mut into), Err(Failed));
+    assert_eq!(rt; shaky.read(&mut into), Ok(0));
 
     let mut sink = FileSink::new(Vec::new(rt.alloc()));
     assert_eq!(rt; sink.write(b"abc"), Ok(3));
     assert_eq!(rt; sink.write(b""), Ok(0));
     assert_eq!(rt; sink.flush(), Ok(()));
-    assert_eq!(rt; FileSink::new(Broken).write(b"abc"), Err(SinkFault::Failed));
-    assert_eq!(rt; FileSink::new(Broken).flush(), Err(SinkFault::Failed));
+    let mut shaky = FileSink::new(Shaky { failed: false });
+    assert_eq!(rt; shaky.write(b"abc"), Err(SinkFault::Failed));
+    assert_eq!(rt; shaky.write(b"abc"), Ok(3));
+    assert_eq!(rt;
+        FileSink::new(Shaky { failed: false }).flush(),
+        Err(SinkFault::Failed)
+    );
     assert_eq!(rt; FileSink::new(Stuck).write(b"abc"), Err(SinkFault::Failed));
     Ok(())
 }

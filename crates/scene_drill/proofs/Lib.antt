@@ -1,2 +1,5 @@
+pub mod Cutting
+pub mod Digits
 mod Parts
 mod Slots
+pub mod Tallies

@@ -8,7 +8,7 @@ use Rattle.frame_player.specs.declared.status.Status.TheVariants.{Done, WriteFau
 use Rattle.frame_player.specs.Outcome.{IsBegun}
 use Rattle.frame_player.specs.Play.{report}
 use Rattle.made_scene.specs.MadeScene.{made_text}
-use Rattle.report_summary.specs.Summary.{summary}
+use Rattle.scene_drill.specs.Summary.{summary}
 use Rattle.scene_drill.specs.declared.load.Load.{Load}
 
 -- The report of the made scene. Frames end with their exchanges where `shows` asks for it.

@@ -1,3 +1,5 @@
 pub mod Allowed
 pub mod Drill
 pub mod Slots
+pub mod Summary
+pub mod Tally

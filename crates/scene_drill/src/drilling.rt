@@ -1,6 +1,7 @@
 ghost use Rattle.std.specs.Prelude.{◌≡◌, ◌-◌, ◌^◌, ◌<◌, ◌≤◌, true, IfOk};
 ghost use Rattle.broad_index.specs.Fresh.{IsFresh};
 ghost use Rattle.fixed_box.specs.declared.TheConstants.{SLOTS};
+ghost use Rattle.made_scene.specs.declared.TheConstants.{MOST_FRAMES};
 ghost use Rattle.made_scene.specs.MadeScene.{made_text};
 ghost use Rattle.scene_drill.specs.Drill.{output, drill_report, drill_text, IsDrilled};
 
@@ -10,7 +11,6 @@ use fixed_box::{NoMemory, SLOTS};
 use frame_player::{Limits, Options, Status, play, write_all};
 use made_scene::drill_scene;
 use play_io::{HonestSink, HonestSource, Sink, SinkFault};
-use report_summary::put_summary;
 use scene_lines::MOST_LINES;
 use std::alloc::Global;
 use std::thread::Threads;
@@ -34,7 +34,7 @@ pub fn drill<R: Threads + Sync, B: BroadPhase + Sync + Drop, G: Gate + Sync, K: 
     requires workers { (1 ≤ options.workers) × (options.workers ≤ 16) }
     requires shown { options.exchanges ≡ true → B.COUNTS ≡ true }
     requires boxes { (1 ≤ load.boxes) × (load.boxes ≤ SLOTS) }
-    requires frames { (1 ≤ load.frames) × (load.frames ≤ 100) }
+    requires frames { (1 ≤ load.frames) × (load.frames ≤ MOST_FRAMES) }
     requires sink_count { K.faults sink.old < 2 ^ 64 - 1 }
 
     // How each status leaves the sink.
@@ -67,7 +67,7 @@ fn summary_text<R: Threads + Sync, B: BroadPhase + Sync + Drop, G: Gate + Sync>(
     requires workers { (1 ≤ options.workers) × (options.workers ≤ 16) }
     requires shown { options.exchanges ≡ true → B.COUNTS ≡ true }
     requires boxes { (1 ≤ load.boxes) × (load.boxes ≤ SLOTS) }
-    requires frames { (1 ≤ load.frames) × (load.frames ≤ 100) }
+    requires frames { (1 ≤ load.frames) × (load.frames ≤ MOST_FRAMES) }
     ensures { IfOk result (λ text. text.items ≡ drill_text load options.exchanges) }
 {
     let kept = made_report(rt, alloc, index, load, options, gate)?;
@@ -95,7 +95,7 @@ fn made_report<R: Threads + Sync, B: BroadPhase + Sync + Drop, G: Gate + Sync>(
     requires workers { (1 ≤ options.workers) × (options.workers ≤ 16) }
     requires shown { options.exchanges ≡ true → B.COUNTS ≡ true }
     requires boxes { (1 ≤ load.boxes) × (load.boxes ≤ SLOTS) }
-    requires frames { (1 ≤ load.frames) × (load.frames ≤ 100) }
+    requires frames { (1 ≤ load.frames) × (load.frames ≤ MOST_FRAMES) }
     ensures { IfOk result (λ kept. kept.written ≡ drill_report load options.exchanges) }
 {
     made_scene_is_played();
@@ -116,7 +116,7 @@ fn made_report<R: Threads + Sync, B: BroadPhase + Sync + Drop, G: Gate + Sync>(
 // The made scene as a source. What it is made in is let go.
 fn made_source(alloc: Global, load: Load) -> Result<HonestSource, NoMemory>
     requires boxes { (1 ≤ load.boxes) × (load.boxes ≤ SLOTS) }
-    requires frames { (1 ≤ load.frames) × (load.frames ≤ 100) }
+    requires frames { (1 ≤ load.frames) × (load.frames ≤ MOST_FRAMES) }
     ensures { IfOk result (λ source. source.left ≡ made_text load.seed load.boxes load.frames) }
 {
     let mut scene = Vec::new(alloc);

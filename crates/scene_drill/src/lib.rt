@@ -4,10 +4,17 @@
 mod drilling;
 mod load;
 mod made_play;
+mod number;
+mod pieces;
+mod summary;
+mod tally;
 
 pub use drilling::drill;
 pub use load::Load;
 pub use made_play::made_scene_is_played;
+pub use summary::put_summary;
 
+#[cfg(test)]
+mod summary_tests;
 #[cfg(test)]
 mod tests;

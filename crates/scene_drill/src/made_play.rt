@@ -4,6 +4,7 @@ ghost use Rattle.frame_player.specs.AllowedScene.{AreAllowed, after_all};
 ghost use Rattle.frame_player.specs.Play.{played};
 ghost use Rattle.frame_player.specs.World.{opening};
 ghost use Rattle.frame_player.specs.declared.status.Status.TheVariants.{Done};
+ghost use Rattle.made_scene.specs.declared.TheConstants.{MOST_FRAMES};
 ghost use Rattle.made_scene.specs.MadeScene.{made_scene, made_text};
 ghost use Rattle.scene_lines.specs.SceneLines.{lines};
 ghost use Rattle.scene_lines.specs.declared.TheConstants.{MOST_LINES};
@@ -16,7 +17,7 @@ use made_scene::made_scene_laws;
 pub fn made_scene_is_played()
     ensures allowed { (seed boxes count : ℕ) → 1 ≤ boxes → boxes ≤ SLOTS → AreAllowed opening (made_scene seed boxes count) }
     ensures header { (seed boxes count : ℕ) → 1 ≤ boxes → boxes ≤ SLOTS → (after_all opening (made_scene seed boxes count)).header ≡ true }
-    ensures done { (shows : Bool) (seed boxes count : ℕ) → 1 ≤ boxes → boxes ≤ SLOTS → count ≤ 100
+    ensures done { (shows : Bool) (seed boxes count : ℕ) → 1 ≤ boxes → boxes ≤ SLOTS → count ≤ MOST_FRAMES
         → (played shows MOST_LINES (lines (made_text seed boxes count) true)).status ≡ Done }
 {
     printed_scene_ends();

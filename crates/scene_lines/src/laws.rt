@@ -1,5 +1,6 @@
 ghost use Rattle.std.specs.Prelude.{◌≡◌, ◌+◌, ◌<◌, ◌≤◌, ℕ, List, [], ◌∷◌, ◌++◌, length, take, true, false, Option};
 ghost use Rattle.std.specs.List.{count_by};
+ghost use Rattle.scene_lines.specs.declared.TheConstants.{BUFFER_LEN, LONGEST_LINE, MOST_LINES};
 ghost use Rattle.scene_lines.specs.Reading.{coming};
 ghost use Rattle.scene_lines.specs.SceneLines.{lines, is_feed, has_feed, length_ahead, line_ahead, past_line, IsPrefix};
 
@@ -19,4 +20,11 @@ pub fn line_laws()
     ensures one_feed { (bytes : List ℕ) → count_by is_feed (take (length_ahead bytes + 1) bytes) ≤ 1 }
     // Bytes held in two parts come as the first part does before the other.
     ensures in_parts { (front back : List ℕ) (left : Option (List ℕ)) → coming (front ++ back) left ≡ coming front (coming back left) }
+{}
+
+/// The limits of a scene as numbers. It does nothing.
+pub fn line_limits()
+    ensures most { MOST_LINES ≡ 268435456 }
+    ensures longest { LONGEST_LINE ≡ 1024 }
+    ensures buffer { BUFFER_LEN ≡ 65536 }
 {}

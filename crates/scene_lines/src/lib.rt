@@ -9,7 +9,7 @@ mod line_reader;
 mod next;
 
 pub use examples::worked_lines;
-pub use laws::line_laws;
+pub use laws::{line_laws, line_limits};
 pub use line_reader::LineReader;
 pub use next::Next;
 

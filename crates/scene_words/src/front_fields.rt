@@ -7,8 +7,9 @@ ghost use Rattle.scene_words.specs.SceneWords.{words, number_at, point_at, handl
 
 use crate::line_words::{after_blanks, next_word};
 use crate::values::number_of_word;
-use fixed_box::{Fix, Point, digits_ahead, fix_ahead, printed_fix_ahead};
+use fixed_box::{Fix, Point};
 use live_table::Handle;
+use number_front::{digits_ahead, fix_ahead, printed_fix_ahead};
 
 // The most digits of a mask.
 const MASK_DIGITS: usize = 8;

@@ -7,7 +7,7 @@ mod text_line;
 pub use text_line::TextLine;
 
 /// The most bytes of a line. The longest line of a scene and the longest of a report have fewer.
-pub const ROOM: usize = 128;
+pub const ROOM: usize = 144;
 
 #[cfg(test)]
 mod tests;

@@ -2,6 +2,7 @@ ghost use Rattle.std.specs.Prelude.{◌≡◌, ◌*◌, ◌^◌, ◌<◌, ◌≤
 ghost use denote.Param.Send.{IsSync, IsSend};
 ghost use Rattle.std.specs.Int.{div_ceil};
 ghost use Rattle.std.specs.Fork.{slice_chunk};
+ghost use Rattle.work_pieces.specs.declared.TheConstants.{MOST_WORKERS};
 ghost use Rattle.work_pieces.specs.Each.{Each, Accepts, AcceptsAll, Gives};
 ghost use Rattle.work_pieces.specs.Runs.{AcceptsRuns, chunks_to, pieces_of, put_together};
 
@@ -30,7 +31,7 @@ pub fn by_pieces<
     answer: &F,
 ) -> Result<Vec<X>, NoMemory>
     requires few { length items.now < 2 ^ 32 }
-    requires workers { (1 ≤ workers) × (workers ≤ 16) }
+    requires workers { (1 ≤ workers) × (workers ≤ MOST_WORKERS) }
     requires accepts { AcceptsAll F.Fn answer.now items.now }
     ensures { IfOk result (λ answers. Each (Gives F.Fn answer.now) items.now answers.items) }
 {
@@ -67,7 +68,7 @@ pub fn by_runs<
     answer: &F,
 ) -> Result<Vec<X>, NoMemory>
     requires few { length items.now < 2 ^ 32 }
-    requires workers { (1 ≤ workers) × (workers ≤ 16) }
+    requires workers { (1 ≤ workers) × (workers ≤ MOST_WORKERS) }
     requires accepts { AcceptsRuns F.Fn answer.now items.now }
     ensures { IfOk result (λ answers. Each (Gives F.Fn answer.now) (pieces_of workers items.now) answers.items) }
 {

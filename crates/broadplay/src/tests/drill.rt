@@ -1,7 +1,9 @@
 ghost use Rattle.std.specs.Prelude.{◌<◌, ◌≤◌};
+ghost use Rattle.work_pieces.specs.declared.TheConstants.{MOST_WORKERS};
 
 use super::*;
 use fixed_box::{FBox, NoMemory, SLOTS};
+use scene_drill::{Load, drill};
 use scene_words::{Command, Version, read_command};
 
 // What a command line writes that reads nothing, with the status.
@@ -72,25 +74,27 @@ fn each_structure_has_the_same_summary(rt: HostRuntime) -> Result<(), Fail> {
     let alloc = rt.alloc();
     let (plain, _) = drilled(&rt, alloc, &["drill", "7", "2000", "50", "--with", "plain"])?;
     assert!(rt; plain.starts_with(b"boxes 2000\nframes 50\nadds 2050\npairs "));
-    for structure in ["plain", "sap", "tree", "grid"] {
-        for workers in ["1", "4", "16"] {
-            let (summary, status) = drilled(
-                &rt,
-                alloc,
-                &[
-                    "drill",
-                    "7",
-                    "2000",
-                    "50",
-                    "--with",
-                    structure,
-                    "--workers",
-                    workers,
-                ],
-            )?;
-            assert_eq!(rt; status, Status::Done);
-            assert_eq!(rt; summary.as_slice(), plain.as_slice());
-        }
+    let rows = [
+        ("sap", "1"),
+        ("plain", "4"),
+        ("sap", "4"),
+        ("tree", "4"),
+        ("grid", "4"),
+    ];
+    for (structure, workers) in rows {
+        let words = [
+            "drill",
+            "7",
+            "2000",
+            "50",
+            "--with",
+            structure,
+            "--workers",
+            workers,
+        ];
+        let (summary, status) = drilled(&rt, alloc, &words)?;
+        assert_eq!(rt; status, Status::Done);
+        assert_eq!(rt; summary.as_slice(), plain.as_slice());
     }
     Ok(())
 }
@@ -104,7 +108,7 @@ fn played_by_threads<R: Threads + Sync + Abort>(
     scene: &[u8],
     report: &[u8],
 ) -> Result<(), Fail>
-    requires { (1 ≤ workers) × (workers ≤ 16) }
+    requires { (1 ≤ workers) × (workers ≤ MOST_WORKERS) }
 {
     let done = Status::Done;
     let tree = BoxTree::new(alloc)?;
@@ -172,6 +176,28 @@ fn a_sink_that_fails_has_a_part_of_the_summary(rt: HostRuntime) -> Result<(), Fa
         assert_eq!(rt; sink.calls(), u64::from(call) + 1);
         assert_eq!(rt; source.calls(), 0);
     }
+    Ok(())
+}
+
+// The four queries of a drill's frame and its two touched boxes are each two pieces.
+#[test]
+fn two_threads_play_a_drill(rt: HostRuntime) -> Result<(), Fail> {
+    let alloc = rt.alloc();
+    let gate = meeting();
+    let index = BoxTree::new(alloc)?;
+    let load = Load {
+        seed: 42,
+        boxes: 2,
+        frames: 1,
+    };
+    let options = Options {
+        workers: 2,
+        exchanges: false,
+    };
+    let mut sink = HonestSink::new(alloc, 7);
+    let answer = drill(&rt, alloc, index, load, options, &gate, &mut sink);
+    assert_eq!(rt; answer, Status::Done);
+    assert_eq!(rt; gate.met.load(Ordering::SeqCst), 4);
     Ok(())
 }
 
@@ -251,7 +277,7 @@ impl Applied {
         workers: u32,
         command: &Command,
     ) -> Result<u64, NoMemory>
-        requires { (1 ≤ workers) × (workers ≤ 16) }
+        requires { (1 ≤ workers) × (workers ≤ MOST_WORKERS) }
     {
         if *command != Command::Frame {
             return Ok(0);
@@ -270,7 +296,7 @@ fn pairs_of<R: Threads + Sync>(
     scene: &[u8],
     applied: &mut Applied,
 ) -> Result<u64, NoMemory>
-    requires { (1 ≤ workers) × (workers ≤ 16) }
+    requires { (1 ≤ workers) × (workers ≤ MOST_WORKERS) }
 {
     let mut pairs = 0u64;
     for line in scene.split(|byte| *byte == b'\n') {
@@ -291,7 +317,7 @@ fn compares_few<R: Threads + Sync + Abort>(
     workers: u32,
     scene: &[u8],
 ) -> Result<(), Fail>
-    requires { (1 ≤ workers) × (workers ≤ 16) }
+    requires { (1 ≤ workers) × (workers ≤ MOST_WORKERS) }
 {
     let mut applied = Applied {
         grid: HierGrid::new(alloc)?,

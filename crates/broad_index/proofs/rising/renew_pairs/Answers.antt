@@ -1,7 +1,7 @@
 -- kept pairs and found ones, put in order and merged
 use Rattle.std.proofs.Common.{◌++◌, ◌||◌, ◌∙◌, ap}
 use Rattle.std.specs.List.{filter}
-use Rattle.fixed_box.specs.RisingLaws.{filtered_rise}
+use Rattle.slot_lists.specs.RisingLaws.{filtered_rise}
 use Rattle.broad_index.specs.Near.{precedes}
 use Rattle.broad_index.specs.Members.{has_pair}
 use Rattle.broad_index.specs.Touched.{stays}

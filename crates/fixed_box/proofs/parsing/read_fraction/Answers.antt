@@ -2,7 +2,8 @@
 use Rattle.std.proofs.Common.{◌≡◌, ◌-◌, ◌≤◌, true, get_or, sym, ◌∙◌, arith}
 use Rattle.std.proofs.lemmas.Grind.{common_steps}
 use Rattle.std.specs.Char.{is_ascii_digit}
-use Rattle.fixed_box.proofs.DigitRuns.{fraction_step_at, digit_small}
+use Rattle.fixed_box.specs.DigitLaws.{digit_small}
+use Rattle.fixed_box.proofs.DigitRuns.{fraction_step_at}
 use Rattle.fixed_box.proofs.parsing.read_fraction.Goals as goal
 
 pub fraction-preserved : goal.fraction-preserved

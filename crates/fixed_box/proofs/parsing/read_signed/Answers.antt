@@ -1,7 +1,7 @@
 -- The nearest raw magnitude with its sign is the nearest raw number.
 use Rattle.std.proofs.Common.{◌==◌, ◌∙◌}
 use Rattle.std.specs.List.{slice_split}
-use Rattle.fixed_box.proofs.Magnitude.{signed_fix}
+use Rattle.fixed_box.specs.MagnitudeLaws.{signed_fix}
 use Rattle.fixed_box.proofs.parsing.read_signed.Goals as goal
 
 pub returns-in-Some : goal.returns-in-Some

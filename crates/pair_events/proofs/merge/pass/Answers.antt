@@ -1,6 +1,6 @@
 -- A former pair that stands before a present one stands before all later ones, so it is none of them and is over.
 use Rattle.std.proofs.Common.{◌≡◌, ◌∷◌, [], ◌++◌, true, sym, ◌∙◌, ap}
-use Rattle.fixed_box.specs.RisingLaws.{later_rise}
+use Rattle.slot_lists.specs.RisingLaws.{later_rise}
 use Rattle.pair_events.specs.declared.told.Event.TheVariants.{Over}
 use Rattle.pair_events.specs.PairEvents.{kept_or_begun, ended, precedes, rises}
 use Rattle.pair_events.proofs.Steps.{pushed, passed_kept, passed_ended}

@@ -1,7 +1,7 @@
 -- Nothing is there.
 use Rattle.std.proofs.Common.{ℕ, ◌∙◌, ap, length, false, refl}
 use Rattle.std.proofs.lemmas.List.{length-replicate}
-use Rattle.fixed_box.specs.SlotMapLaws.{map_blank}
+use Rattle.slot_lists.specs.SlotMapLaws.{map_blank}
 use Rattle.box_tree.proofs.Soundness.{sound_none, same_outset, unlisted}
 use Rattle.box_tree.proofs.tree.BoxTree.new.Goals as goal
 

@@ -2,7 +2,7 @@
 use Rattle.std.proofs.Common.{◌<◌, ◌∙◌, arith, sym, ap, subst, set, None, Some, true}
 use Rattle.std.proofs.lemmas.List.{get_or_read}
 use Rattle.box_tree.specs.Boxes.{is_inside}
-use Rattle.fixed_box.specs.SlotMap.{map_of}
+use Rattle.slot_lists.specs.SlotMap.{map_of}
 use Rattle.box_tree.specs.Ties.{Sound, Ties}
 use Rattle.box_tree.proofs.Changes.{present_small, present_fat, put_viewed, inside_told, outside_told, inside_shifted, outside_shifted}
 use Rattle.box_tree.proofs.Changes.{sound_inside, sound_put}

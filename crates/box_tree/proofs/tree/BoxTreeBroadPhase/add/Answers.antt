@@ -2,7 +2,7 @@
 use Rattle.std.proofs.Common.{◌<◌, ◌∙◌, sym, ap, subst, set, Some, true}
 use Rattle.fixed_box.specs.Bounds.{fattened}
 use Rattle.box_tree.specs.declared.TheConstants.{MARGIN}
-use Rattle.fixed_box.specs.SlotMap.{map_of}
+use Rattle.slot_lists.specs.SlotMap.{map_of}
 use Rattle.box_tree.specs.Ties.{Sound, Ties}
 use Rattle.box_tree.proofs.Changes.{absent_fat, put_viewed, sound_put}
 use Rattle.box_tree.proofs.Soundness.{unlisted}

@@ -1,6 +1,6 @@
 -- The slot, its leaf and its fat box go.
 use Rattle.std.proofs.Common.{◌<◌, ◌∙◌, arith, sym, ap, subst, set, None, true}
-use Rattle.fixed_box.specs.SlotMap.{map_of}
+use Rattle.slot_lists.specs.SlotMap.{map_of}
 use Rattle.box_tree.specs.Ties.{Sound, Ties}
 use Rattle.box_tree.proofs.Changes.{present_small, present_fat, take_viewed, sound_taken}
 use Rattle.box_tree.proofs.Soundness.{unlisted}

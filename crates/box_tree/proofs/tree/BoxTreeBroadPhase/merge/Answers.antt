@@ -1,7 +1,7 @@
 -- What the pieces found renews the pairs.
 use Rattle.std.proofs.Common.{map, ap, ◌∙◌}
 use Rattle.std.specs.List.{sum}
-use Rattle.fixed_box.specs.SlotMap.{map_of}
+use Rattle.slot_lists.specs.SlotMap.{map_of}
 use Rattle.work_pieces.specs.Runs.{put_together}
 use Rattle.broad_index.specs.Members.{has_pair}
 use Rattle.box_tree.specs.Boxes.{raised}

@@ -3,7 +3,7 @@ use Rattle.std.proofs.Common.{◌∙◌, sym, ap, subst}
 use Rattle.broad_index.specs.Touched.{AreKept, Renewed}
 use Rattle.box_tree.specs.Searches.{looked_for, sought_from}
 use Rattle.box_tree.specs.Ties.{Sound}
-use Rattle.fixed_box.specs.SlotMap.{map_of}
+use Rattle.slot_lists.specs.SlotMap.{map_of}
 use Rattle.box_tree.proofs.Searching.{sound_renewed, near_viewed, same_searched, costs_viewed}
 use Rattle.box_tree.proofs.Soundness.{unlisted}
 use Rattle.box_tree.proofs.tree.BoxTreeBroadPhase.pairs.Goals as goal

@@ -1,6 +1,6 @@
 -- A search of some slots finds their pairs.
 use Rattle.std.proofs.Common.{◌∙◌, ap, sym, subst}
-use Rattle.fixed_box.specs.SlotMap.{map_of}
+use Rattle.slot_lists.specs.SlotMap.{map_of}
 use Rattle.broad_index.specs.Held.{Holds}
 use Rattle.box_tree.specs.Descent.{exact_in}
 use Rattle.box_tree.specs.Preorder.{preorder_in}

@@ -3,7 +3,7 @@ use Rattle.std.proofs.Common.{arith, sym, ◌∙◌, None, ap}
 use Rattle.std.proofs.lemmas.List.{get_or_read}
 use Rattle.cell_table.proofs.KeptLemmas.{past}
 use Rattle.std.specs.FinMap.{get}
-use Rattle.fixed_box.specs.SlotMapLaws.{get_map}
+use Rattle.slot_lists.specs.SlotMapLaws.{get_map}
 use Rattle.cell_table.proofs.table.CellTable.key_of.Goals as goal
 
 pub returns-then-slot-len : goal.returns-then-slot-len

@@ -4,7 +4,7 @@ use Rattle.std.specs.List.{filter}
 use Rattle.std.proofs.lemmas.List.{get_or_read}
 use Rattle.cell_table.specs.declared.cell_key.CellKey.{CellKey}
 use Rattle.cell_table.specs.Cells.{slots_at}
-use Rattle.fixed_box.specs.SlotMapLaws.{entries_of_map}
+use Rattle.slot_lists.specs.SlotMapLaws.{entries_of_map}
 use Rattle.cell_table.proofs.KeptLemmas.{len_passing}
 use Rattle.cell_table.proofs.table.CellTable.level_len.Goals as goal
 

@@ -1,5 +1,5 @@
 -- Every ring is empty.
-use Rattle.fixed_box.specs.SlotMapLaws.{map_blank}
+use Rattle.slot_lists.specs.SlotMapLaws.{map_blank}
 use Rattle.cell_table.proofs.KeptLemmas.{kept_new}
 use Rattle.cell_table.proofs.table.CellTable.new.Goals as goal
 

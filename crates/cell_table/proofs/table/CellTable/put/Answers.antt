@@ -3,7 +3,7 @@ use Rattle.std.proofs.Common.{◌≡◌, arith, sym, ◌∙◌, ap, subst, ◌<�
 use Rattle.std.specs.FinMap.{insert, contains_key}
 use Rattle.std.proofs.lemmas.List.{get_or_read}
 use Rattle.cell_table.specs.declared.TheConstants.{BUCKETS}
-use Rattle.fixed_box.specs.SlotMapLaws.{map_put}
+use Rattle.slot_lists.specs.SlotMapLaws.{map_put}
 use Rattle.cell_table.proofs.RingLemmas.{put_inside}
 use Rattle.cell_table.proofs.KeptLemmas.{kept_put, count_few, absent_is}
 use Rattle.cell_table.proofs.table.CellTable.put.Goals as goal

@@ -4,7 +4,7 @@ use Rattle.std.specs.FinMap.{remove}
 use Rattle.std.proofs.lemmas.Bool.{false≢true}
 use Rattle.std.proofs.lemmas.List.{get_or_read}
 use Rattle.cell_table.specs.declared.TheConstants.{LEVELS}
-use Rattle.fixed_box.specs.SlotMapLaws.{map_take}
+use Rattle.slot_lists.specs.SlotMapLaws.{map_take}
 use Rattle.cell_table.proofs.KeptLemmas.{kept_take, present_within, present_some, present, bucket_below}
 use Rattle.cell_table.proofs.table.CellTable.take.Goals as goal
 

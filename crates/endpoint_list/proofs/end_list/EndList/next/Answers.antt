@@ -3,7 +3,7 @@ use Rattle.std.proofs.Common.{◌++◌, ◌∷◌, ◌∙◌, subst, arith}
 use Rattle.endpoint_list.specs.declared.TheConstants.{NODES}
 use Rattle.endpoint_list.specs.Links.{IsKept}
 use Rattle.endpoint_list.specs.NodeList.{IsNodeList}
-use Rattle.fixed_box.specs.LinkLaws.{Below-right, Links-right}
+use Rattle.slot_lists.specs.LinkLaws.{Below-right, Links-right}
 use Rattle.endpoint_list.proofs.NodeLemmas.{node_list}
 use Rattle.endpoint_list.proofs.LinkLemmas.{first_read, beside}
 use Rattle.endpoint_list.proofs.end_list.EndList.next.Goals as goal

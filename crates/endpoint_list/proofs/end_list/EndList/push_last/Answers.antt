@@ -1,6 +1,6 @@
 -- The links keep the list with the node behind the last.
 use Rattle.std.proofs.Common.{◌++◌, ◌∷◌, [], ◌∙◌, ap}
-use Rattle.fixed_box.specs.Links.{Fresh}
+use Rattle.slot_lists.specs.Links.{Fresh}
 use Rattle.endpoint_list.specs.Links.{listed}
 use Rattle.endpoint_list.specs.NodeList.{has}
 use Rattle.endpoint_list.proofs.NodeLemmas.{has_fresh}

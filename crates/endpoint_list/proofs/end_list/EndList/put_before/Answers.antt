@@ -1,6 +1,6 @@
 -- The links keep the list with the node before the other.
 use Rattle.std.proofs.Common.{◌++◌, ◌∷◌, ◌∙◌, ap, sym, subst, arith}
-use Rattle.fixed_box.specs.Links.{Fresh}
+use Rattle.slot_lists.specs.Links.{Fresh}
 use Rattle.endpoint_list.specs.Links.{IsKept}
 use Rattle.endpoint_list.specs.NodeList.{has}
 use Rattle.endpoint_list.proofs.NodeLemmas.{has_fresh}

@@ -2,7 +2,8 @@
 use Rattle.std.proofs.Common.{subst, map, ◌∙◌, ap}
 use Rattle.work_pieces.specs.Runs.{put_together}
 use Rattle.broad_index.specs.Members.{has_pair}
-use Rattle.hier_grid.specs.Search.{FindsRun, present}
+use Rattle.hier_grid.specs.Search.{FindsRun}
+use Rattle.slot_lists.specs.Present.{present}
 use Rattle.hier_grid.proofs.RunLemmas.{present_found, runs_found, settled_finds}
 use Rattle.hier_grid.proofs.grid.HierGridBroadPhase.merge.Goals as goal
 

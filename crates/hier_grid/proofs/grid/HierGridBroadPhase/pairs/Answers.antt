@@ -1,7 +1,8 @@
 -- All present slots are searched.
 use Rattle.std.proofs.Common.{◌≡◌, ◌++◌, subst, ◌∙◌, ap}
 use Rattle.broad_index.specs.Near.{near}
-use Rattle.hier_grid.specs.Search.{FindsRun, present}
+use Rattle.hier_grid.specs.Search.{FindsRun}
+use Rattle.slot_lists.specs.Present.{present}
 use Rattle.hier_grid.proofs.RunLemmas.{present_found}
 use Rattle.hier_grid.proofs.grid.HierGridBroadPhase.pairs.Goals as goal
 

@@ -1,0 +1,2 @@
+mod FrontNumbers
+mod PrintedWords

@@ -1,0 +1,7 @@
+pub mod LinkLaws
+pub mod Links
+pub mod Present
+pub mod Rising
+pub mod RisingLaws
+pub mod SlotMap
+pub mod SlotMapLaws

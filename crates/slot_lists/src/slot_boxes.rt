@@ -1,0 +1,148 @@
+ghost use Rattle.std.specs.Prelude.{◌≡◌, ℕ, ◌<◌, ◌≤◌, true, false, None, IfOk, OnOk, length};
+ghost use Rattle.std.specs.Prelude.{All, count_by, is_some, map as mapped, slice_index_or};
+ghost use Rattle.std.specs.FinMap as map;
+ghost use Rattle.slot_lists.specs.SlotMap.{entries_from};
+ghost use Rattle.slot_lists.specs.Present.{present};
+
+use fixed_box::{FBox, NoMemory, SLOTS};
+use std::alloc::Global;
+use std::marker::Model;
+
+/// Boxes by their slots, seen as a map from slot to box. Only `new` takes memory.
+#[derive(Drop)]
+pub struct SlotBoxes {
+    boxes: Vec<Option<FBox>>,
+}
+
+impl Model for SlotBoxes {
+    ghost use Rattle.std.specs.Prelude.{◌≡◌, length};
+    ghost use Rattle.std.specs.Ordering.{nat_cmp};
+    ghost use Rattle.std.specs.Coded.{coded_ℕ};
+    ghost use Rattle.std.specs.FinMap.{FinMap, code};
+    ghost use Rattle.fixed_box.specs.Bounds.{Bounds, coded_bounds};
+    ghost use Rattle.fixed_box.specs.declared.TheConstants.{SLOTS};
+    ghost use Rattle.slot_lists.specs.SlotMap.{map_of};
+
+    ghost Value = { FinMap nat_cmp Bounds };
+
+    ghost coded = { code coded_ℕ coded_bounds };
+
+    ghost view = { λ b. map_of b.boxes.items };
+
+    ghost invariant = { λ b. length b.boxes.items ≡ SLOTS };
+}
+
+impl SlotBoxes {
+    /// No box, with the memory for all slots.
+    pub fn new(alloc: Global) -> Result<SlotBoxes, NoMemory>
+        ensures { IfOk result (λ boxes. boxes ≡ map.empty) }
+    {
+        Ok(SlotBoxes {
+            boxes: no_boxes(alloc)?,
+        })
+    }
+
+    /// The box of a slot, and `None` where the slot is absent.
+    #[inline(always)]
+    pub fn box_of(&self, slot: u32) -> Option<FBox>
+        ensures { result ≡ map.get self.now slot }
+    {
+        let slot = slot as usize;
+        if slot < self.boxes.len() {
+            self.boxes[slot]
+        } else {
+            None
+        }
+    }
+
+    /// Puts a box under an absent slot. It takes no memory.
+    pub fn put(&mut self, slot: u32, body: FBox)
+        requires small { slot < SLOTS }
+        requires absent { map.contains_key self.old slot ≡ false }
+        ensures { self.new ≡ map.insert self.old slot body }
+    {
+        self.boxes[slot as usize] = Some(body);
+    }
+
+    /// Gives a present slot another box. It takes no memory.
+    pub fn set(&mut self, slot: u32, body: FBox)
+        requires { map.contains_key self.old slot ≡ true }
+        ensures { self.new ≡ map.insert self.old slot body }
+    {
+        self.boxes[slot as usize] = Some(body);
+    }
+
+    /// Takes a present slot out. It takes no memory.
+    pub fn take(&mut self, slot: u32)
+        requires { map.contains_key self.old slot ≡ true }
+        ensures { self.new ≡ map.remove self.old slot }
+    {
+        self.boxes[slot as usize] = None;
+    }
+
+    /// How many slots are present. It looks at each slot.
+    pub fn len(&self) -> usize
+        ensures { result ≡ length (present self.now) }
+    {
+        count_present(&self.boxes)
+    }
+
+    /// The present slots, rising.
+    pub fn present(&self, alloc: Global) -> Result<Vec<u32>, NoMemory>
+        ensures slots { IfOk result (λ slots. slots.items ≡ present self.now) }
+        ensures few { IfOk result (λ slots. length slots.items ≤ SLOTS) }
+        ensures present { IfOk result (λ slots. All (λ slot. map.contains_key self.now slot ≡ true) slots.items) }
+    {
+        let mut slots = Vec::with_capacity(alloc, SLOTS as usize)?;
+        self.list(&mut slots)?;
+        Ok(slots)
+    }
+
+    /// Replaces a list by the present slots, rising.
+    pub fn list(&self, slots: &mut Vec<u32>) -> Result<(), NoMemory>
+        ensures slots { OnOk result (slots.new.items ≡ present self.now) }
+        ensures few { OnOk result (length slots.new.items ≤ SLOTS) }
+        ensures present { OnOk result (All (λ slot. map.contains_key self.now slot ≡ true) slots.new.items) }
+    {
+        list_present(&self.boxes, slots)?;
+        Ok(())
+    }
+}
+
+// No slot has a box.
+fn no_boxes(alloc: Global) -> Result<Vec<Option<FBox>>, NoMemory>
+    ensures len { IfOk result (λ boxes. length boxes.items ≡ SLOTS) }
+    ensures none { IfOk result (λ boxes. (k : ℕ) → slice_index_or boxes.items k None ≡ None) }
+{
+    let mut boxes = Vec::with_capacity(alloc, SLOTS as usize)?;
+    'boxes: for _slot in 0..SLOTS {
+        boxes.push(None)?;
+    }
+    Ok(boxes)
+}
+
+// How many slots have boxes.
+fn count_present(boxes: &[Option<FBox>]) -> usize
+    ensures { result ≡ count_by is_some boxes.now }
+{
+    boxes.iter().filter(|body| body.is_some()).count()
+}
+
+// Replaces a list by the slots that have boxes.
+fn list_present(boxes: &[Option<FBox>], slots: &mut Vec<u32>) -> Result<(), NoMemory>
+    requires { length boxes.now ≡ SLOTS }
+    ensures slots { OnOk result (slots.new.items ≡ mapped (λ e. e.0) (entries_from 0 boxes.now)) }
+    ensures few { OnOk result (length slots.new.items ≤ SLOTS) }
+{
+    slots.clear();
+    let mut rest = boxes;
+    let mut slot = 0;
+    'slots: while let [body, more @ ..] = rest {
+        if body.is_some() {
+            slots.push(slot)?;
+        }
+        slot += 1;
+        rest = more;
+    }
+    Ok(())
+}
