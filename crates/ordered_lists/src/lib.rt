@@ -1,0 +1,13 @@
+//! Lists put in rising order: `ordered_by` says what that is for each order, and what std's sorts give is that.
+#![tactic(auto)]
+
+mod front;
+mod laws;
+mod order;
+
+pub use front::{keep_front_in_order, push_front_in_order};
+pub use laws::{image_laws, least_laws, order_laws};
+pub use order::{put_in_order, put_in_order_stably};
+
+#[cfg(test)]
+mod tests;
