@@ -1,4 +1,4 @@
--- This file only serves proofs: the links that keep a list. The node NODES stands before the first and behind the last.
+-- Serves proofs alone: the links that keep a list. The node NODES stands before the first and behind the last.
 use Rattle.std.specs.Prelude.{◌≡◌, ℕ, zero, suc, ◌+◌, ◌<◌, ◌==◌, nat_lt, if◌then◌else◌, List, [], ◌∷◌, length, slice_index, slice_set, Option, None, Some}
 use Rattle.endpoint_list.specs.declared.TheConstants.{NODES}
 use Rattle.slot_lists.specs.Links.{Fresh, Distinct, Below, Links}

@@ -1,4 +1,4 @@
--- This file only serves proofs: the places of the bits of a number.
+-- Serves proofs alone: the places of the bits of a number.
 use Rattle.std.specs.Prelude.{ℕ, zero, suc, ◌+◌, ◌/◌, ◌%◌, ◌==◌, List, [], ◌∷◌, if◌then◌else◌}
 
 -- the places of the bits that are set among the lowest, counted from a number on

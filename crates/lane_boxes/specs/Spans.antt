@@ -1,4 +1,4 @@
--- This file only serves proofs: the intervals of boxes on each axis, and the boxes that they make.
+-- Serves proofs alone: the intervals of boxes on each axis, and the boxes that they make.
 use Rattle.std.specs.Prelude.{◌≡◌, ℕ, ℤ, negsuc, pos, Bool, ◌&&◌, IsTrue, int_le, List, length, ◌≤◌, All, FitsSigned, if◌then◌else◌}
 use Rattle.std.specs.Int.{w32}
 use Rattle.std.specs.Simd.Lanes.{zip2, Each1}

@@ -1,4 +1,4 @@
--- Serves proofs: the parts of a made scene, each command allowed where it stands.
+-- Serves proofs alone: the parts of a made scene, each command allowed where it stands.
 use Rattle.std.specs.Prelude.{◌≡◌, ℕ, true, length}
 use Rattle.frame_player.specs.AllowedScene.{AreAllowed, after_all}
 use Rattle.frame_player.specs.World.{World}

@@ -1,4 +1,4 @@
--- Serves proofs: a table whose boxes have the slots from 0 on, with no gap.
+-- Serves proofs alone: a table whose boxes have the slots from 0 on, with no gap.
 use Rattle.std.specs.Prelude.{◌≡◌, ℕ, ◌+◌, ◌-◌, List, [], ◌∷◌, ◌++◌, suc, length, map, replicate, slice_set}
 use Rattle.fixed_box.specs.declared.TheConstants.{SLOTS}
 use Rattle.live_table.specs.declared.live.Live.{Live}

@@ -1,4 +1,4 @@
--- It serves proofs: what holds of distinct numbers, and of links after single writes.
+-- Serves proofs alone: what holds of distinct numbers, and of links after single writes.
 use Rattle.std.proofs.Common.{◌≡◌, ◌≢◌, ℕ, ◌<◌, ◌≤◌, List, [], ◌∷◌, ◌++◌, length, get_or, set, eqb, sym, ◌∙◌, subst, arith, true, false, inl, inr}
 use Rattle.std.proofs.lemmas.List.{get_or-set_same, get_or-set_other}
 use Rattle.std.proofs.lemmas.Map.Steps.{length-le_from_distinct_below}

@@ -1,4 +1,4 @@
--- Serves proofs: distinct numbers, and arrays of links that lead from one to the next and back.
+-- Serves proofs alone: distinct numbers, and arrays of links that lead from one to the next and back.
 use Rattle.std.specs.Prelude.{◌≡◌, ◌≢◌, ℕ, ◌<◌, List, [], ◌∷◌, slice_index}
 
 -- k is none of these

@@ -1,4 +1,4 @@
--- It serves proofs: what holds of rising lists, whatever their elements and whichever the order.
+-- Serves proofs alone: what holds of rising lists, whatever their elements and whichever the order.
 use Rattle.std.specs.Prelude.{◌≡◌, Bool, true, false, cond, ◌||◌, List, [], ◌∷◌, ◌++◌, map, filter, refl}
 use Rattle.std.specs.Cmp.{first_so, second_so}
 use Rattle.std.specs.Cmp.Derive.{both_true}

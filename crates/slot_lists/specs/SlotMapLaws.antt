@@ -1,4 +1,4 @@
--- It serves proofs: a list with a value or none for each slot, as a map.
+-- Serves proofs alone: a list with a value or none for each slot, as a map.
 use Rattle.std.proofs.Common.{◌≡◌, ◌≢◌, ℕ, zero, suc, ◌+◌, ◌<◌, Bool, true, false, cond, T, ◌&&◌, List, []}
 use Rattle.std.proofs.Common.{◌∷◌, length, get_or, set, Option, None, Some, refl, sym, ap, ◌∙◌, subst, arith, inl, inr}
 use Rattle.std.specs.Ordering.{nat_cmp, is_lt, is_eq, eq_by_cmp}

@@ -1,4 +1,4 @@
--- It serves proofs: lists that stand side by side, whatever belongs to each item.
+-- Serves proofs alone: lists that stand side by side, whatever belongs to each item.
 use Rattle.std.specs.Prelude.{◌≡◌, List, [], ◌∷◌, length, map, refl}
 use Rattle.std.proofs.Common.{suc, ap}
 use Rattle.work_pieces.specs.Each.{Each}

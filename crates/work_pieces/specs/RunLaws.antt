@@ -1,4 +1,4 @@
--- It serves proofs: runs of a list, whatever belongs to each.
+-- Serves proofs alone: runs of a list, whatever belongs to each.
 use Rattle.std.specs.Prelude.{◌≡◌, ℕ, zero, suc, ◌+◌, ◌*◌, ◌/◌, ◌%◌, ◌<◌, ◌≤◌, min, List, [], ◌∷◌, ◌++◌, All, length, take, refl}
 use Rattle.std.specs.Int.{div_ceil}
 use Rattle.std.specs.Fork.{slice_chunk}
