@@ -1,8 +1,5 @@
 ghost use Rattle.std.specs.Prelude.{◌<◌};
 
-mod many;
-mod plainly;
-mod random;
 mod threads;
 
 use super::*;
