@@ -1,7 +1,7 @@
 ghost use Rattle.std.specs.Prelude.{◌≡◌, ◌≢◌, ◌++◌, ◌∷◌, ◌/◌, ◌<◌, ℕ, List, true, false, OnOk, OnErr, min, max};
 ghost use Rattle.endpoint_list.specs.declared.TheConstants.{NODES};
 ghost use Rattle.overlap_count.specs.Counts.{count_of};
-ghost use Rattle.sweep_prune.specs.CoreKeeps.{IsCore, is_min, recount};
+ghost use Rattle.sweep_prune.specs.CoreKeeps.{IsCore, MayPass, Passes, is_min, recount};
 ghost use Rattle.sweep_prune.specs.Places.{on, with_on};
 ghost use Rattle.sweep_prune.specs.declared.axis.Axis.{Axis};
 ghost use Rattle.sweep_prune.specs.declared.lists.Lists.{Lists};
@@ -10,6 +10,34 @@ use broad_index::Pair;
 use endpoint_list::NODES;
 use fixed_box::NoMemory;
 use overlap_count::Counts;
+
+// Counts that change by an exchange of two neighbours alone.
+//
+// A walk sees the counts through this trait and nothing else, and is proved of all that implement it, one that keeps a log
+// of its calls among them. What `passes` says of two states can then come from a call of `pass_by` alone, so that a walk
+// whose clause tells a chain of such states has made exactly those exchanges, one after the other.
+pub(crate) trait Passing {
+    ghost may_pass: { Self → ℕ → ℕ → Type 0 };
+
+    ghost passes: { ℕ → ℕ → Self → Self → Type 0 };
+
+    // The first node, which stands right before the second, passes behind it.
+    fn pass_by(&mut self, first: u32, second: u32, walker: Walker) -> Result<(), NoMemory>
+        requires { may_pass self.old first second }
+        ensures passes { OnOk result (passes first second self.old self.new) }
+        ensures err { OnErr result (self.new ≡ self.old) };
+}
+
+impl Passing for Counts {
+    ghost may_pass = { λ counts p q. MayPass counts p q };
+
+    ghost passes = { λ p q old new. Passes p q old new };
+
+    #[inline(always)]
+    fn pass_by(&mut self, first: u32, second: u32, walker: Walker) -> Result<(), NoMemory> {
+        pass(self, first, second, walker)
+    }
+}
 
 // Which of two neighbours walks past the other: its kind is the same for a whole walk.
 #[derive(Clone, Copy)]
