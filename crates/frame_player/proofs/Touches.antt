@@ -104,7 +104,8 @@ pub listed-found : (es : List Live) (query : Query) (mask : ℕ) → rises es �
 listed-found es query mask r = hits_listed es query mask es (all_found es r)
 
 -- the same, of the index that has the live boxes
-pub pairs_from_near : (t : Table) (pairs : List Pair) → IsTable t → pairs ≡ near (bodies_of t.entries) → filter_map (touching t.entries) pairs ≡ pairs_of t.entries
+pub pairs_from_near : (t : Table) (pairs : List Pair) → IsTable t → pairs ≡ near (bodies_of t.entries)
+    → filter_map (touching t.entries) pairs ≡ pairs_of t.entries
 pairs_from_near t pairs is e = ap (filter_map (touching t.entries)) (e ∙ ap near_of is.mapped) ∙ touching-near t.entries is.rising
 
 pub hits_from_found : (t : Table) (slots : List ℕ) (query : Query) (mask : ℕ) → IsTable t → slots ≡ found (bodies_of t.entries) query

@@ -242,7 +242,8 @@ insert-put_back : (es : List Live) (live : Live) → rises es ≡ true → rises
 insert-put_back es live r s free = put_indexed es (entered live es) (slot_of live) live.body r s (put_entered es live (vacated_slots (slot_of live) es free))
 
 indexed_vacated : (es : List Live) (slot : ℕ) → rises es ≡ true → live_at slot es ≡ None → contains_key (bodies_of es) slot ≡ false
-indexed_vacated es slot r free = ap is_some (get-from_sorted nat_cmp (slots_with_bodies es) slot (sorted es r) ∙ absent_slot es slot (vacated_slots slot es free))
+indexed_vacated es slot r free =
+    ap is_some (get-from_sorted nat_cmp (slots_with_bodies es) slot (sorted es r) ∙ absent_slot es slot (vacated_slots slot es free))
 
 -- the same of tables, as the clauses of the calls say it
 pub given_absent : (t : Table) (slot : ℕ) → IsTable t → IsLeastFree slot t.entries → contains_key (bodies_of t.entries) slot ≡ false

@@ -11,8 +11,8 @@ use Rattle.live_table.specs.declared.handle.Handle.{Handle}
 use Rattle.live_table.specs.declared.live.Live.{Live}
 use Rattle.live_table.specs.declared.masks.Masks.{Masks}
 use Rattle.live_table.specs.Entries.{slot_of, has, live_at, entry_at, least_free, entered, changed, without, rises, IsLeastFree}
-use Rattle.live_table.specs.Table.{Table, IsTable, IsVacated, raised, lowered, next_handle, after_give, after_set_box, after_set_masks, after_take, after_ungive}
-use Rattle.live_table.specs.Table.{after_put_back}
+use Rattle.live_table.specs.Table.{Table, IsTable, IsVacated, raised, lowered, next_handle, after_give, after_set_box}
+use Rattle.live_table.specs.Table.{after_set_masks, after_take, after_ungive, after_put_back}
 use Rattle.live_table.proofs.EntryLemmas.{Above, above_from, above_so, entered_first, live_above, has_not, changed_above, without_above}
 
 -- no entry has the slot
@@ -52,8 +52,8 @@ lowered-raised gives slot lt =
     let at : get_or (raised gives slot) slot 0 - 1 ≡ get_or gives slot 0 = omega (arith, get_or-set_same gives slot (get_or gives slot 0 + 1) 0 lt) in
     ap (set (raised gives slot) slot) at ∙ set-set gives slot (get_or gives slot 0 + 1) (get_or gives slot 0) ∙ set-get_or gives slot 0
 
-pub given_back : (t : Table) (body : Bounds) (masks : Masks) (group : Group) → IsTable t → IsLeastFree (least_free t.entries) t.entries → least_free t.entries < SLOTS
-    → after_ungive (after_give t body masks group) (next_handle t) ≡ t
+pub given_back : (t : Table) (body : Bounds) (masks : Masks) (group : Group) → IsTable t → IsLeastFree (least_free t.entries) t.entries
+    → least_free t.entries < SLOTS → after_ungive (after_give t body masks group) (next_handle t) ≡ t
 given_back t body masks group is free small =
     let new : Live = record { handle = next_handle t; body = body; masks = masks; group = group } in
     let es : without (next_handle t) (entered new t.entries) ≡ t.entries = without-entered (next_handle t) new t.entries refl free.free in
@@ -61,7 +61,8 @@ given_back t body masks group is free small =
     lowered-raised t.gives (least_free t.entries) (omega (arith, is.slots, small)) in
     same es gs
   where
-    same : {es fs : List Live} {gs hs : List ℕ} → es ≡ fs → gs ≡ hs → ◌≡◌ {A = Table} (record { entries = es; gives = gs }) (record { entries = fs; gives = hs })
+    same : {es fs : List Live} {gs hs : List ℕ} → es ≡ fs → gs ≡ hs
+        → ◌≡◌ {A = Table} (record { entries = es; gives = gs }) (record { entries = fs; gives = hs })
     same {es} {fs} {gs} {hs} e g = ap (λ xs. record { entries = xs; gives = gs }) e ∙ ap (λ ns. record { entries = fs; gives = ns }) g
 
 pub given_live : (t : Table) (body : Bounds) (masks : Masks) (group : Group) → IsLeastFree (least_free t.entries) t.entries

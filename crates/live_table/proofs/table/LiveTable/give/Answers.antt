@@ -30,8 +30,8 @@ kept_filled : (slots items : List Slot) (freed marks : List Bool) (len given slo
 kept_filled slots items freed marks len given slot place body masks group kept least opens unmarks at in_space =
     let gives = opened_place slots items slot place least opens at in
     rw (opens, unmarks) (kept_give slots freed len given slot (filled slot place.gives body masks group)
-    (record { handle = record { slot = slot; generation = place.gives }; body = body; masks = masks; group = group }) kept least (ap (λ n. n + 1) gives) refl refl
-    refl in_space)
+    (record { handle = record { slot = slot; generation = place.gives }; body = body; masks = masks; group = group }) kept least
+    (ap (λ n. n + 1) gives) refl refl refl in_space)
 
 pub returns-in_default-clause-full : goal.returns-in_default-clause-full
 returns-in_default-clause-full c =

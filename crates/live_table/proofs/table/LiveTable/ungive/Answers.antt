@@ -33,7 +33,12 @@ pub overflow_sub-self-2 : goal.overflow_sub-self-2
 overflow_sub-self-2 c =
     let slots = c.self.inside.slots.items in
     let live = found_in slots c.args.self.now c.args.handle c.in-Ok.field-0 c.self.view_is c.in-Ok.ensures.found c.self.invariant.1.placed in
-    omega (arith, was_given slots c.args.handle.slot c.in-Ok.field-0 c.self.invariant.1.placed live, gives_le slots c.args.handle.slot, c.self.invariant.1.summed)
+    omega (
+      arith,
+      was_given slots c.args.handle.slot c.in-Ok.field-0 c.self.invariant.1.placed live,
+      gives_le slots c.args.handle.slot,
+      c.self.invariant.1.summed,
+    )
 
 pub invariant_of-self : goal.invariant_of-self
 invariant_of-self c =
