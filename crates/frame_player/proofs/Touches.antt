@@ -6,7 +6,8 @@ use Rattle.std.proofs.lemmas.Bool.Decides.{nat_tests}
 use Rattle.fixed_box.specs.Bounds.{meets}
 use Rattle.live_table.specs.declared.live.Live.{Live}
 use Rattle.live_table.specs.Entries.{slot_of, live_at, rises}
-use Rattle.live_table.specs.Masks.{may}
+use Rattle.live_table.specs.Pairing.{may}
+use Rattle.live_table.specs.Table.{Table, IsTable}
 use Rattle.broad_index.specs.declared.pair.Pair.{Pair}
 use Rattle.broad_index.specs.declared.query.Query.{Query}
 use Rattle.broad_index.specs.Near.{near_of, partners as slot_partners}
@@ -14,8 +15,7 @@ use Rattle.broad_index.specs.Found.{found_of, query_meets}
 use Rattle.frame_player.specs.Pairs.{may_touch, partners, pairs_of, is_asked_for, hits_of}
 use Rattle.broad_index.specs.Near.{near}
 use Rattle.broad_index.specs.Found.{found}
-use Rattle.frame_player.proofs.Changes.{entries-bodies_of}
-use Rattle.frame_player.specs.Pairs.{bodies_of, slots_with_bodies}
+use Rattle.live_table.specs.Bodies.{bodies_of, slots_with_bodies}
 use Rattle.frame_player.specs.InHandles.{touching, listed, listed_of, pair_of}
 
 filter_map-append : {A B : Type 0} (f : A → Option B) (xs ys : List A) → filter_map f (xs ++ ys) ≡ filter_map f xs ++ filter_map f ys
@@ -56,10 +56,10 @@ module _ (all : List Live) where
       (λ m. filter_map (touching all) (map (λ e. record { a = slot_of a; b = e.0 })
       (cond m ((slot_of b, b.body) ∷ filter (λ e. meets a.body e.1) (slots_with_bodies later))
       (filter (λ e. meets a.body e.1) (slots_with_bodies later))))
-      ≡ map (λ x. record { a = a.handle; b = x.handle }) (cond (m && may a.masks b.masks) (b ∷ filter (may_touch a) later) (filter (may_touch a) later))) [
+      ≡ map (λ x. record { a = a.handle; b = x.handle }) (cond (m && may a b) (b ∷ filter (may_touch a) later) (filter (may_touch a) later))) [
         | false ↦ rest
         | true ↦ ap (λ o. cons_option o (filter_map (touching all) (slot_partners (slot_of a) a.body (slots_with_bodies later)))) pair
-            ∙ elim (may a.masks b.masks) as (λ t. cons_option (cond t (Some (record { a = a.handle; b = b.handle })) None)
+            ∙ elim (may a b) as (λ t. cons_option (cond t (Some (record { a = a.handle; b = b.handle })) None)
             (filter_map (touching all) (slot_partners (slot_of a) a.body (slots_with_bodies later)))
             ≡ map (λ x. record { a = a.handle; b = x.handle }) (cond t (b ∷ filter (may_touch a) later) (filter (may_touch a) later))) [
               | true ↦ ap (λ ps. record { a = a.handle; b = b.handle } ∷ ps) rest
@@ -104,10 +104,11 @@ pub listed-found : (es : List Live) (query : Query) (mask : ℕ) → rises es �
 listed-found es query mask r = hits_listed es query mask es (all_found es r)
 
 -- the same, of the index that has the live boxes
-pub pairs_from_near : (es : List Live) (pairs : List Pair) → rises es ≡ true → pairs ≡ near (bodies_of es) → filter_map (touching es) pairs ≡ pairs_of es
-pairs_from_near es pairs r e = ap (filter_map (touching es)) (e ∙ ap near_of (entries-bodies_of es r)) ∙ touching-near es r
+pub pairs_from_near : (t : Table) (pairs : List Pair) → IsTable t → pairs ≡ near (bodies_of t.entries)
+    → filter_map (touching t.entries) pairs ≡ pairs_of t.entries
+pairs_from_near t pairs is e = ap (filter_map (touching t.entries)) (e ∙ ap near_of is.mapped) ∙ touching-near t.entries is.rising
 
-pub hits_from_found : (es : List Live) (slots : List ℕ) (query : Query) (mask : ℕ) → rises es ≡ true → slots ≡ found (bodies_of es) query
-    → filter_map (listed es mask) slots ≡ hits_of es query mask
-hits_from_found es slots query mask r e = ap (filter_map (listed es mask)) (e ∙ ap (λ xs. found_of xs query) (entries-bodies_of es r))
-    ∙ listed-found es query mask r
+pub hits_from_found : (t : Table) (slots : List ℕ) (query : Query) (mask : ℕ) → IsTable t → slots ≡ found (bodies_of t.entries) query
+    → filter_map (listed t.entries mask) slots ≡ hits_of t.entries query mask
+hits_from_found t slots query mask is e =
+    ap (filter_map (listed t.entries mask)) (e ∙ ap (λ xs. found_of xs query) is.mapped) ∙ listed-found t.entries query mask is.rising

@@ -3,16 +3,16 @@ use Rattle.std.specs.Prelude.{ℕ, List, if◌then◌else◌, Option, Some, None
 use Rattle.live_table.specs.declared.handle.Handle.{Handle}
 use Rattle.live_table.specs.declared.live.Live.{Live}
 use Rattle.live_table.specs.Entries.{live_at}
-use Rattle.live_table.specs.Masks.{may}
+use Rattle.live_table.specs.Pairing.{may}
 use Rattle.broad_index.specs.declared.pair.Pair.{Pair}
 use Rattle.pair_events.specs.declared.hpair.HPair.{HPair}
 use Rattle.frame_player.specs.Pairs.{is_asked_for}
 
--- two live boxes as a pair, where their masks allow it
+-- two live boxes as a pair, where they may pair
 abbrev pub pair_of : Option Live → Option Live → Option HPair
 pair_of None b = None
 pair_of (Some a) None = None
-pair_of (Some a) (Some b) = if may a.masks b.masks then Some (record { a = a.handle; b = b.handle }) else None
+pair_of (Some a) (Some b) = if may a b then Some (record { a = a.handle; b = b.handle }) else None
 
 -- the pair of two slots
 abbrev pub touching : List Live → Pair → Option HPair

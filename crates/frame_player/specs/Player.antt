@@ -4,11 +4,11 @@ use Rattle.std.specs.Ordering.{nat_cmp}
 use Rattle.std.specs.FinMap.{FinMap}
 use Rattle.fixed_box.specs.Bounds.{Bounds}
 use Rattle.fixed_box.specs.declared.TheConstants.{SLOTS}
+use Rattle.live_table.specs.Bodies.{bodies_of}
 use Rattle.live_table.specs.Table.{IsTable}
 use Rattle.scene_words.specs.declared.command.Command.{Command}
 use Rattle.scene_words.specs.declared.command.Command.TheVariants.{Blank, Frame, BoxQ, PointQ, RayQ, SegQ}
 use Rattle.frame_player.specs.declared.player.Player.{Player}
-use Rattle.frame_player.specs.Pairs.{bodies_of}
 use Rattle.frame_player.specs.World.{World, opening, after}
 
 -- the exchanges are those of the index

@@ -1,9 +1,10 @@
 -- The world of a scene, and what a line does to it.
-use Rattle.std.specs.Prelude.{ℕ, ◌+◌, Bool, true, false, nat_lt, List, [], ◌++◌, length, flat_map, if◌then◌else◌, is_some, Option, option_map, Result, Ok, Err}
+use Rattle.std.specs.Prelude.{ℕ, ◌+◌, Bool, true, false, nat_lt, List, [], ◌++◌, length, flat_map, if◌then◌else◌, is_some, Result, Ok, Err}
 use Rattle.fixed_box.specs.Bounds.{Bounds}
 use Rattle.fixed_box.specs.declared.TheConstants.{SLOTS}
+use Rattle.live_table.specs.declared.group.Group.{Group}
 use Rattle.live_table.specs.declared.handle.Handle.{Handle}
-use Rattle.live_table.specs.declared.live.Live.{Live}
+use Rattle.live_table.specs.Bodies.{slots_with_bodies, body_of}
 use Rattle.live_table.specs.Entries.{entry_at, least_free}
 use Rattle.live_table.specs.Table.{Table, empty_table, next_handle, after_give, after_set_box, after_set_masks, after_take}
 use Rattle.broad_index.specs.declared.query.Query.{Query}
@@ -22,7 +23,7 @@ use Rattle.scene_words.specs.declared.command.Command.TheVariants.{Blank, Header
 use Rattle.scene_words.specs.declared.line_fault.LineFault.{LineFault}
 use Rattle.scene_words.specs.declared.line_fault.LineFault.TheVariants as fault
 use Rattle.scene_words.specs.SceneWords.{command}
-use Rattle.frame_player.specs.Pairs.{slots_with_bodies, pairs_of, hits_of}
+use Rattle.frame_player.specs.Pairs.{pairs_of, hits_of}
 
 -- Whether a header was read, the live boxes with how often each slot was given, the pairs of the last frame, the number of frames,
 -- and the exchanges since the last frame.
@@ -44,18 +45,18 @@ pairs w = pairs_of w.table.entries
 abbrev pub exchanges_of_add : World → Bounds → ℕ
 exchanges_of_add w body = passed_from_above (slots_with_bodies w.table.entries) (least_free w.table.entries) body
 
--- the box of a handle, where a live box has it
-abbrev pub body_of : Handle → List Live → Option Bounds
-body_of handle entries = option_map (λ entry. entry.body) (entry_at handle entries)
-
 -- the exchanges of a move, none where no live box has the handle
 abbrev pub exchanges_of_move : World → Handle → Bounds → ℕ
 exchanges_of_move w handle body = passed_from (body_of handle w.table.entries) (slots_with_bodies w.table.entries) handle.slot body
 
+-- a box that nobody owns and that isn't fixed
+abbrev pub nobodys : Group
+nobodys = record { owner = 0; fixed = false }
+
 -- The world after a command. A handle that no live box has changes nothing, nor do blank lines and queries.
 abbrev pub after : World → Command → World
 after w (Header version) = record w { header = true }
-after w (Add body masks) = record w { table = after_give w.table body masks; exchanges = w.exchanges + exchanges_of_add w body }
+after w (Add body masks) = record w { table = after_give w.table body masks nobodys; exchanges = w.exchanges + exchanges_of_add w body }
 after w (Move handle body) = record w { table = after_set_box w.table handle body; exchanges = w.exchanges + exchanges_of_move w handle body }
 after w (Mask handle masks) = record w { table = after_set_masks w.table handle masks }
 after w (Remove handle) = record w { table = after_take w.table handle }

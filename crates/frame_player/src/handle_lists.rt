@@ -1,10 +1,10 @@
 ghost use Rattle.std.specs.Prelude.{◌≡◌, ◌*◌, ◌≤◌, ◌++◌, [], true, length, OnOk};
 ghost use Rattle.std.specs.List.{filter_map};
+ghost use Rattle.live_table.specs.Bodies.{bodies_of};
 ghost use Rattle.live_table.specs.Table.{IsTable};
 ghost use Rattle.broad_index.specs.Found.{found};
 ghost use Rattle.broad_index.specs.Near.{near};
 ghost use Rattle.pair_events.specs.PairEvents.{is_in_order};
-ghost use Rattle.frame_player.specs.Pairs.{bodies_of};
 ghost use Rattle.frame_player.specs.InHandles.{touching, listed};
 ghost use Rattle.frame_player.specs.Pairs.{pairs_of, hits_of};
 
@@ -44,7 +44,7 @@ pub(crate) fn push_hits(
     push_listed(table, mask, slots, out)
 }
 
-// Appends the pairs of an index whose masks allow them, in handles.
+// Appends those pairs of an index that may pair, in handles.
 fn push_touching(table: &LiveTable, pairs: &[Pair], out: &mut Vec<HPair>) -> Result<(), NoMemory>
     ensures { OnOk result (out.new.items ≡ out.old.items ++ filter_map (touching table.now.entries) pairs.now) }
 {
@@ -63,7 +63,7 @@ fn touching(table: &LiveTable, pair: &Pair) -> Option<HPair>
 {
     let a = table.at(pair.a)?;
     let b = table.at(pair.b)?;
-    if may_pair(&a.masks, &b.masks) {
+    if may_pair(&a, &b) {
         Some(HPair {
             a: a.handle,
             b: b.handle,

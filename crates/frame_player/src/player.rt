@@ -6,7 +6,7 @@ use crate::frame_text::send_frame;
 use crate::handle_lists::push_pairs;
 use broad_index::{BroadPhase, Gate, Pair};
 use fixed_box::{FBox, NoMemory, SLOTS};
-use live_table::{Full, Handle, LiveTable, Masks, Stale};
+use live_table::{Full, Group, Handle, LiveTable, Masks, Stale};
 use pair_events::{PairTable, Told};
 use pair_report::{Cause, put_add, put_stale};
 use play_io::{Sink, SinkFault};
@@ -39,7 +39,6 @@ impl<B: BroadPhase + Drop> Player<B> {
     ghost use Rattle.frame_player.specs.World.{opening, allowed, reply, shown};
 
     // The opening world.
-    #[tactic(auto, using(crate::proofs::Changes::opening_boxes))]
     pub(crate) fn new(alloc: Global, index: B) -> Result<Player<B>, NoMemory>
         requires { IsFresh (B.bodies index) (B.spent index) (B.exchanges index) }
         ensures opening { IfOk result (λ player. world_in B.exchanges player ≡ opening) }
@@ -104,7 +103,11 @@ impl<B: BroadPhase + Drop> Player<B> {
         ensures text { OnOk result (out.new.items ≡ out.old.items ++ reply false (world_in B.exchanges self.old) (Command.Add body masks)) }
         ensures err { OnErr result (out.new.items ≡ out.old.items) }
     {
-        match self.table.give(body, masks) {
+        let nobodys = Group {
+            owner: 0,
+            fixed: false,
+        };
+        match self.table.give(body, masks, nobodys) {
             Ok(handle) => {
                 self.index.add(handle.slot, body)?;
                 put_add(handle, out)

@@ -1,9 +1,9 @@
 ghost use Rattle.std.specs.Prelude.{◌≡◌, ◌+◌, ◌<◌, ◌≤◌, ◌++◌, ◌∷◌, [], length, map, OnOk};
 ghost use Rattle.broad_index.specs.Found.{found};
+ghost use Rattle.live_table.specs.Bodies.{bodies_of};
 ghost use Rattle.live_table.specs.Table.{IsTable};
 ghost use Rattle.frame_player.specs.Outlet.{outlet, IsSent};
 ghost use Rattle.frame_player.specs.Owed.{answer_line, answers, owed, IsRun};
-ghost use Rattle.frame_player.specs.Pairs.{bodies_of};
 ghost use Rattle.frame_player.specs.Player.{IsPlaying};
 
 use crate::handle_lists::push_hits;

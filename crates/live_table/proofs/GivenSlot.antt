@@ -1,9 +1,11 @@
 -- What `give` makes of the slots, and of the table.
-use Rattle.std.proofs.Common.{◌≡◌, ℕ, ◌+◌, Bool, false, List, Some, is_none, length, get_or, set, refl, sym, ap, ◌∙◌, arith, sum, slice_index, length-set}
+use Rattle.std.proofs.Common.{◌≡◌, ℕ, ◌+◌, Bool, true, false, List, Some, is_none, length, get_or, set, refl, sym, ap, ◌∙◌, arith, sum, slice_index, length-set}
 use Rattle.live_table.specs.declared.handle.Handle.{Handle}
 use Rattle.live_table.specs.declared.live.Live.{Live}
 use Rattle.live_table.specs.declared.masks.Masks.{Masks}
-use Rattle.fixed_box.specs.Bounds.{Bounds}
+use Rattle.live_table.specs.declared.group.Group.{Group}
+use Rattle.fixed_box.specs.Bounds.{Bounds, meets}
+use Rattle.fixed_box.specs.Space.{space}
 use Rattle.live_table.specs.declared.slot.Slot.{Slot}
 use Rattle.live_table.specs.Entries.{slot_of, least_free, entered}
 use Rattle.live_table.specs.Table.{raised, next_handle, after_give}
@@ -42,13 +44,16 @@ give_sum slots slot s least is =
 
 pub kept_give : (slots : List Slot) (freed : List Bool) (len given slot : ℕ) (s : Slot) (new : Live) → IsKept slots freed len given
     → IsLeastVacant slots slot → s.gives ≡ (get_or slots slot never_given).gives + 1
-    → s.live ≡ Some new → slot_of new ≡ slot → new.handle.generation + 1 ≡ s.gives
+    → s.live ≡ Some new → slot_of new ≡ slot → new.handle.generation + 1 ≡ s.gives → meets space new.body ≡ true
     → IsKept (set (opened slot slots) slot s) (set freed slot false) (len + 1) (given + 1)
-kept_give slots freed len given slot s new kept least gives is at generation = record {
+kept_give slots freed len given slot s new kept least gives is at generation in_space = record {
   few = omega (arith, length-set (opened slot slots) slot s, opened_few slots slot least.next least.small kept.few);
   placed = placed_set 0 slot (opened slot slots) s (placed_opened 0 slots slot least.next kept.placed) (length-opened slots slot least.next) (λ e live.
-      let same : new ≡ e = cc in
-      (ap slot_of (sym same) ∙ omega (arith, at), ap (λ e. e.handle.generation + 1) (sym same) ∙ generation));
+      let same : new ≡ e = cc in (
+        ap slot_of (sym same) ∙ omega (arith, at),
+        ap (λ e. e.handle.generation + 1) (sym same) ∙ generation,
+        ap (λ e. meets space e.body) (sym same) ∙ in_space,
+      ));
   marks = length-set freed slot false ∙ kept.marks;
   marked = λ k. marked_set (opened slot slots) freed slot k s false (length-opened slots slot least.next) (omega (arith, kept.marks, least.small))
       (sym (ap is_none is)) (λ other. kept.marked k ∙ sym (vacant-opened slots slot k least.next other));
@@ -67,16 +72,17 @@ next_is slots slot gives placed least is =
     ∙ sym is in
     rw (generation, free) refl
 
-pub given_is : (slots : List Slot) (slot : ℕ) (s : Slot) (body : Bounds) (masks : Masks) (handle : Handle) → IsPlaced 0 slots → IsLeastVacant slots slot
+pub given_is : (slots : List Slot) (slot : ℕ) (s : Slot) (body : Bounds) (masks : Masks) (group : Group) (handle : Handle)
+    → IsPlaced 0 slots → IsLeastVacant slots slot
     → handle ≡ next_handle (table_in slots)
-    → s.gives ≡ (get_or slots slot never_given).gives + 1 → s.live ≡ Some (record { handle = handle; body = body; masks = masks })
-    → table_in (set (opened slot slots) slot s) ≡ after_give (table_in slots) body masks
-given_is slots slot s body masks handle placed least named gives is =
+    → s.gives ≡ (get_or slots slot never_given).gives + 1 → s.live ≡ Some (record { handle = handle; body = body; masks = masks; group = group })
+    → table_in (set (opened slot slots) slot s) ≡ after_give (table_in slots) body masks group
+given_is slots slot s body masks group handle placed least named gives is =
     let free : least_free (entries_of slots) ≡ slot = least_free_is slots slot placed least in
-    let entries : entries_of (set (opened slot slots) slot s) ≡ entered (record { handle = next_handle (table_in slots); body = body; masks = masks })
-    (entries_of slots) =
-    give_entries slots slot s (record { handle = handle; body = body; masks = masks }) placed least is (ap (λ h. h.slot) named ∙ free)
-    ∙ ap (λ h. entered (record { handle = h; body = body; masks = masks }) (entries_of slots)) named in
+    let entries : entries_of (set (opened slot slots) slot s)
+    ≡ entered (record { handle = next_handle (table_in slots); body = body; masks = masks; group = group }) (entries_of slots) =
+    give_entries slots slot s (record { handle = handle; body = body; masks = masks; group = group }) placed least is (ap (λ h. h.slot) named ∙ free)
+    ∙ ap (λ h. entered (record { handle = h; body = body; masks = masks; group = group }) (entries_of slots)) named in
     let counts : gives_of (set (opened slot slots) slot s) ≡ raised (gives_of slots) (least_free (entries_of slots)) = give_gives slots slot s least gives
     ∙ ap (raised (gives_of slots)) (sym free) in
     rw (entries, counts) refl

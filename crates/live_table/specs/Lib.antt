@@ -1,6 +1,7 @@
 pub mod Bits
+pub mod Bodies
 pub mod Entries
 pub mod Example
-pub mod Masks
+pub mod Pairing
 pub mod Slots
 pub mod Table

@@ -1,12 +1,16 @@
 -- A table of live boxes, as clauses see it, and what each call makes of it.
-use Rattle.std.specs.Prelude.{◌≡◌, ℕ, ◌+◌, ◌<◌, ◌≤◌, IsTrue, List, [], length, replicate, slice_index, slice_set}
+use Rattle.std.specs.Prelude.{◌≡◌, ℕ, ◌+◌, ◌-◌, ◌<◌, ◌≤◌, IsTrue, None, List, [], length, replicate, slice_index, slice_set}
+use Rattle.std.specs.FinMap.{entries as listing}
 use Rattle.std.specs.List.{All}
-use Rattle.fixed_box.specs.Bounds.{Bounds}
+use Rattle.fixed_box.specs.Bounds.{Bounds, meets}
 use Rattle.fixed_box.specs.declared.TheConstants.{SLOTS}
+use Rattle.live_table.specs.declared.group.Group.{Group}
 use Rattle.live_table.specs.declared.handle.Handle.{Handle}
 use Rattle.live_table.specs.declared.masks.Masks.{Masks}
 use Rattle.live_table.specs.declared.live.Live.{Live}
-use Rattle.live_table.specs.Entries.{slot_of, least_free, entered, with_body, with_masks, without, rises}
+use Rattle.live_table.specs.Bodies.{slots_with_bodies, bodies_of}
+use Rattle.live_table.specs.Entries.{slot_of, live_at, least_free, entered, with_body, with_masks, without, rises}
+use Rattle.fixed_box.specs.Space.{space}
 
 -- The live boxes in order of their slots, and how often each of the `SLOTS` slots was given.
 pub record Table : Type 0 where
@@ -21,14 +25,18 @@ empty_table = record { entries = []; gives = replicate SLOTS 0 }
 abbrev pub raised : List ℕ → ℕ → List ℕ
 raised gives slot = slice_set gives slot (slice_index gives slot + 1)
 
+-- one give of the slot fewer
+abbrev pub lowered : List ℕ → ℕ → List ℕ
+lowered gives slot = slice_set gives slot (slice_index gives slot - 1)
+
 -- the handle of the next box: the least free slot, and how often that was given
 abbrev pub next_handle : Table → Handle
 next_handle t = record { slot = least_free t.entries; generation = slice_index t.gives (least_free t.entries) }
 
 -- a new box under the next handle, whose slot was given once more
-abbrev pub after_give : Table → Bounds → Masks → Table
-after_give t body masks = record {
-  entries = entered (record { handle = next_handle t; body = body; masks = masks }) t.entries;
+abbrev pub after_give : Table → Bounds → Masks → Group → Table
+after_give t body masks group = record {
+  entries = entered (record { handle = next_handle t; body = body; masks = masks; group = group }) t.entries;
   gives = raised t.gives (least_free t.entries);
 }
 
@@ -44,6 +52,20 @@ after_set_masks t handle masks = record t { entries = with_masks handle masks t.
 abbrev pub after_take : Table → Handle → Table
 after_take t handle = record t { entries = without handle t.entries }
 
+-- the handle's box is gone, and its slot was given once less
+abbrev pub after_ungive : Table → Handle → Table
+after_ungive t handle = record { entries = without handle t.entries; gives = lowered t.gives handle.slot }
+
+-- a box that was taken out is there again
+abbrev pub after_put_back : Table → Live → Table
+after_put_back t live = record t { entries = entered live t.entries }
+
+-- A box may be put back: no live box has its slot, and that was given once more than the box's generation says.
+pub record IsVacated (live : Live) (t : Table) : Type 0 where
+  pub free : live_at (slot_of live) t.entries ≡ None
+  pub small : slot_of live < SLOTS
+  pub given : slice_index t.gives (slot_of live) ≡ live.handle.generation + 1
+
 -- what holds of every table
 pub record IsTable (t : Table) : Type 0 where
   -- the slots of the entries rise strictly
@@ -51,5 +73,9 @@ pub record IsTable (t : Table) : Type 0 where
   pub slots : length t.gives ≡ SLOTS
   pub small : All (λ entry. slot_of entry < SLOTS) t.entries
   pub few : length t.entries ≤ SLOTS
-  -- The last give of a slot made its entry. So the slot was given, and its generation is below the number of gives.
+  -- The last give of a slot that wasn't undone made its entry. So its generation is below the number of gives.
   pub newest : All (λ entry. entry.handle.generation + 1 ≡ slice_index t.gives (slot_of entry)) t.entries
+  -- the boxes lie in space, which has all 32-bit coordinates
+  pub in_space : All (λ entry. IsTrue (meets space entry.body)) t.entries
+  -- the map of the boxes has them in the order of their slots
+  pub mapped : listing (bodies_of t.entries) ≡ slots_with_bodies t.entries

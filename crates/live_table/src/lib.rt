@@ -4,7 +4,9 @@
 mod examples;
 mod freed_slots;
 mod full;
+mod group;
 mod handle;
+mod laws;
 mod live;
 mod masks;
 mod slot;
@@ -12,9 +14,11 @@ mod stale;
 mod table;
 
 pub use full::Full;
+pub use group::Group;
 pub use handle::Handle;
-pub use live::Live;
-pub use masks::{Masks, may_pair};
+pub use laws::undo_laws;
+pub use live::{Live, may_pair};
+pub use masks::Masks;
 pub use stale::Stale;
 pub use table::LiveTable;
 

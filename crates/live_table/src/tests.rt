@@ -8,6 +8,11 @@ const ALL: Masks = Masks {
     sees: 0xffff_ffff,
 };
 
+const NOBODYS: Group = Group {
+    owner: 0,
+    fixed: false,
+};
+
 // The flat box at a point of the x axis.
 fn body_at(x: i32) -> Option<FBox> {
     let at = Point { x, y: 0, z: 0 };
@@ -23,13 +28,14 @@ fn live(handle: Handle, body: FBox, masks: Masks) -> Live {
         handle,
         body,
         masks,
+        group: NOBODYS,
     }
 }
 
 // Gives a box a slot of a table that has given few.
 fn give(rt: &impl Abort, table: &mut LiveTable, body: FBox) -> Result<Handle, Full> {
     assert!(rt; table.given() < 100_000);
-    table.give(body, ALL)
+    table.give(body, ALL, NOBODYS)
 }
 
 #[test]
@@ -69,6 +75,28 @@ fn each_change_shows_in_the_live_box(rt: HostRuntime) -> Result<(), Fail> {
 }
 
 #[test]
+fn changes_that_are_undone_leave_no_trace(rt: HostRuntime) -> Result<(), Fail> {
+    let body = body_at(0).ok_or("a flat box")?;
+    let mut table = LiveTable::new(rt.alloc())?;
+    let kept = give(&rt, &mut table, body)?;
+    let undone = give(&rt, &mut table, body)?;
+    table.find(undone)?;
+    table.ungive(undone);
+    assert_eq!(rt; (table.at(1), table.len(), table.given()), (None, 1, 1));
+    take_and_put_back(&mut table, kept)?;
+    assert_eq!(rt; table.at(0), Some(live(kept, body, ALL)));
+    assert_eq!(rt; (table.len(), table.given()), (1, 1));
+    assert_eq!(rt; give(&rt, &mut table, body), Ok(undone));
+    Ok(())
+}
+
+fn take_and_put_back(table: &mut LiveTable, handle: Handle) -> Result<(), Stale> {
+    let live = table.take(handle)?;
+    table.put_back(live);
+    Ok(())
+}
+
+#[test]
 fn a_table_is_full_at_8192_boxes(rt: HostRuntime) -> Result<(), Fail> {
     let body = body_at(0).ok_or("a flat box")?;
     let mut table = LiveTable::new(rt.alloc())?;
@@ -87,20 +115,37 @@ fn a_table_is_full_at_8192_boxes(rt: HostRuntime) -> Result<(), Fail> {
 }
 
 #[test]
-fn boxes_may_pair_where_each_sees_the_other(rt: HostRuntime) {
+fn boxes_may_pair_where_each_sees_the_other(rt: HostRuntime) -> Result<(), Fail> {
     for (a, b, want) in [
-        ((1, 0xffff_ffff), (1, 0xffff_ffff), true),
-        ((1, 2), (2, 1), true),
-        ((0x8000_0000, 0x8000_0000), (0x8000_0000, 0x8000_0000), true),
-        ((1, 2), (1, 2), false),
-        ((1, 2), (2, 2), false),
-        ((2, 2), (1, 2), false),
-        ((0, 0xffff_ffff), (0xffff_ffff, 0xffff_ffff), false),
-        ((1, 0), (1, 1), false),
+        ((1, 0xffff_ffff, 0, false), (1, 0xffff_ffff, 0, false), true),
+        ((1, 2, 0, false), (2, 1, 0, false), true),
+        ((1, 2, 0, false), (1, 2, 0, false), false),
+        ((1, 2, 0, false), (2, 2, 0, false), false),
+        (
+            (0, 0xffff_ffff, 0, false),
+            (0xffff_ffff, 0xffff_ffff, 0, false),
+            false,
+        ),
+        ((1, 1, 5, false), (1, 1, 5, false), false),
+        ((1, 1, 5, false), (1, 1, 4, false), true),
+        ((1, 1, 5, false), (1, 1, 0, true), true),
+        ((1, 1, 0, true), (1, 1, 0, true), false),
+        ((1, 1, 5, true), (1, 1, 4, true), false),
     ] {
-        let first = Masks { is: a.0, sees: a.1 };
-        let second = Masks { is: b.0, sees: b.1 };
+        let first = boxed(a)?;
+        let second = boxed(b)?;
         assert_eq!(rt; may_pair(&first, &second), want, "{first:?} and {second:?}");
         assert_eq!(rt; may_pair(&second, &first), want, "{second:?} and {first:?}");
     }
+    Ok(())
+}
+
+fn boxed(labels: (u32, u32, u32, bool)) -> Result<Live, Fail> {
+    let (is, sees, owner, fixed) = labels;
+    Ok(Live {
+        handle: under(0, 0),
+        body: body_at(0).ok_or("a flat box")?,
+        masks: Masks { is, sees },
+        group: Group { owner, fixed },
+    })
 }

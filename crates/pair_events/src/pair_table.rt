@@ -1,4 +1,4 @@
-ghost use Rattle.std.specs.Prelude.{◌≡◌, ◌++◌, [], true, OnOk, OnErr};
+ghost use Rattle.std.specs.Prelude.{◌≡◌, ◌++◌, [], true, IfOk, OnOk, OnErr};
 ghost use Rattle.pair_events.specs.PairEvents.{events, is_in_order};
 
 use crate::merge::push_events;
@@ -6,6 +6,7 @@ use crate::{HPair, Told};
 use fixed_box::NoMemory;
 use std::alloc::Global;
 use std::marker::Model;
+use std::mem;
 
 /// The pairs of the last frame, against which the next one is told.
 #[derive(Drop)]
@@ -17,13 +18,13 @@ pub struct PairTable {
 impl Model for PairTable {
     ghost use Rattle.std.specs.Prelude.{◌≡◌, List, true};
     ghost use Rattle.pair_events.specs.declared.hpair.HPair.{HPair};
-    ghost use Rattle.pair_events.specs.PairEvents.{rises};
+    ghost use Rattle.pair_events.specs.PairEvents.{is_in_order};
 
     ghost Value = { List HPair };
 
     ghost view = { λ t. t.last.items };
 
-    ghost invariant = { λ t. rises t.last.items ≡ true };
+    ghost invariant = { λ t. is_in_order t.last.items ≡ true };
 }
 
 impl PairTable {
@@ -46,8 +47,32 @@ impl PairTable {
         ensures kept { OnOk result (self.new ≡ now.items) }
         ensures err { OnErr result ((out.new.items ≡ out.old.items) × (self.new ≡ self.old)) }
     {
-        push_events(&self.last, &now, &mut self.over, out)?;
-        self.last = now;
+        let _former = self.turn_keep(now, out)?;
         Ok(())
+    }
+
+    /// Does what `turn` does, and answers the former pairs, which rise as the present ones do. No list is copied.
+    pub fn turn_keep(
+        &mut self,
+        now: Vec<HPair>,
+        out: &mut Vec<Told>,
+    ) -> Result<Vec<HPair>, NoMemory>
+        requires { is_in_order now.items ≡ true }
+        ensures former { IfOk result (λ former. former.items ≡ self.old) }
+        ensures order { IfOk result (λ former. is_in_order former.items ≡ true) }
+        ensures told { OnOk result (out.new.items ≡ out.old.items ++ events self.old now.items) }
+        ensures kept { OnOk result (self.new ≡ now.items) }
+        ensures err { OnErr result ((out.new.items ≡ out.old.items) × (self.new ≡ self.old)) }
+    {
+        push_events(&self.last, &now, &mut self.over, out)?;
+        Ok(mem::replace(&mut self.last, now))
+    }
+
+    /// Makes these the pairs of the last frame. Nothing is told of what that changes. They rise as those of `turn` do.
+    pub fn set_last(&mut self, last: Vec<HPair>)
+        requires { is_in_order last.items ≡ true }
+        ensures { self.new ≡ last.items }
+    {
+        self.last = last;
     }
 }

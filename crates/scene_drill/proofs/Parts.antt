@@ -10,7 +10,7 @@ use Rattle.scene_words.specs.declared.command.Command.{Command}
 use Rattle.scene_words.specs.declared.command.Command.TheVariants.{Header, Add, Remove}
 use Rattle.scene_words.specs.declared.version.Version.TheVariants.{One}
 use Rattle.frame_player.specs.AllowedScene.{AreAllowed, after_all}
-use Rattle.frame_player.specs.World.{World, opening, after, allowed}
+use Rattle.frame_player.specs.World.{World, opening, after, allowed, nobodys}
 use Rattle.made_scene.specs.MadeScene.{Stage, Part, before, nothing, ◌then◌, adds, moves, replacement, questions, one_frame, frames, start, made_scene}
 use Rattle.made_scene.specs.MadeScene.{with_new, with_moved, add_command, move_command, handle_at, next_bounds, next_masks}
 use Rattle.made_scene.specs.MadeScene.{moved, word, body_at, chosen, past_choice}
@@ -57,7 +57,7 @@ adds_allowed (suc n) few s w room h =
       header = h.header;
       bodies = length-append s.bodies (body ∷ []) ∙ ap (λ k. k + 1) h.bodies;
       generations = length-append s.generations (0 ∷ []) ∙ ap (λ k. k + 1) count;
-      table = new_follows s.generations w.table body masks h.table (omega (arith, count, room));
+      table = new_follows s.generations w.table body masks nobodys h.table (omega (arith, count, room));
     } in
     let rest : IsAllowed (few + 1 + n) (after w (add_command s)) (adds n (with_new s)) =
     adds_allowed n (few + 1) (with_new s) (after w (add_command s)) (omega (arith, room)) made in
@@ -90,7 +90,7 @@ replacement_allowed slot boxes s w low few h =
         header = h.header;
         bodies = length-set s.bodies slot body ∙ h.bodies;
         generations = length-set s.generations slot (get_or s.generations slot 0 + 1) ∙ count;
-        table = replaced_follows s.generations w.table slot body masks h.table within;
+        table = replaced_follows s.generations w.table slot body masks nobodys h.table within;
       };
     }
 

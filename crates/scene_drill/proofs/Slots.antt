@@ -5,6 +5,7 @@ use Rattle.std.proofs.lemmas.Bool.Decides.{nat_tests}
 use Rattle.std.proofs.lemmas.List.{length-append, length-set}
 use Rattle.fixed_box.specs.Bounds.{Bounds}
 use Rattle.fixed_box.specs.declared.TheConstants.{SLOTS}
+use Rattle.live_table.specs.declared.group.Group.{Group}
 use Rattle.live_table.specs.declared.handle.Handle.{Handle}
 use Rattle.live_table.specs.declared.live.Live.{Live}
 use Rattle.live_table.specs.declared.masks.Masks.{Masks}
@@ -130,9 +131,9 @@ pub many_follow : (gs : List ℕ) (t : Table) → Follows gs t → length t.entr
 many_follow gs t f = length_at 0 gs t.entries f.entries
 
 -- a new box takes the next slot
-pub new_follows : (gs : List ℕ) (t : Table) (body : Bounds) (masks : Masks) → Follows gs t → length gs < SLOTS
-    → Follows (gs ++ 0 ∷ []) (after_give t body masks)
-new_follows gs t body masks f low =
+pub new_follows : (gs : List ℕ) (t : Table) (body : Bounds) (masks : Masks) (group : Group) → Follows gs t → length gs < SLOTS
+    → Follows (gs ++ 0 ∷ []) (after_give t body masks group)
+new_follows gs t body masks group f low =
     let left : ℕ = SLOTS - length (gs ++ 0 ∷ []) in
     let count : length (gs ++ 0 ∷ []) ≡ length gs + 1 = length-append gs (0 ∷ []) in
     let more : SLOTS - length gs ≡ suc left = omega (arith, low, count) in
@@ -159,9 +160,9 @@ pub fewer_follow : (gs : List ℕ) (t : Table) (i : ℕ) → Follows gs t → i 
 fewer_follow gs t i f low = (but_at gs t i f low).count
 
 -- and another takes its slot
-pub replaced_follows : (gs : List ℕ) (t : Table) (i : ℕ) (body : Bounds) (masks : Masks) → Follows gs t → i < length gs
-    → Follows (set gs i (get_or gs i 0 + 1)) (after_give (after_take t (under i (get_or gs i 0))) body masks)
-replaced_follows gs t i body masks f low =
+pub replaced_follows : (gs : List ℕ) (t : Table) (i : ℕ) (body : Bounds) (masks : Masks) (group : Group) → Follows gs t → i < length gs
+    → Follows (set gs i (get_or gs i 0 + 1)) (after_give (after_take t (under i (get_or gs i 0))) body masks group)
+replaced_follows gs t i body masks group f low =
     let but = but_at gs t i f low in
     let left : Table = after_take t (under i (get_or gs i 0)) in
     let never : List ℕ = replicate (SLOTS - length gs) 0 in

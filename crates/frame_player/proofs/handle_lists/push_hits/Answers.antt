@@ -7,5 +7,5 @@ use Rattle.frame_player.proofs.handle_lists.push_hits.Goals as goal
 pub returns : goal.returns
 returns c =
     on_ok_weaker c.push_listed.result (λ is. is
-    ∙ ap (λ hs. c.args.out.now.items ++ hs) (hits_from_found c.args.table.now.entries c.args.slots.now c.args.query.now c.args.mask
-    c.requires.table.rising c.requires.found)) c.push_listed.ensures
+    ∙ ap (λ hs. c.args.out.now.items ++ hs) (hits_from_found c.args.table.now c.args.slots.now c.args.query.now c.args.mask
+    c.requires.table c.requires.found)) c.push_listed.ensures

@@ -1,19 +1,13 @@
 -- The table lets the box go, and the index follows.
 use Rattle.std.proofs.Common.{rules, ap, ◌∙◌, sym}
-use Rattle.std.specs.Prelude.{is_some}
-use Rattle.std.specs.FinMap.{contains_key}
-use Rattle.frame_player.proofs.Changes.{indexed_present, lives_small}
-use Rattle.frame_player.proofs.Kept.{removed_boxes}
+use Rattle.std.specs.FinMap.{contains_key, remove}
 use Rattle.frame_player.proofs.player.Player.remove.Goals as goal
 
 pub leave-requires : goal.leave-requires
-leave-requires g c =
-    let playing = c.requires.playing in
-    record {
-      small = lives_small c.args.handle c.args.self.now.table.entries playing.table.small (ap is_some (sym c.in-Ok.ensures.found));
-      present = λ _. ap (λ b. contains_key b c.args.handle.slot) playing.boxes
-          ∙ indexed_present c.args.handle c.args.self.now.table.entries playing.table.rising (ap is_some (sym c.in-Ok.ensures.found));
-    }
+leave-requires g c = record {
+  small = c.in-Ok.ensures.small;
+  present = λ _. ap (λ b. contains_key b c.args.handle.slot) c.requires.playing.boxes ∙ c.in-Ok.ensures.present;
+}
 
 pub returns-in-Ok-clause-obeyed : goal.returns-in-Ok-clause-obeyed
 returns-in-Ok-clause-obeyed g c =
@@ -23,8 +17,7 @@ returns-in-Ok-clause-obeyed g c =
       world = search rules;
       playing = record {
         sound = c.leave.ensures.spent ∙ playing.sound;
-        boxes = removed_boxes _ _ c.args.self.now.table c.take.new.self c.args.handle playing.boxes (c.leave.ensures.gone playing.sound) taken.after
-            playing.table (ap is_some (sym taken.found));
+        boxes = c.leave.ensures.gone playing.sound ∙ ap (λ b. remove b c.args.handle.slot) playing.boxes ∙ sym taken.bodies;
         table = taken.table;
       };
       few = search rules;

@@ -1,30 +1,22 @@
 -- The table's box moves, and the index follows.
 use Rattle.std.proofs.Common.{◌+◌, refl, ap, ◌∙◌, sym, arith}
 use Rattle.std.specs.List.{sum}
-use Rattle.std.specs.FinMap.{contains_key, entries, get}
+use Rattle.std.specs.FinMap.{contains_key, entries, get, insert}
 use Rattle.broad_index.specs.Exchanges.{passed_from}
-use Rattle.frame_player.specs.Pairs.{bodies_of, slots_with_bodies}
-use Rattle.frame_player.proofs.Changes.{indexed_present, lives_small, entries-bodies_of, found_body}
+use Rattle.live_table.specs.Bodies.{bodies_of, slots_with_bodies}
 use Rattle.frame_player.proofs.Counts.{shifted_few}
-use Rattle.frame_player.proofs.Kept.{few_bodies, moved_boxes, on_shifted}
+use Rattle.frame_player.proofs.Kept.{few_bodies, on_shifted}
 use Rattle.frame_player.proofs.player.Player.shift.Goals as goal
 
-pub shift-requires-clause-small : goal.shift-requires-clause-small
-shift-requires-clause-small g c = lives_small c.args.handle c.args.self.now.table.entries c.requires.playing.table.small (sym c.in-Ok.ensures.known)
-
 pub shift-requires-clause-present : goal.shift-requires-clause-present
-shift-requires-clause-present g c _ =
-    let playing = c.requires.playing in
-    ap (λ b. contains_key b c.args.handle.slot) playing.boxes
-    ∙ indexed_present c.args.handle c.args.self.now.table.entries playing.table.rising (sym c.in-Ok.ensures.known)
+shift-requires-clause-present g c _ = ap (λ b. contains_key b c.args.handle.slot) c.requires.playing.boxes ∙ c.in-Ok.ensures.present
 
 pub returns-in-Ok-clause-obeyed : goal.returns-in-Ok-clause-obeyed
 returns-in-Ok-clause-obeyed g c =
     let playing = c.requires.playing in
     let moved = c.in-Ok.ensures in
     let bodies = g.B.BroadPhase.bodies c.args.self.now.index in
-    let few = shifted_few bodies c.args.handle.slot c.args.body (few_bodies bodies c.args.self.now.table.entries playing.boxes playing.table.rising
-    playing.table.few) in
+    let few = shifted_few bodies c.args.handle.slot c.args.body (few_bodies bodies c.args.self.now.table playing.boxes playing.table) in
     let exchanges = g.B.BroadPhase.exchanges c.args.self.now.index in
     let live = c.args.self.now.table.entries in
     on_shifted c.shift.result c.shift.ensures.sound c.shift.ensures.ok c.shift.ensures.counted (λ sound put passed. record {
@@ -35,15 +27,12 @@ returns-in-Ok-clause-obeyed g c =
         frames = refl;
         exchanges = λ on.
             passed on ∙ ap (λ b. exchanges + passed_from (get b c.args.handle.slot) (entries b) c.args.handle.slot c.args.body) playing.boxes
-            ∙ ap (λ es. exchanges + passed_from (get (bodies_of live) c.args.handle.slot) es c.args.handle.slot c.args.body)
-            (entries-bodies_of live playing.table.rising)
-            ∙ ap (λ o. exchanges + passed_from o (slots_with_bodies live) c.args.handle.slot c.args.body)
-            (found_body c.args.handle live playing.table.rising (sym moved.known));
+            ∙ ap (λ es. exchanges + passed_from (get (bodies_of live) c.args.handle.slot) es c.args.handle.slot c.args.body) playing.table.mapped
+            ∙ ap (λ o. exchanges + passed_from o (slots_with_bodies live) c.args.handle.slot c.args.body) moved.former;
       };
       playing = record {
         sound = sound;
-        boxes = moved_boxes _ _ c.args.self.now.table c.set_box.new.self c.args.handle c.args.body playing.boxes put moved.after playing.table moved.table
-            moved.known;
+        boxes = put ∙ ap (λ b. insert b c.args.handle.slot c.args.body) playing.boxes ∙ sym moved.bodies;
         table = moved.table;
       };
       few = record {

@@ -1,8 +1,10 @@
 -- The opened slot is filled: entries, gives, marks and counts follow from a write of that one slot.
-use Rattle.std.proofs.Common.{◌≡◌, ℕ, Bool, false, ◌+◌, List, Some, arith, length, get_or, set, sum, ap, sym, subst, ◌∙◌, refl}
-use Rattle.fixed_box.specs.Bounds.{Bounds}
+use Rattle.std.proofs.Common.{◌≡◌, ℕ, Bool, true, false, ◌+◌, List, Some, arith, length, get_or, set, sum, ap, sym, subst, ◌∙◌, refl}
+use Rattle.fixed_box.specs.Bounds.{Bounds, meets}
+use Rattle.fixed_box.specs.Space.{space}
 use Rattle.fixed_box.specs.declared.TheConstants.{SLOTS}
 use Rattle.live_table.specs.declared.masks.Masks.{Masks}
+use Rattle.live_table.specs.declared.group.Group.{Group}
 use Rattle.live_table.specs.declared.slot.Slot.{Slot}
 use Rattle.live_table.specs.Entries.{IsLeastFree}
 use Rattle.live_table.specs.Slots.{opened, entries_of, gives_of, IsKept, IsLeastVacant}
@@ -12,21 +14,24 @@ use Rattle.live_table.proofs.SlotCounts.{len_full, len_le, gives_le}
 use Rattle.live_table.proofs.KeptTable.{table_of}
 use Rattle.live_table.proofs.OpenedSlot.{not_full, opened_place, least_free_so}
 use Rattle.live_table.proofs.GivenSlot.{next_is, given_is, kept_give, give_sum}
+use Rattle.live_table.proofs.BodyMaps.{given_absent, given_bodies}
 use Rattle.live_table.proofs.table.LiveTable.give.Goals as goal
 
 -- the slot as it is afterwards
-abbrev filled : ℕ → ℕ → Bounds → Masks → Slot
-filled slot gives body masks =
-    record { gives = gives + 1; live = Some (record { handle = record { slot = slot; generation = gives }; body = body; masks = masks }) }
+abbrev filled : ℕ → ℕ → Bounds → Masks → Group → Slot
+filled slot gives body masks group =
+    record { gives = gives + 1; live = Some (record { handle = record { slot = slot; generation = gives }; body = body; masks = masks; group = group }) }
 
 -- what is kept, once the opened slot is filled
-kept_filled : (slots items : List Slot) (freed marks : List Bool) (len given slot : ℕ) (place : Slot) (body : Bounds) (masks : Masks)
+kept_filled : (slots items : List Slot) (freed marks : List Bool) (len given slot : ℕ) (place : Slot) (body : Bounds) (masks : Masks) (group : Group)
     → IsKept slots freed len given → IsLeastVacant slots slot → items ≡ opened slot slots → marks ≡ set freed slot false
-    → place ≡ get_or items slot place → IsKept (set items slot (filled slot place.gives body masks)) marks (len + 1) (given + 1)
-kept_filled slots items freed marks len given slot place body masks kept least opens unmarks at =
+    → place ≡ get_or items slot place → meets space body ≡ true
+    → IsKept (set items slot (filled slot place.gives body masks group)) marks (len + 1) (given + 1)
+kept_filled slots items freed marks len given slot place body masks group kept least opens unmarks at in_space =
     let gives = opened_place slots items slot place least opens at in
-    rw (opens, unmarks) (kept_give slots freed len given slot (filled slot place.gives body masks)
-    (record { handle = record { slot = slot; generation = place.gives }; body = body; masks = masks }) kept least (ap (λ n. n + 1) gives) refl refl refl)
+    rw (opens, unmarks) (kept_give slots freed len given slot (filled slot place.gives body masks group)
+    (record { handle = record { slot = slot; generation = place.gives }; body = body; masks = masks; group = group }) kept least
+    (ap (λ n. n + 1) gives) refl refl refl in_space)
 
 pub returns-in_default-clause-full : goal.returns-in_default-clause-full
 returns-in_default-clause-full c =
@@ -51,8 +56,8 @@ pub invariant_of-self-2 : goal.invariant_of-self-2
 invariant_of-self-2 c = (
   c.in-Some.ensures.room,
   kept_filled c.self.inside.slots.items c.open_slot.new.slots.items c.self.inside.freed c.open_slot.new.freed c.self.inside.len c.self.inside.given
-      c.in-Some.slot c.index_mut-place.result.now c.args.body c.args.masks
-      c.self.invariant.1 c.in-Some.ensures.least c.in-Some.ensures.opened c.in-Some.ensures.unmarked c.index_mut-place.ensures.value,
+      c.in-Some.slot c.index_mut-place.result.now c.args.body c.args.masks c.args.group
+      c.self.invariant.1 c.in-Some.ensures.least c.in-Some.ensures.opened c.in-Some.ensures.unmarked c.index_mut-place.ensures.value c.space_law.ensures,
 )
 
 pub returns-clause-handle : goal.returns-clause-handle
@@ -70,10 +75,10 @@ returns-clause-given c =
     let least = c.in-Some.ensures.least in
     let gives = opened_place slots c.open_slot.new.slots.items slot place least c.in-Some.ensures.opened c.index_mut-place.ensures.value in
     let handle = next_is slots slot place.gives c.self.invariant.1.placed least gives in
-    ap (λ items. table_in (set items slot (filled slot place.gives c.args.body c.args.masks))) c.in-Some.ensures.opened
-    ∙ given_is slots slot (filled slot place.gives c.args.body c.args.masks) c.args.body c.args.masks
+    ap (λ items. table_in (set items slot (filled slot place.gives c.args.body c.args.masks c.args.group))) c.in-Some.ensures.opened
+    ∙ given_is slots slot (filled slot place.gives c.args.body c.args.masks c.args.group) c.args.body c.args.masks c.args.group
     (record { slot = slot; generation = place.gives }) c.self.invariant.1.placed least handle (ap (λ n. n + 1) gives) refl
-    ∙ ap (λ t. after_give t c.args.body c.args.masks) c.self.view_is
+    ∙ ap (λ t. after_give t c.args.body c.args.masks c.args.group) c.self.view_is
 
 pub returns-clause-full : goal.returns-clause-full
 returns-clause-full c =
@@ -91,12 +96,21 @@ returns-clause-count c =
     let slot = c.in-Some.slot in
     let place = c.index_mut-place.result.now in
     let gives = opened_place slots c.open_slot.new.slots.items slot place c.in-Some.ensures.least c.in-Some.ensures.opened c.index_mut-place.ensures.value in
-    ap (λ items. sum (gives_of (set items slot (filled slot place.gives c.args.body c.args.masks)))) c.in-Some.ensures.opened
-    ∙ give_sum slots slot (filled slot place.gives c.args.body c.args.masks) c.in-Some.ensures.least (ap (λ n. n + 1) gives)
+    ap (λ items. sum (gives_of (set items slot (filled slot place.gives c.args.body c.args.masks c.args.group)))) c.in-Some.ensures.opened
+    ∙ give_sum slots slot (filled slot place.gives c.args.body c.args.masks c.args.group) c.in-Some.ensures.least (ap (λ n. n + 1) gives)
     ∙ ap (λ t. sum t.gives + 1) c.self.view_is
 
 pub returns-clause-table : goal.returns-clause-table
 returns-clause-table c =
     table_of (kept_filled c.self.inside.slots.items c.open_slot.new.slots.items c.self.inside.freed c.open_slot.new.freed c.self.inside.len
-    c.self.inside.given c.in-Some.slot c.index_mut-place.result.now c.args.body c.args.masks
-    c.self.invariant.1 c.in-Some.ensures.least c.in-Some.ensures.opened c.in-Some.ensures.unmarked c.index_mut-place.ensures.value)
+    c.self.inside.given c.in-Some.slot c.index_mut-place.result.now c.args.body c.args.masks c.args.group
+    c.self.invariant.1 c.in-Some.ensures.least c.in-Some.ensures.opened c.in-Some.ensures.unmarked c.index_mut-place.ensures.value c.space_law.ensures)
+
+pub returns-clause-absent : goal.returns-clause-absent
+returns-clause-absent c =
+    given_absent c.args.self.now c.in-Some.slot (subst IsTable c.self.view_is (table_of c.self.invariant.1)) (returns-clause-free c)
+
+pub returns-clause-bodies : goal.returns-clause-bodies
+returns-clause-bodies c =
+    given_bodies c.args.self.now _ _ c.args.body c.args.masks c.args.group (subst IsTable c.self.view_is (table_of c.self.invariant.1))
+    (returns-clause-table c) (returns-clause-free c) (returns-clause-handle c) (returns-clause-given c)

@@ -1,12 +1,12 @@
--- What an index holds after a change of the live boxes.
-use Rattle.std.proofs.Common.{◌≡◌, ◌≢◌, ℕ, suc, ◌<◌, Bool, true, false, cond, not, T, List, [], ◌∷◌}
+-- The map of the live boxes, and what a change of them makes of it.
+use Rattle.std.proofs.Common.{◌≡◌, ◌≢◌, ℕ, suc, ◌<◌, Bool, true, false, cond, not, T, ◌&&◌, List, [], ◌∷◌}
 use Rattle.std.proofs.Common.{length, Some, None, is_some, option_map, refl, sym, ap, ◌∙◌, subst, arith, nat_eq, nat_lt}
 use Rattle.std.specs.List.{list_all, All}
 use Rattle.std.specs.Ordering.{nat_cmp, is_lt, is_eq, eq_by_cmp}
 use Rattle.std.specs.declared.cmp.Ordering.TheVariants.{Less, Equal, Greater}
 use Rattle.std.specs.Cmp.{first_so, second_so, nat_cmp_is, eq_by_cmp_equiv, alike_right}
 use Rattle.std.specs.Cmp.Derive.{both_true}
-use Rattle.std.specs.FinMap.{FinMap, get, entries, entries-insert, entries-from_sorted, from_sorted, is_sorted, insert, remove, find}
+use Rattle.std.specs.FinMap.{get, entries, entries-insert, entries-from_sorted, from_sorted, is_sorted, insert, remove, find}
 use Rattle.std.specs.FinMap.{put, contains_key, get-from_sorted, get-remove, same_entries_map}
 use Rattle.std.specs.FinMap.{same_map, nat_cmp-IsAntisymmetric, empty, empty_of_len, len-entries}
 use Rattle.std.specs.FinMap.Entries.{below_all, where_key, is_sorted-where_key, find-where_key}
@@ -14,13 +14,13 @@ use Rattle.std.proofs.lemmas.Bool.{eqb-true}
 use Rattle.std.proofs.lemmas.Bool.Decides.{nat_tests}
 use Rattle.std.proofs.lemmas.Cmp.{nat_cmp_total}
 use Rattle.fixed_box.specs.Bounds.{Bounds}
-use Rattle.fixed_box.specs.declared.TheConstants.{SLOTS}
 use Rattle.live_table.specs.declared.handle.Handle.{Handle}
 use Rattle.live_table.specs.declared.live.Live.{Live}
 use Rattle.live_table.specs.declared.masks.Masks.{Masks}
-use Rattle.live_table.specs.Entries.{slot_of, has, entry_at, entered, with_body, with_masks, without, rises, IsLeastFree}
-use Rattle.frame_player.specs.World.{body_of}
-use Rattle.frame_player.specs.Pairs.{slots_with_bodies, bodies_of}
+use Rattle.live_table.specs.Entries.{slot_of, has, live_at, entry_at, entered, with_body, with_masks, without, rises, IsLeastFree}
+use Rattle.live_table.specs.Bodies.{slots_with_bodies, bodies_of, body_of}
+use Rattle.live_table.specs.declared.group.Group.{Group}
+use Rattle.live_table.specs.Table.{Table, IsTable, IsVacated, next_handle, after_give, after_set_box, after_set_masks, after_put_back}
 
 true_to : (b : Bool) → b ≡ true → T b
 true_to true h = tt
@@ -86,7 +86,7 @@ free_slots (e ∷ es) slot free = both_true (differs (slot_of e) slot (free 0 e 
     differs : (x y : ℕ) → x ≢ y → not (nat_eq x y) ≡ true
     differs x y h = grind (arith, nat_tests)
 
-pub insert-entered : (es : List Live) (new : Live) → rises es ≡ true → rises (entered new es) ≡ true → IsLeastFree (slot_of new) es
+insert-entered : (es : List Live) (new : Live) → rises es ≡ true → rises (entered new es) ≡ true → IsLeastFree (slot_of new) es
     → insert (bodies_of es) (slot_of new) new.body ≡ bodies_of (entered new es)
 insert-entered es new r s free = put_indexed es (entered new es) (slot_of new) new.body r s (put_entered es new (free_slots es (slot_of new) free.free))
 
@@ -103,7 +103,7 @@ absent_slot (e ∷ es) slot free = rw (apart slot (slot_of e) (first_so _ _ free
       | false ↦ λ ge. let gt : x < k = grind (arith, nat_tests, differ k x h) in ap is_eq (greater k x gt)
     ] refl
 
-pub indexed_absent : (es : List Live) (slot : ℕ) → rises es ≡ true → IsLeastFree slot es → contains_key (bodies_of es) slot ≡ false
+indexed_absent : (es : List Live) (slot : ℕ) → rises es ≡ true → IsLeastFree slot es → contains_key (bodies_of es) slot ≡ false
 indexed_absent es slot r free =
     ap is_some (get-from_sorted nat_cmp (slots_with_bodies es) slot (sorted es r) ∙ absent_slot es slot (free_slots es slot free.free))
 
@@ -125,16 +125,8 @@ lives_above h (e ∷ es) s some up =
 not_above : (h : Handle) (e : Live) → nat_lt h.slot (slot_of e) ≡ true → has h e ≡ false
 not_above h e lt = let apart : nat_eq (slot_of e) h.slot ≡ false = grind (arith, nat_tests) in rw apart refl
 
-pub lives_small : (h : Handle) (es : List Live) → All (λ e. slot_of e < SLOTS) es → lives h es ≡ true → h.slot < SLOTS
-lives_small h [] small some = cc
-lives_small h (e ∷ es) small some =
-    elim (has h e) as (λ t. has h e ≡ t → is_some (cond t (Some e) (entry_at h es)) ≡ true → h.slot < SLOTS) [
-      | true ↦ λ is _. subst (λ s. s < SLOTS) (same_slot h e is) (small 0 e (omega arith))
-      | false ↦ λ _ later. lives_small h es (λ k d i. small (suc k) d (omega arith)) later
-    ] refl some
-
 -- an index has the box of a live handle
-pub found_body : (h : Handle) (es : List Live) → rises es ≡ true → lives h es ≡ true → get (bodies_of es) h.slot ≡ body_of h es
+found_body : (h : Handle) (es : List Live) → rises es ≡ true → lives h es ≡ true → get (bodies_of es) h.slot ≡ body_of h es
 found_body h es r some = get-from_sorted nat_cmp (slots_with_bodies es) h.slot (sorted es r) ∙ found es r some
   where
     found : (es : List Live) → rises es ≡ true → lives h es ≡ true → find nat_cmp h.slot (slots_with_bodies es) ≡ body_of h es
@@ -167,7 +159,7 @@ put_body h body (e ∷ es) r some =
           (ap (λ xs. (slot_of e, e.body) ∷ xs) (put_body h body es (second_so _ _ r) later))
     ] refl some
 
-pub insert-with_body : (h : Handle) (body : Bounds) (es : List Live) → rises es ≡ true → rises (with_body h body es) ≡ true → lives h es ≡ true
+insert-with_body : (h : Handle) (body : Bounds) (es : List Live) → rises es ≡ true → rises (with_body h body es) ≡ true → lives h es ≡ true
     → insert (bodies_of es) h.slot body ≡ bodies_of (with_body h body es)
 insert-with_body h body es r s some = put_indexed es (with_body h body es) h.slot body r s (put_body h body es r some)
 
@@ -180,11 +172,11 @@ found_slot h (e ∷ es) r some =
       | false ↦ λ _ later. rw (greater h.slot (slot_of e) (lives_above h es (slot_of e) later (first_so _ _ r))) (found_slot h es (second_so _ _ r) later)
     ] refl some
 
-pub indexed_present : (h : Handle) (es : List Live) → rises es ≡ true → lives h es ≡ true → contains_key (bodies_of es) h.slot ≡ true
+indexed_present : (h : Handle) (es : List Live) → rises es ≡ true → lives h es ≡ true → contains_key (bodies_of es) h.slot ≡ true
 indexed_present h es r some = ap is_some (get-from_sorted nat_cmp (slots_with_bodies es) h.slot (sorted es r)) ∙ found_slot h es r some
 
 -- other masks change no box
-pub bodies_of-with_masks : (h : Handle) (masks : Masks) (es : List Live) → bodies_of (with_masks h masks es) ≡ bodies_of es
+bodies_of-with_masks : (h : Handle) (masks : Masks) (es : List Live) → bodies_of (with_masks h masks es) ≡ bodies_of es
 bodies_of-with_masks h masks es = ap (λ xs. from_sorted {R = nat_cmp} xs) (same es)
   where
     same : (es : List Live) → slots_with_bodies (with_masks h masks es) ≡ slots_with_bodies es
@@ -224,7 +216,7 @@ turned : {A : Type 0} (b : Bool) (x y : A) → cond (not b) x y ≡ cond b y x
 turned true x y = refl
 turned false x y = refl
 
-pub remove-bodies_of : (h : Handle) (es : List Live) → rises es ≡ true → lives h es ≡ true → remove (bodies_of es) h.slot ≡ bodies_of (without h es)
+remove-bodies_of : (h : Handle) (es : List Live) → rises es ≡ true → lives h es ≡ true → remove (bodies_of es) h.slot ≡ bodies_of (without h es)
 remove-bodies_of h es r some =
     let xs = slots_with_bodies es in
     let left : T (is_sorted nat_cmp (where_key nat_cmp (other_than h.slot) xs)) = is_sorted-where_key nat_cmp (other_than h.slot) xs (sorted es r) in
@@ -235,6 +227,63 @@ remove-bodies_of h es r some =
     ∙ find-where_key nat_cmp (other_than h.slot) q (λ x t. ap (λ o. not (is_eq o)) (sym (alike_right nat_cmp_total q x h.slot t))) xs))
     ∙ ap (λ ys. from_sorted {R = nat_cmp} ys) (left_out h es r some)
 
--- an empty index has the boxes of an empty table
-pub opening_boxes : (bodies : FinMap nat_cmp Bounds) → bodies ≡ empty → bodies ≡ bodies_of []
-opening_boxes bodies e = e ∙ sym bodies_of-nil
+-- no entry has the slot that no live box has
+vacated_slots : (slot : ℕ) (es : List Live) → live_at slot es ≡ None → list_all (λ o. not (nat_eq (slot_of o) slot)) es ≡ true
+vacated_slots slot [] free = refl
+vacated_slots slot (e ∷ es) free =
+    elim (nat_eq (slot_of e) slot) as (λ t. cond t (Some e) (live_at slot es) ≡ None → not t && list_all (λ o. not (nat_eq (slot_of o) slot)) es ≡ true) [
+      | true ↦ λ some. absurd (cc)
+      | false ↦ λ none. vacated_slots slot es none
+    ] free
+
+-- a box that is put back
+insert-put_back : (es : List Live) (live : Live) → rises es ≡ true → rises (entered live es) ≡ true → live_at (slot_of live) es ≡ None
+    → insert (bodies_of es) (slot_of live) live.body ≡ bodies_of (entered live es)
+insert-put_back es live r s free = put_indexed es (entered live es) (slot_of live) live.body r s (put_entered es live (vacated_slots (slot_of live) es free))
+
+indexed_vacated : (es : List Live) (slot : ℕ) → rises es ≡ true → live_at slot es ≡ None → contains_key (bodies_of es) slot ≡ false
+indexed_vacated es slot r free =
+    ap is_some (get-from_sorted nat_cmp (slots_with_bodies es) slot (sorted es r) ∙ absent_slot es slot (vacated_slots slot es free))
+
+-- the same of tables, as the clauses of the calls say it
+pub given_absent : (t : Table) (slot : ℕ) → IsTable t → IsLeastFree slot t.entries → contains_key (bodies_of t.entries) slot ≡ false
+given_absent t slot is free = indexed_absent t.entries slot is.rising free
+
+pub given_bodies : (t u : Table) (handle : Handle) (body : Bounds) (masks : Masks) (group : Group) → IsTable t → IsTable u → IsLeastFree handle.slot t.entries
+    → handle ≡ next_handle t → u ≡ after_give t body masks group → bodies_of u.entries ≡ insert (bodies_of t.entries) handle.slot body
+given_bodies t u handle body masks group is_t is_u free next given =
+    let new : Live = record { handle = next_handle t; body = body; masks = masks; group = group } in
+    let rising : rises (entered new t.entries) ≡ true = subst (λ v. rises v.entries ≡ true) given is_u.rising in
+    ap (λ v. bodies_of v.entries) given
+    ∙ sym (insert-entered t.entries new is_t.rising rising (subst (λ k. IsLeastFree k.slot t.entries) next free))
+    ∙ ap (λ k. insert (bodies_of t.entries) k.slot body) (sym next)
+
+pub found_present : (t : Table) (handle : Handle) (live : Live) → IsTable t → Some live ≡ entry_at handle t.entries
+    → contains_key (bodies_of t.entries) handle.slot ≡ true
+found_present t handle live is found = indexed_present handle t.entries is.rising (ap is_some (sym found))
+
+pub found_former : (t : Table) (handle : Handle) (live : Live) → IsTable t → Some live ≡ entry_at handle t.entries
+    → get (bodies_of t.entries) handle.slot ≡ body_of handle t.entries
+found_former t handle live is found = found_body handle t.entries is.rising (ap is_some (sym found))
+
+pub moved_bodies : (t u : Table) (handle : Handle) (body : Bounds) (live : Live) → IsTable t → IsTable u → Some live ≡ entry_at handle t.entries
+    → u ≡ after_set_box t handle body → bodies_of u.entries ≡ insert (bodies_of t.entries) handle.slot body
+moved_bodies t u handle body live is_t is_u found after =
+    let rising : rises (with_body handle body t.entries) ≡ true = subst (λ v. rises v.entries ≡ true) after is_u.rising in
+    ap (λ v. bodies_of v.entries) after ∙ sym (insert-with_body handle body t.entries is_t.rising rising (ap is_some (sym found)))
+
+pub masked_bodies : (t u : Table) (handle : Handle) (masks : Masks) → u ≡ after_set_masks t handle masks → bodies_of u.entries ≡ bodies_of t.entries
+masked_bodies t u handle masks after = ap (λ v. bodies_of v.entries) after ∙ bodies_of-with_masks handle masks t.entries
+
+pub left_bodies : (t : Table) (es : List Live) (handle : Handle) (live : Live) → IsTable t → Some live ≡ entry_at handle t.entries
+    → es ≡ without handle t.entries → bodies_of es ≡ remove (bodies_of t.entries) handle.slot
+left_bodies t es handle live is found left = ap bodies_of left ∙ sym (remove-bodies_of handle t.entries is.rising (ap is_some (sym found)))
+
+pub vacated_absent : (t : Table) (live : Live) → IsTable t → IsVacated live t → contains_key (bodies_of t.entries) (slot_of live) ≡ false
+vacated_absent t live is vacated = indexed_vacated t.entries (slot_of live) is.rising vacated.free
+
+pub put_back_bodies : (t u : Table) (live : Live) → IsTable t → IsTable u → IsVacated live t → u ≡ after_put_back t live
+    → bodies_of u.entries ≡ insert (bodies_of t.entries) (slot_of live) live.body
+put_back_bodies t u live is_t is_u vacated after =
+    let rising : rises (entered live t.entries) ≡ true = subst (λ v. rises v.entries ≡ true) after is_u.rising in
+    ap (λ v. bodies_of v.entries) after ∙ sym (insert-put_back t.entries live is_t.rising rising vacated.free)
