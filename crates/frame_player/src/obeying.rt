@@ -3,6 +3,7 @@ ghost use Rattle.frame_player.specs.Outlet.{outlet, IsSent};
 ghost use Rattle.frame_player.specs.Owed.{owed, query_of, IsRun};
 ghost use Rattle.frame_player.specs.Player.{world_in, IsPlaying, HasRoom, IsObeyed, IsChange};
 ghost use Rattle.frame_player.specs.World.{reply, allowed};
+ghost use Rattle.work_pieces.specs.declared.TheConstants.{MOST_WORKERS};
 
 use crate::Options;
 use crate::player::Player;
@@ -24,7 +25,7 @@ pub(crate) fn obey<R: Threads + Sync, B: BroadPhase + Sync + Drop, G: Gate + Syn
     sink: &mut K,
     text: &mut Vec<u8>,
 ) -> Result<(), SinkFault>
-    requires workers { (1 ≤ options.workers) × (options.workers ≤ 16) }
+    requires workers { (1 ≤ options.workers) × (options.workers ≤ MOST_WORKERS) }
     requires shown { options.exchanges ≡ true → B.COUNTS ≡ true }
     requires playing { IsPlaying B.bodies B.spent player.old }
     requires allowed { allowed (world_in B.exchanges player.old) (Ok command.now) ≡ Ok command.now }

@@ -1,4 +1,5 @@
 ghost use Rattle.std.specs.Prelude.{◌≡◌, ◌++◌, ◌<◌, ◌≤◌, Bool, true, false, length, Ok, OnOk, OnErr, IfOk};
+ghost use Rattle.work_pieces.specs.declared.TheConstants.{MOST_WORKERS};
 
 use crate::Options;
 use crate::allowed::{allow_first, allow_later};
@@ -170,7 +171,7 @@ impl<B: BroadPhase + Drop> Player<B> {
     ) -> Result<(), SinkFault>
     where
         B: Sync,
-        requires workers { (1 ≤ options.workers) × (options.workers ≤ 16) }
+        requires workers { (1 ≤ options.workers) × (options.workers ≤ MOST_WORKERS) }
         requires shown { options.exchanges ≡ true → B.COUNTS ≡ true }
         requires playing { IsPlaying B.bodies B.spent self.old }
         requires room { HasRoom B.COUNTS B.exchanges self.old }
@@ -208,7 +209,7 @@ impl<B: BroadPhase + Drop> Player<B> {
     ) -> Result<u32, NoMemory>
     where
         B: Sync,
-        requires workers { (1 ≤ workers) × (workers ≤ 16) }
+        requires workers { (1 ≤ workers) × (workers ≤ MOST_WORKERS) }
         requires playing { IsPlaying B.bodies B.spent self.old }
         ensures count { IfOk result (λ count. count ≡ length (pairs_of self.old.table.entries)) }
         ensures events { OnOk result (self.new.events.items ≡ events self.old.pair_table (pairs_of self.old.table.entries)) }

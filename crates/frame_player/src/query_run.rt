@@ -5,6 +5,7 @@ ghost use Rattle.live_table.specs.Table.{IsTable};
 ghost use Rattle.frame_player.specs.Outlet.{outlet, IsSent};
 ghost use Rattle.frame_player.specs.Owed.{answer_line, answers, owed, IsRun};
 ghost use Rattle.frame_player.specs.Player.{IsPlaying};
+ghost use Rattle.work_pieces.specs.declared.TheConstants.{MOST_WORKERS};
 
 use crate::handle_lists::push_hits;
 use crate::player::Player;
@@ -64,7 +65,7 @@ pub(crate) fn gather<R: Threads + Sync, B: BroadPhase + Sync + Drop, G: Gate + S
     sink: &mut K,
     text: &mut Vec<u8>,
 ) -> Result<(), SinkFault>
-    requires workers { (1 ≤ workers) × (workers ≤ 16) }
+    requires workers { (1 ≤ workers) × (workers ≤ MOST_WORKERS) }
     requires playing { IsPlaying B.bodies B.spent player.now }
     requires run { IsRun run.old }
     ensures sent { IsSent (outlet (K.written sink.old) (K.faults sink.old) (K.since sink.old))
@@ -91,7 +92,7 @@ pub(crate) fn settle<R: Threads + Sync, B: BroadPhase + Sync + Drop, G: Gate + S
     sink: &mut K,
     text: &mut Vec<u8>,
 ) -> Result<(), SinkFault>
-    requires workers { (1 ≤ workers) × (workers ≤ 16) }
+    requires workers { (1 ≤ workers) × (workers ≤ MOST_WORKERS) }
     requires playing { IsPlaying B.bodies B.spent player.now }
     requires same { length run.old.masks.items ≡ length run.old.queries.items }
     requires few { length run.old.queries.items ≤ LONGEST_RUN }

@@ -8,6 +8,7 @@ ghost use Rattle.frame_player.specs.Owed.{owed, IsRun};
 ghost use Rattle.frame_player.specs.Play.{played, report};
 ghost use Rattle.frame_player.specs.Player.{IsPlaying, IsOpening};
 ghost use Rattle.scene_lines.specs.SceneLines.{lines};
+ghost use Rattle.work_pieces.specs.declared.TheConstants.{MOST_WORKERS};
 
 use crate::last::Last;
 use crate::obeying::obey;
@@ -39,7 +40,7 @@ pub fn play<R: Threads + Sync, B: BroadPhase + Sync + Drop, G: Gate + Sync, S: S
     sink: &mut K,
 ) -> Status
     requires fresh { IsFresh (B.bodies index) (B.spent index) (B.exchanges index) }
-    requires workers { (1 ≤ options.workers) × (options.workers ≤ 16) }
+    requires workers { (1 ≤ options.workers) × (options.workers ≤ MOST_WORKERS) }
     requires shown { options.exchanges ≡ true → B.COUNTS ≡ true }
     requires some_lines { 1 ≤ limits.lines }
     requires most_lines { limits.lines ≤ MOST_LINES }
@@ -128,7 +129,7 @@ fn play_lines<R: Threads + Sync, B: BroadPhase + Sync + Drop, G: Gate + Sync, S:
 ) -> Result<Last, SinkFault>
     requires opening { IsOpening B.exchanges player.old }
     requires playing { IsPlaying B.bodies B.spent player.old }
-    requires workers { (1 ≤ options.workers) × (options.workers ≤ 16) }
+    requires workers { (1 ≤ options.workers) × (options.workers ≤ MOST_WORKERS) }
     requires shown { options.exchanges ≡ true → B.COUNTS ≡ true }
     requires some_lines { 1 ≤ limit }
     requires most_lines { limit ≤ MOST_LINES }
@@ -197,7 +198,7 @@ fn finish<R: Threads + Sync, B: BroadPhase + Sync + Drop, G: Gate + Sync, K: Sin
     sink: &mut K,
     text: &mut Vec<u8>,
 ) -> Result<(), SinkFault>
-    requires workers { (1 ≤ workers) × (workers ≤ 16) }
+    requires workers { (1 ≤ workers) × (workers ≤ MOST_WORKERS) }
     requires playing { IsPlaying B.bodies B.spent player.now }
     requires run { IsRun run.old }
     ensures sent { IsSent (outlet (K.written sink.old) (K.faults sink.old) (K.since sink.old))

@@ -1,4 +1,5 @@
 ghost use Rattle.std.specs.Prelude.{◌≤◌};
+ghost use Rattle.work_pieces.specs.declared.TheConstants.{MOST_WORKERS};
 
 mod failing_index;
 
@@ -52,7 +53,7 @@ fn level_without_memory<R: Threads + Sync>(
     workers: u32,
     failing: u32,
 ) -> Result<(Status, Vec<u8>), Fail>
-    requires { (1 ≤ workers) × (workers ≤ 16) }
+    requires { (1 ≤ workers) × (workers ≤ MOST_WORKERS) }
 {
     let index = FailingIndex::new(alloc, failing)?;
     let options = Options {
@@ -81,7 +82,7 @@ fn each_call_without_memory<R: Threads + Sync + Abort>(
     alloc: Global,
     workers: u32,
 ) -> Result<(), Fail>
-    requires { (1 ≤ workers) × (workers ≤ 16) }
+    requires { (1 ≤ workers) × (workers ≤ MOST_WORKERS) }
 {
     for failing in 0..100 {
         let (answer, text) = level_without_memory(rt, alloc, workers, failing)?;

@@ -4,6 +4,7 @@ ghost use Rattle.fixed_box.specs.declared.TheConstants.{SLOTS};
 ghost use Rattle.made_scene.specs.declared.TheConstants.{MOST_FRAMES};
 ghost use Rattle.made_scene.specs.MadeScene.{made_text};
 ghost use Rattle.scene_drill.specs.Drill.{output, drill_report, drill_text, IsDrilled};
+ghost use Rattle.work_pieces.specs.declared.TheConstants.{MOST_WORKERS};
 
 use crate::{Load, made_scene_is_played};
 use broad_index::{BroadPhase, Gate};
@@ -31,7 +32,7 @@ pub fn drill<R: Threads + Sync, B: BroadPhase + Sync + Drop, G: Gate + Sync, K: 
     sink: &mut K,
 ) -> Status
     requires fresh { IsFresh (B.bodies index) (B.spent index) (B.exchanges index) }
-    requires workers { (1 ≤ options.workers) × (options.workers ≤ 16) }
+    requires workers { (1 ≤ options.workers) × (options.workers ≤ MOST_WORKERS) }
     requires shown { options.exchanges ≡ true → B.COUNTS ≡ true }
     requires boxes { (1 ≤ load.boxes) × (load.boxes ≤ SLOTS) }
     requires frames { (1 ≤ load.frames) × (load.frames ≤ MOST_FRAMES) }
@@ -64,7 +65,7 @@ fn summary_text<R: Threads + Sync, B: BroadPhase + Sync + Drop, G: Gate + Sync>(
     gate: &G,
 ) -> Result<Vec<u8>, NoMemory>
     requires fresh { IsFresh (B.bodies index) (B.spent index) (B.exchanges index) }
-    requires workers { (1 ≤ options.workers) × (options.workers ≤ 16) }
+    requires workers { (1 ≤ options.workers) × (options.workers ≤ MOST_WORKERS) }
     requires shown { options.exchanges ≡ true → B.COUNTS ≡ true }
     requires boxes { (1 ≤ load.boxes) × (load.boxes ≤ SLOTS) }
     requires frames { (1 ≤ load.frames) × (load.frames ≤ MOST_FRAMES) }
@@ -92,7 +93,7 @@ fn made_report<R: Threads + Sync, B: BroadPhase + Sync + Drop, G: Gate + Sync>(
     gate: &G,
 ) -> Result<HonestSink, NoMemory>
     requires fresh { IsFresh (B.bodies index) (B.spent index) (B.exchanges index) }
-    requires workers { (1 ≤ options.workers) × (options.workers ≤ 16) }
+    requires workers { (1 ≤ options.workers) × (options.workers ≤ MOST_WORKERS) }
     requires shown { options.exchanges ≡ true → B.COUNTS ≡ true }
     requires boxes { (1 ≤ load.boxes) × (load.boxes ≤ SLOTS) }
     requires frames { (1 ≤ load.frames) × (load.frames ≤ MOST_FRAMES) }
