@@ -1,10 +1,10 @@
 -- each slot's list and number are those of its own search
 use Rattle.std.proofs.Common.{◌<◌, ◌^◌, ◌∙◌, sym, subst, rules}
 use Rattle.std.proofs.lemmas.Result.{IfOk-weaker}
-use Rattle.slot_search.specs.Reach.{reach}
+use Rattle.broad_index.specs.Reach.{reach}
 use Rattle.work_pieces.specs.EachLaws.{Each-length, Each-map}
-use Rattle.slot_search.proofs.Costs.{summed}
-use Rattle.slot_search.proofs.search.seek_many.Goals as goal
+use Rattle.broad_index.proofs.Costs.{summed}
+use Rattle.broad_index.proofs.slot_search.seek_many.Goals as goal
 
 pub parted-requires : goal.parted-requires
 parted-requires g c =

@@ -1,7 +1,7 @@
 use Rattle.std.proofs.Common.{◌≡◌, ◌*◌, ◌≤◌, ◌++◌, length, map}
 use Rattle.std.specs.List.{sum}
 use Rattle.std.specs.Vec.Iter.{into_iter_items}
-use Rattle.slot_search.proofs.search.parted.Given as goal
+use Rattle.broad_index.proofs.slot_search.parted.Given as goal
 
 -- the lists and the sum so far
 abbrev pub invariant-found : goal.invariant-found

@@ -1,6 +1,6 @@
 ghost use Rattle.std.specs.Prelude.{◌≡◌, ◌^◌, ◌<◌, ◌≤◌, true, length, map, sum, IfOk, IfSome, All};
 ghost use Rattle.std.specs.FinMap.{contains_key};
-ghost use Rattle.slot_search.specs.Reach.{reach};
+ghost use Rattle.broad_index.specs.Reach.{reach};
 
 use crate::Seeker;
 use fixed_box::NoMemory;

@@ -2,7 +2,7 @@ ghost use Rattle.std.specs.Prelude.{◌≡◌, ℕ, ◌++◌, true, Option, None
 ghost use Rattle.std.specs.Ordering.{nat_cmp};
 ghost use Rattle.std.specs.FinMap as map;
 ghost use Rattle.fixed_box.specs.Bounds.{Bounds};
-ghost use Rattle.slot_search.specs.Reach.{reach};
+ghost use Rattle.broad_index.specs.Reach.{reach};
 
 use fixed_box::NoMemory;
 

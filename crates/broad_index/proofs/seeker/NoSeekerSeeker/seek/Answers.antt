@@ -2,7 +2,7 @@
 use Rattle.std.proofs.Common.{◌≡◌, true, false, is_some, ap, sym, ◌∙◌}
 use Rattle.std.specs.Ordering.{nat_cmp}
 use Rattle.std.specs.FinMap.{get-empty}
-use Rattle.slot_search.proofs.seeker.NoSeekerSeeker.seek.Goals as goal
+use Rattle.broad_index.proofs.seeker.NoSeekerSeeker.seek.Goals as goal
 
 not_true : false ≡ true → ⊥
 not_true h = cc
