@@ -3,10 +3,9 @@ ghost use Rattle.std.specs.FinMap as map;
 
 use super::dice::Dice;
 use crate::HierGrid;
-use broad_index::{BroadPhase, Gate, Pair, PlainIndex, Query};
+use broad_index::{BroadPhase, Gate, Pair, PlainIndex, Query, Seeker, seek_many};
 use cell_table::CellKey;
 use fixed_box::{FBox, NoMemory, SLOTS};
-use slot_search::{Seeker, seek_many};
 use std::alloc::Global;
 use std::marker::Model;
 use std::thread::Threads;
