@@ -4,6 +4,7 @@
 
 mod descent;
 mod group;
+mod laws;
 mod leaves;
 mod moved;
 mod preorder;
@@ -13,6 +14,7 @@ mod search;
 mod touched;
 mod tree;
 
+pub use laws::margin_limits;
 pub use moved::Moved;
 pub use tree::BoxTree;
 

@@ -5,9 +5,8 @@ ghost use Rattle.fixed_box.specs.Bounds.{Bounds};
 ghost use Rattle.broad_index.specs.declared.pair.Pair.{Pair};
 ghost use Rattle.work_pieces.specs.Runs.{InRuns};
 
-use crate::Pair;
+use crate::{NoSeeker, Pair};
 use fixed_box::NoMemory;
-use slot_search::NoSeeker;
 use std::alloc::Global;
 use std::thread::Threads;
 use work_pieces::{Gate, by_runs};

@@ -79,6 +79,8 @@ fn a_box_that_leaves_is_in_no_pair(rt: HostRuntime) -> Result<(), Fail> {
     index.hits(&Query::Region(here), &mut slots)?;
     assert!(rt; pairs.is_empty());
     assert_eq!(rt; slots.as_slice(), [4].as_slice());
+    assert_eq!(rt; (index.box_of(4), index.box_of(2)), (Some(here), None));
+    assert_eq!(rt; index.len(), 1);
     Ok(())
 }
 
@@ -94,6 +96,14 @@ fn what_was_found_is_appended_once_and_rising(rt: HostRuntime) -> Result<(), Fai
     let mut slots = Vec::new(rt.alloc());
     push_rising_slots(&mut met, &mut slots)?;
     assert_eq!(rt; slots.as_slice(), [5, 7].as_slice());
+    Ok(())
+}
+
+#[test]
+fn no_slot_is_sought_at_no_cost(rt: HostRuntime) -> Result<(), Fail> {
+    let (lists, cost) = seek_many(&rt, rt.alloc(), &NoSeeker, &[], 4, &NoGate)?;
+    assert!(rt; lists.is_empty());
+    assert_eq!(rt; cost, 0);
     Ok(())
 }
 

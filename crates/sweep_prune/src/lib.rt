@@ -17,7 +17,6 @@ mod walk_down;
 mod walk_up;
 
 pub use axis::Axis;
-pub use laws::overlap_laws;
 pub use sap::Sap;
 
 #[cfg(test)]

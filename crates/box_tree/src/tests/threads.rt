@@ -1,8 +1,7 @@
 use super::{cube, edit, put, same_number, same_pairs, same_slots, two_here};
 use crate::BoxTree;
-use broad_index::{BroadPhase, Gate, NoGate, Pair};
+use broad_index::{BroadPhase, Gate, NoGate, Pair, seek_many};
 use fixed_box::{FBox, NoMemory};
-use slot_search::seek_many;
 use std::alloc::Global;
 use std::process::Abort;
 use std::sync::atomic::{AtomicBool, AtomicU32, Ordering};

@@ -91,6 +91,14 @@ impl BroadPhase for FailingIndex {
         self.plain.hits(query, out)
     }
 
+    fn box_of(&self, slot: u32) -> Option<FBox> {
+        self.plain.box_of(slot)
+    }
+
+    fn len(&self) -> u32 {
+        self.plain.len()
+    }
+
     fn exchanges(&self) -> u64 {
         0
     }
