@@ -20,6 +20,3 @@ pub use tree::BoxTree;
 
 /// How far a fat box reaches beyond the box that it was made for, on each side, in raw units.
 pub const MARGIN: u32 = 8_192;
-
-#[cfg(test)]
-mod tests;

@@ -28,6 +28,3 @@ pub use seeker::{NoSeeker, Seeker};
 pub use sharing::{FEWEST_SOUGHT, pays_threads};
 pub use slot_search::seek_many;
 pub use work_pieces::{Gate, NoGate};
-
-#[cfg(test)]
-mod tests;

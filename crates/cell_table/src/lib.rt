@@ -22,6 +22,3 @@ pub const LEVELS: u8 = 11;
 
 // How many buckets the cells are hashed into.
 const BUCKETS: u32 = 16_384;
-
-#[cfg(test)]
-mod tests;

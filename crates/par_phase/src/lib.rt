@@ -5,6 +5,3 @@ mod hits;
 
 pub use broad_index::{Seeker, seek_many};
 pub use hits::hits_many;
-
-#[cfg(test)]
-mod tests;

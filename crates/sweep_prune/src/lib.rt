@@ -18,6 +18,3 @@ mod walk_up;
 
 pub use axis::Axis;
 pub use sap::Sap;
-
-#[cfg(test)]
-mod tests;

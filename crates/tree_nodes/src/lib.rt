@@ -30,6 +30,3 @@ pub const MOST_HEIGHT: u8 = 18;
 
 // How many nodes a tree of 8,192 leaves has: the leaves, and one inner node fewer.
 const MOST_NODES: usize = 16_383;
-
-#[cfg(test)]
-mod tests;
