@@ -9,6 +9,7 @@ ghost use Rattle.broad_index.specs.Near.{near, rises};
 ghost use Rattle.broad_index.specs.NearRises.{near_rises};
 ghost use Rattle.broad_index.specs.declared.pair.Pair.{Pair};
 ghost use Rattle.work_pieces.specs.Runs.{InRuns};
+ghost use Rattle.work_pieces.specs.declared.TheConstants.{MOST_WORKERS};
 
 use crate::pair_seeker::{PairSeeker, seek_by_pieces};
 use crate::{Pair, Query};
@@ -119,7 +120,7 @@ pub trait BroadPhase {
     ) -> Result<(), NoMemory>
     where
         Self: Sync + Sized,
-        requires workers { (1 ≤ workers) × (workers ≤ 16) }
+        requires workers { (1 ≤ workers) × (workers ≤ MOST_WORKERS) }
         ensures was_sound { OnOk result (spent self.old ≡ false) }
         ensures ok { OnOk result (out.new.items ≡ out.old.items ++ near (bodies self.old)) }
         ensures err { OnErr result (out.new.items ≡ out.old.items) }

@@ -1,6 +1,7 @@
 ghost use Rattle.std.specs.Prelude.{◌≡◌, ◌^◌, ◌<◌, ◌≤◌, true, length, map, sum, IfOk, IfSome, All};
 ghost use Rattle.std.specs.FinMap.{contains_key};
 ghost use Rattle.broad_index.specs.Reach.{reach};
+ghost use Rattle.work_pieces.specs.declared.TheConstants.{MOST_WORKERS};
 
 use crate::Seeker;
 use fixed_box::NoMemory;
@@ -21,7 +22,7 @@ pub fn seek_many<R: Threads + Sync, K: Seeker + Sync, G: Gate + Sync>(
     gate: &G,
 ) -> Result<(Vec<Vec<u32>>, u64), NoMemory>
     requires few { length slots.now < 2 ^ 32 }
-    requires workers { (1 ≤ workers) × (workers ≤ 16) }
+    requires workers { (1 ≤ workers) × (workers ≤ MOST_WORKERS) }
     requires present { All (λ slot. contains_key (K.bodies index.now) slot ≡ true) slots.now }
     ensures lists { IfOk result (λ found. map (λ list. list.items) found.0.items ≡ map (reach (K.bodies index.now)) slots.now) }
     ensures cost { IfOk result (λ found. IfSome (K.costs index.now) (λ cost. found.1 ≡ sum (map cost slots.now))) }

@@ -1,4 +1,4 @@
--- This file only serves proofs: the rings of links that keep the slots of each bucket, and the numbers of each level.
+-- Serves proofs alone: the rings of links that keep the slots of each bucket, and the numbers of each level.
 use Rattle.std.specs.Prelude.{◌≡◌, ℕ, zero, suc, ◌+◌, ◌<◌, ◌≤◌, Bool, true, false, ◌==◌, nat_lt, ℤ, ◌≤ℤ◌, ◌<ℤ◌}
 use Rattle.std.specs.Prelude.{List, [], ◌∷◌, ◌++◌, length, slice_index, slice_index_or, slice_set, map, filter, count_by, Option, None, Some, if◌then◌else◌}
 use Rattle.std.specs.Ordering.{nat_cmp}

@@ -3,9 +3,9 @@ ghost use Rattle.work_pieces.specs.declared.TheConstants.{MOST_WORKERS};
 
 mod failing_index;
 
-use frame_player::{Limits, Options, Status, play};
 use broad_index::NoGate;
 use failing_index::FailingIndex;
+use frame_player::{Limits, Options, Status, play};
 use play_io::{HonestSink, HonestSource};
 use std::alloc::Global;
 use std::process::Abort;

@@ -1,7 +1,7 @@
-use scene_words::{Command, LineFault, Version, print_command, read_command};
 use fixed_box::{FBox, Fix, Point};
 use live_table::{Handle, Masks};
 use ray_slabs::{Ray, Seg, WPoint};
+use scene_words::{Command, LineFault, Version, print_command, read_command};
 use std::test::Fail;
 
 // One unit in raw units.

@@ -1,8 +1,8 @@
 ghost use Rattle.std.specs.Prelude.{◌<◌};
 
-use overlap_count::Counts;
 use broad_index::Pair;
 use fixed_box::{NoMemory, SLOTS};
+use overlap_count::Counts;
 use std::alloc::Global;
 use std::test::Fail;
 

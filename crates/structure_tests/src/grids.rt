@@ -1,10 +1,10 @@
 ghost use Rattle.std.specs.Prelude.{◌<◌};
 
 use crate::gates::{Meeting, Threaded};
-use hier_grid::HierGrid;
 use broad_index::{BroadPhase, NoGate, Pair, Query, Seeker, seek_many};
 use cell_table::CellKey;
 use fixed_box::{FBox, NoMemory, Point, SLOTS};
+use hier_grid::HierGrid;
 use std::alloc::Global;
 use std::process::Abort;
 use std::test::Fail;
@@ -181,11 +181,7 @@ fn slots_are_sought_in_the_order_asked_for(rt: HostRuntime) -> Result<(), Fail> 
     done
 }
 
-fn meet<R: Threads + Sync + Abort>(
-    rt: &R,
-    alloc: Global,
-    grid: &mut HierGrid,
-) -> Result<(), Fail> {
+fn meet<R: Threads + Sync + Abort>(rt: &R, alloc: Global, grid: &mut HierGrid) -> Result<(), Fail> {
     put_two(grid, ORIGIN)?;
     let gate = Meeting::new();
     let mut pairs = Vec::new(alloc);

@@ -1,7 +1,7 @@
 ghost use Rattle.std.specs.Prelude.{◌+◌, ◌≤◌};
 
-use lane_boxes::{BoxPacket, Columns};
 use fixed_box::{FBox, NoMemory, Point};
+use lane_boxes::{BoxPacket, Columns};
 use std::alloc::Global;
 use std::test::Fail;
 

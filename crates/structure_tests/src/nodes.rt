@@ -4,9 +4,9 @@ ghost use Rattle.structure_tests.specs.Filled.{IsFilled};
 ghost use Rattle.tree_nodes.specs.Tree.{view_in};
 ghost use Rattle.tree_nodes.specs.declared.node_view.NodeView.TheVariants.{Leaf as LeafNode};
 
-use tree_nodes::{MOST_HEIGHT, NodeView, Nodes};
 use fixed_box::{FBox, Point, SLOTS};
 use std::test::Fail;
+use tree_nodes::{MOST_HEIGHT, NodeView, Nodes};
 
 // The flat box at a point of the x axis.
 fn flat(x: i32) -> Option<FBox> {

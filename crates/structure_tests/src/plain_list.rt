@@ -1,8 +1,10 @@
 ghost use Rattle.std.specs.Prelude.{◌≡◌, ◌≤◌, length};
 ghost use Rattle.std.specs.FinMap as map;
 
-use broad_index::{BroadPhase, NoGate, NoSeeker, Pair, PlainIndex, Query};
-use broad_index::{join_pieces, push_ordered_pairs, push_rising_pairs, push_rising_slots, renew_pairs, seek_many};
+use broad_index::{
+    BroadPhase, NoGate, NoSeeker, Pair, PlainIndex, Query, join_pieces, push_ordered_pairs,
+    push_rising_pairs, push_rising_slots, renew_pairs, seek_many,
+};
 use fixed_box::{FBox, NoMemory, Point, SLOTS};
 use ray_slabs::{Ray, Seg, WPoint};
 use std::alloc::Global;

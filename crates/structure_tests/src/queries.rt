@@ -1,7 +1,7 @@
 use crate::gates::Meeting;
-use par_phase::hits_many;
 use broad_index::{BroadPhase, Gate, PlainIndex, Query};
 use fixed_box::{FBox, NoMemory, Point};
+use par_phase::hits_many;
 use std::alloc::Global;
 use std::sync::atomic::{AtomicU32, Ordering};
 use std::test::Fail;

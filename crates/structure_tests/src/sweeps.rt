@@ -2,8 +2,6 @@ ghost use Rattle.std.specs.Prelude.{◌≡◌, ◌<◌, false, OnOk};
 
 mod by_hand;
 
-use sweep_prune::{Axis, Sap};
-use sweep_prune::walk::{Core, clear};
 use broad_index::{BroadPhase, NoGate, Pair, Query};
 use by_hand::{enter_slot, exchange_at, quit_slot};
 use endpoint_list::EndList;
@@ -12,6 +10,8 @@ use std::alloc::Global;
 use std::process::Abort;
 use std::test::Fail;
 use std::thread::Threads;
+use sweep_prune::walk::{Core, clear};
+use sweep_prune::{Axis, Sap};
 
 const PAIR: Pair = Pair { a: 0, b: 1 };
 
@@ -126,7 +126,10 @@ fn compare_two<R: Threads + Sync + Abort>(
     let mut pairs = Vec::new(alloc);
     sap.pairs(&mut pairs)?;
     sap.pairs_with(rt, 2, &NoGate, &mut pairs)?;
-    assert_eq!(rt; pairs.as_slice(), [Pair { a: 2, b: 4 }, Pair { a: 2, b: 4 }].as_slice());
+    assert_eq!(rt;
+        pairs.as_slice(),
+        [Pair { a: 2, b: 4 }, Pair { a: 2, b: 4 }].as_slice()
+    );
     take(sap, 2);
     pairs.clear();
     sap.pairs(&mut pairs)?;
@@ -226,4 +229,3 @@ fn counts_follow_each_single_exchange(rt: HostRuntime) -> Result<(), Fail> {
     drop(core);
     done
 }
-

@@ -1,7 +1,7 @@
-use sweep_prune::Axis;
-use sweep_prune::walk::{Core, enter, exchange, quit};
 use endpoint_list::list_laws;
 use fixed_box::{NoMemory, SLOTS};
+use sweep_prune::Axis;
+use sweep_prune::walk::{Core, enter, exchange, quit};
 
 // Puts a slot in, where it is absent.
 pub(super) fn enter_slot(core: &mut Core, slot: u32) {

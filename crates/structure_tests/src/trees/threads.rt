@@ -1,5 +1,5 @@
-use crate::gates::{Meeting, Threaded};
 use super::{cube, edit, put, same_number, same_pairs, same_slots, two_here};
+use crate::gates::{Meeting, Threaded};
 use box_tree::BoxTree;
 use broad_index::{BroadPhase, NoGate, Pair, seek_many};
 use fixed_box::{FBox, NoMemory};
