@@ -805,6 +805,16 @@ struct Meeting {
     met: AtomicU32,
 }
 
+impl Meeting {
+    // Nobody has met yet.
+    fn new() -> Meeting {
+        Meeting {
+            entered: [AtomicBool::new(false), AtomicBool::new(false)],
+            met: AtomicU32::new(0),
+        }
+    }
+}
+
 impl Gate for Meeting {
     fn enter(&self, piece: u32) {
         let here = (piece & 1) as usize;
@@ -818,18 +828,10 @@ impl Gate for Meeting {
     }
 }
 
-// A gate at which nobody has met yet.
-fn meeting() -> Meeting {
-    Meeting {
-        entered: [AtomicBool::new(false), AtomicBool::new(false)],
-        met: AtomicU32::new(0),
-    }
-}
-
 // Blank lines and comments end no run of queries.
 #[test]
 fn two_threads_answer_two_queries(rt: HostRuntime) -> Result<(), Fail> {
-    let gate = meeting();
+    let gate = Meeting::new();
     let index = PlainIndex::new(rt.alloc())?;
     let scene = b"scene 1\nadd 0 0 0 1 1 1\npoint 0 0 0\n\n# next\npoint 9 9 9\n";
     let report = b"add 0:0\npoint 1 0:0\npoint 0\nend 6 0 1\n";
@@ -841,7 +843,7 @@ fn two_threads_answer_two_queries(rt: HostRuntime) -> Result<(), Fail> {
 
 #[test]
 fn two_threads_seek_the_pairs_of_a_frame(rt: HostRuntime) -> Result<(), Fail> {
-    let gate = meeting();
+    let gate = Meeting::new();
     let index = BoxTree::new(rt.alloc())?;
     let scene = b"scene 1\nadd 0 0 0 1 1 1\nadd 1 0 0 2 1 1\nframe\n";
     let report = b"add 0:0\nadd 1:0\nframe 1 1\nbegin 0:0 1:0\nend 4 1 2\n";

@@ -183,7 +183,7 @@ fn a_sink_that_fails_has_a_part_of_the_summary(rt: HostRuntime) -> Result<(), Fa
 #[test]
 fn two_threads_play_a_drill(rt: HostRuntime) -> Result<(), Fail> {
     let alloc = rt.alloc();
-    let gate = meeting();
+    let gate = Meeting::new();
     let index = BoxTree::new(alloc)?;
     let load = Load {
         seed: 42,
