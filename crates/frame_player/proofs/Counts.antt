@@ -1,5 +1,5 @@
 -- How many pairs there can be.
-use Rattle.std.proofs.Common.{ℕ, ◌+◌, ◌*◌, ◌≤◌, Bool, true, false, cond, List, [], ◌∷◌, filter, length, arith}
+use Rattle.std.proofs.Common.{ℕ, ◌*◌, ◌≤◌, Bool, true, false, cond, List, [], ◌∷◌, filter, length, arith}
 use Rattle.std.proofs.lemmas.List.{length-append, length-map}
 use Rattle.live_table.specs.declared.live.Live.{Live}
 use Rattle.pair_events.specs.declared.hpair.HPair.{HPair}

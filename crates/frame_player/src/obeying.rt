@@ -1,4 +1,4 @@
-ghost use Rattle.std.specs.Prelude.{◌≡◌, ◌++◌, ◌≤◌, true, Ok, OnOk};
+ghost use Rattle.std.specs.Prelude.{◌≡◌, ◌++◌, ◌≤◌, Bool, true, Ok, OnOk};
 ghost use Rattle.frame_player.specs.Outlet.{outlet, IsSent};
 ghost use Rattle.frame_player.specs.Owed.{owed, query_of, IsRun};
 ghost use Rattle.frame_player.specs.Player.{world_in, IsPlaying, HasRoom, IsObeyed, IsChange};
@@ -50,7 +50,7 @@ pub(crate) fn obey<R: Threads + Sync, B: BroadPhase + Sync + Drop, G: Gate + Syn
         }
         _ => {
             settle(rt, workers, gate, player, run, sink, text)?;
-            change(options.exchanges, player, command, sink, text)
+            change(player, command, sink, text)
         }
     }
 }
@@ -71,7 +71,6 @@ fn query_of(command: &Command) -> Option<(Query, u32)>
 // Changes the world at once, and hands the reply on.
 #[tactic(auto, using(crate::proofs::Sending::out_of_memory))]
 fn change<B: BroadPhase + Drop, K: Sink>(
-    shows: bool,
     player: &mut Player<B>,
     command: &Command,
     sink: &mut K,
@@ -82,11 +81,11 @@ fn change<B: BroadPhase + Drop, K: Sink>(
     requires room { HasRoom B.COUNTS B.exchanges player.old }
     requires change { IsChange command.now }
     ensures obeyed { OnOk result (IsObeyed B.bodies B.spent B.COUNTS B.exchanges command.now player.old player.new) }
-    ensures sent { IsSent (outlet (K.written sink.old) (K.faults sink.old) (K.since sink.old))
+    // It tells no exchanges.
+    ensures sent { (shows : Bool) → IsSent (outlet (K.written sink.old) (K.faults sink.old) (K.since sink.old))
         (outlet (K.written sink.new) (K.faults sink.new) (K.since sink.new))
         (text.old.items ++ reply shows (world_in B.exchanges player.old) command.now) text.new.items result }
 {
-    let _ = shows;
     player.change(command, text)?;
     hand_on(sink, text)
 }

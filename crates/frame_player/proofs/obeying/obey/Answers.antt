@@ -63,5 +63,5 @@ returns-in_ok-settle-in_default-command-clause-sent g c =
     (c.args.text.now.items ++ owed c.args.player.now.table.entries c.args.run.now) c.settle-in_default-command.new.text.items
     (reply c.args.options.exchanges w c.args.command.now)
     left (left ++ owed c.change.new.player.table.entries run) c.change.result
-    c.in_ok-settle-in_default-command.ensures.sent c.change.ensures.sent
+    c.in_ok-settle-in_default-command.ensures.sent (c.change.ensures.sent c.args.options.exchanges)
     (on_always c.change.result (none_owed c.change.new.player.table.entries left run.queries.items run.masks.items c.in_ok-settle-in_default-command.ensures.queries))
