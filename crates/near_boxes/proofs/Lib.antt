@@ -1,0 +1,5 @@
+pub mod Gathered
+pub mod MapEntries
+pub mod NearMembers
+pub mod Nearer
+pub mod Reached
