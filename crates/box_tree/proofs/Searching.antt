@@ -1,16 +1,15 @@
 -- What descents find is what the map has, and which slots are sought.
 use Rattle.std.proofs.Common.{◌≡◌, ◌≢◌, ℕ, zero, suc, ◌<◌, Bool, true, false, not, cond, ◌&&◌, ◌||◌, ◌==◌, Option, None, Some, is_some, List, [], ◌∷◌, ◌++◌}
 use Rattle.std.proofs.Common.{length, map, filter, replicate, get_or, refl, sym, ap, ◌∙◌, subst, arith, inl, inr, ⊎_elim}
-use Rattle.std.specs.List.{All, Contains, list_any, sum}
+use Rattle.std.specs.List.{Contains, list_any, sum}
 use Rattle.std.specs.Ordering.{nat_cmp, eq_by_cmp}
 use Rattle.std.specs.FinMap.{FinMap, contains_key, get, entries, keys, contains_key-keys}
-use Rattle.std.proofs.lemmas.Bool.{cases_eq, cases_Bool, and_parts, eq-eqb}
+use Rattle.std.proofs.lemmas.Bool.{cases_eq, cases_Bool, eq-eqb}
 use Rattle.std.proofs.lemmas.Bool.Decides.{nat_tests}
-use Rattle.std.proofs.lemmas.List.Elements.{All-weaker, All-contains_itself, Contains-append_left, Contains-append_right, Contains-append_cases}
-use Rattle.std.proofs.lemmas.List.Folds.{list_any_at}
+use Rattle.std.proofs.lemmas.List.Elements.{Contains-append_left, Contains-append_right, Contains-append_cases}
 use Rattle.fixed_box.specs.declared.TheConstants.{SLOTS}
 use Rattle.fixed_box.specs.Bounds.{Bounds, meets}
-use Rattle.slot_search.specs.Reach.{reach_of}
+use Rattle.broad_index.specs.Reach.{reach_of}
 use Rattle.broad_index.specs.declared.pair.Pair.{Pair}
 use Rattle.broad_index.specs.declared.query.Query.{Query}
 use Rattle.broad_index.specs.declared.query.Query.TheVariants.{Region}
@@ -216,19 +215,6 @@ are_marked marks m k h =
     and_yes : (b : Bool) → (b && true) ≡ b
     and_yes true = refl
     and_yes false = refl
-
-pub marked_present : (marks : List Bool) (m : FinMap nat_cmp Bounds) → All (λ slot. contains_key m slot ≡ true) (marked_of marks m)
-marked_present marks m =
-    All-weaker (Contains (marked_of marks m)) (λ slot. contains_key m slot ≡ true) each (marked_of marks m)
-    (All-contains_itself (marked_of marks m))
-  where
-    each : (x : ℕ) → Contains (marked_of marks m) x → contains_key m x ≡ true
-    each x c =
-        let h : has_slot (marked_of marks m) x ≡ true =
-        list_any_at (λ y. x == y) (marked_of marks m) c.0 x c.1 (ap (λ y. x == y) c.2 ∙ eq-eqb x x refl) in
-        let both = and_parts (get_or marks x false) (has_slot (map (λ (e : ℕ × Bounds). e.0) (entries m)) x)
-        (sym (has_marked (λ j. get_or marks j false) (entries m) x) ∙ h) in
-        sym (has_keys m x) ∙ both.1
 
 pub same_costs : (o : Option Tree) (bodies : List (Option Bounds)) (slots : List ℕ)
     → map (λ k. visits_for o (get_or bodies k None)) slots ≡ map (λ k. visits_for o (get (map_of bodies) k)) slots

@@ -1,12 +1,11 @@
 -- The slots that threads share are the touched ones, in whichever order, and what their pieces find renews the pairs.
 use Rattle.std.proofs.Common.{◌≡◌, ℕ, suc, ◌+◌, ◌≤◌, Bool, true, false, cond, ◌&&◌, ◌||◌, ◌==◌, Option, None, Some, is_some, List, [], ◌∷◌, ◌++◌}
 use Rattle.std.proofs.Common.{length, map, get_or, refl, sym, ap, ◌∙◌, subst, arith}
-use Rattle.std.specs.Prelude.{nat_lt, IfSome}
+use Rattle.std.specs.Prelude.{IfSome}
 use denote.Ref.{Bor}
 use Rattle.std.specs.List.{All, Contains, sum}
 use Rattle.std.specs.Ordering.{nat_cmp}
 use Rattle.std.specs.FinMap.{FinMap, contains_key}
-use Rattle.std.proofs.lemmas.Bool.Decides.{nat_tests}
 use Rattle.std.proofs.lemmas.List.{map-append}
 use Rattle.std.proofs.lemmas.List.Elements.{All-cons, All-nil}
 use Rattle.std.proofs.lemmas.List.Folds.{list_any-append}
@@ -23,16 +22,15 @@ use Rattle.work_pieces.specs.Each.{Each}
 use Rattle.work_pieces.specs.Runs.{InRuns, put_together}
 use Rattle.tree_nodes.specs.Tree.{Tree, Leaf, leaves, leaves_in, IsTreeIn}
 use Rattle.box_tree.specs.declared.preorder.ListedNode.{ListedNode}
-use Rattle.box_tree.specs.declared.touched.TheConstants.{FEWEST_GROUPED}
 use Rattle.box_tree.specs.Boxes.{Boxes, visits_for, cost, marked_slots, shared_slots, sought, raised, Finds}
 use Rattle.box_tree.specs.Descent.{entry_of, exact, exact_in}
 use Rattle.box_tree.specs.Group.{touched_of, crossed, all_visits_in, Adds, AreOf}
-use Rattle.box_tree.specs.Searches.{looked_for, searches, shared_from, sought_from}
+use Rattle.box_tree.specs.Searches.{looked_for, searches, sought_from}
 use Rattle.box_tree.specs.Ties.{Sound}
 use Rattle.box_tree.proofs.Counts.{raised_again}
 use Rattle.box_tree.proofs.CrossedPairs.{has_append}
 use Rattle.box_tree.proofs.LeafTies.{some_there}
-use Rattle.box_tree.proofs.Searching.{ReachLaw, RenewingLaw, seen, exact_in_is, all_reached, searched_slots, marked_is, are_marked, marked_present, same_costs}
+use Rattle.box_tree.proofs.Searching.{ReachLaw, RenewingLaw, seen, exact_in_is, all_reached, searched_slots, marked_is, are_marked, same_costs}
 use Rattle.box_tree.proofs.TouchedPairs.{exact_in_own, touched_own, touched_marked, renewed_of, own_boxed, crossed_boxed}
 use Rattle.box_tree.proofs.TouchedSums.{touched_total}
 
@@ -55,18 +53,7 @@ pub list_there : (r : Option (Bor (List ListedNode))) (listed : Bool) (held list
 list_there None listed held list h is = h
 list_there (Some b) listed held list h is = h.1 ∙ is h.0
 
-not_few : (a b : ℕ) → b ≤ a → nat_lt a b ≡ false
-not_few a b le = grind (arith, nat_tests)
-
--- many slots are shared in the order of their leaves
-pub shared_many : (o : Option Tree) (bodies : List (Option Bounds)) (marks : List Bool) (slots : List ℕ) → slots ≡ sought_from marks 0 bodies
-    → FEWEST_GROUPED ≤ length slots → marked_slots marks (leaves_in o) ≡ shared_from o bodies marks
-shared_many o bodies marks slots e many =
-    let few : nat_lt (length (sought_from marks 0 bodies)) FEWEST_GROUPED ≡ false =
-    ap (λ l. nat_lt (length l) FEWEST_GROUPED) (sym e) ∙ not_few (length slots) FEWEST_GROUPED many in
-    sym (ap (λ b. cond b (sought_from marks 0 bodies) (marked_slots marks (leaves_in o))) few)
-
--- and they are no more than the leaves
+-- no more slots are marked than there are leaves
 pub shared_few : (o : Option Tree) → IsTreeIn o → (t : Tree) → o ≡ Some t → (marks : List Bool) → length (marked_slots marks (leaves t)) ≤ SLOTS
 shared_few o tree t e marks =
     let few : length (leaves t) ≤ SLOTS = (subst IsTreeIn e tree).few in
@@ -126,33 +113,18 @@ module _ (o : Option Tree) (bodies fats : List (Option Bounds)) (numbers : List 
       ∙ sym (ap (λ es. map (λ (e : ℕ × Bounds). e.0) (touched_of marks es)) (exact_in_is o bodies fats numbers marks kept s o))
 
   -- the shared slots are the touched ones
-  pub shared_marked : AreMarked (map_of bodies) marks (shared_from o bodies marks)
-  shared_marked =
-      elim (nat_lt (length (sought_from marks 0 bodies)) FEWEST_GROUPED) as
-      (λ b. AreMarked (map_of bodies) marks (cond b (sought_from marks 0 bodies) (marked_slots marks (leaves_in o)))) [
-        | true ↦ subst (AreMarked (map_of bodies) marks) (sym (marked_is marks bodies)) (are_marked marks (map_of bodies))
-        | false ↦ subst (AreMarked (map_of bodies) marks) (sym along_is) (touched_marked o bodies fats numbers marks kept s)
-      ]
+  pub shared_marked : AreMarked (map_of bodies) marks (marked_slots marks (leaves_in o))
+  shared_marked = subst (AreMarked (map_of bodies) marks) (sym along_is) (touched_marked o bodies fats numbers marks kept s)
 
-  pub shared_present : All (λ slot. contains_key (map_of bodies) slot ≡ true) (shared_from o bodies marks)
-  shared_present =
-      elim (nat_lt (length (sought_from marks 0 bodies)) FEWEST_GROUPED) as
-      (λ b. All (λ slot. contains_key (map_of bodies) slot ≡ true) (cond b (sought_from marks 0 bodies) (marked_slots marks (leaves_in o)))) [
-        | true ↦ subst (All (λ slot. contains_key (map_of bodies) slot ≡ true)) (sym (marked_is marks bodies)) (marked_present marks (map_of bodies))
-        | false ↦ leaves_present bodies marks (leaves_in o) leaves_there
-      ]
+  pub shared_present : All (λ slot. contains_key (map_of bodies) slot ≡ true) (marked_slots marks (leaves_in o))
+  shared_present = leaves_present bodies marks (leaves_in o) leaves_there
 
   -- and cost as much
-  pub shared_sum : sum (map (seeks o bodies) (shared_from o bodies marks)) ≡ sum (map (seeks o bodies) (sought_from marks 0 bodies))
+  pub shared_sum : sum (map (seeks o bodies) (marked_slots marks (leaves_in o))) ≡ sum (map (seeks o bodies) (sought_from marks 0 bodies))
   shared_sum =
-      elim (nat_lt (length (sought_from marks 0 bodies)) FEWEST_GROUPED) as
-      (λ b. sum (map (seeks o bodies) (cond b (sought_from marks 0 bodies) (marked_slots marks (leaves_in o))))
-      ≡ sum (map (seeks o bodies) (sought_from marks 0 bodies))) [
-        | true ↦ refl
-        | false ↦ ap (λ l. sum (map (seeks o bodies) l)) along_is
-            ∙ entries_sum o bodies entries (touched_own bodies marks (exact_in bodies o) (exact_in_own bodies o))
-            ∙ touched_total o bodies fats numbers marks kept s
-      ]
+      ap (λ l. sum (map (seeks o bodies) l)) along_is
+      ∙ entries_sum o bodies entries (touched_own bodies marks (exact_in bodies o) (exact_in_own bodies o))
+      ∙ touched_total o bodies fats numbers marks kept s
 
   -- a search of the touched slots renews the pairs, in whichever order they come
   pub renewed_run : ReachLaw → RenewingLaw → (slots : List ℕ) (before found : List Pair) → AreMarked (map_of bodies) marks slots → before ≡ []
@@ -189,27 +161,20 @@ module _ (o : Option Tree) (bodies fats : List (Option Bounds)) (numbers : List 
   sought_marked = subst (AreMarked (map_of bodies) marks) (sym (marked_is marks bodies)) (are_marked marks (map_of bodies))
 
   module _ (v : Boxes) (looked : ℕ) (view : seen o bodies fats marks looked ≡ v) where
-    own_shared : shared_from o bodies marks ≡ shared_slots (seen o bodies fats marks looked)
-    own_shared = ap (λ l. cond (nat_lt (length l) FEWEST_GROUPED) l (marked_slots marks (leaves_in o))) (marked_is marks bodies)
+    pub shared_viewed : marked_slots marks (leaves_in o) ≡ shared_slots v
+    shared_viewed = ap shared_slots view
 
-    pub shared_viewed : shared_from o bodies marks ≡ shared_slots v
-    shared_viewed = own_shared ∙ ap shared_slots view
-
-    -- the same of lists that are read
-    pub shared_read : {bs : List (Option Bounds)} {ms : List Bool} {slots : List ℕ} → bs ≡ bodies → ms ≡ marks
-        → slots ≡ shared_from o bs ms → slots ≡ shared_slots v
-    shared_read {bs} {ms} eb em e = e ∙ ap (λ xs. shared_from o xs ms) eb ∙ ap (shared_from o bodies) em ∙ shared_viewed
+    -- the same of marks that are read
+    pub shared_read : {ms : List Bool} {slots : List ℕ} → ms ≡ marks → slots ≡ marked_slots ms (leaves_in o) → slots ≡ shared_slots v
+    shared_read em e = e ∙ ap (λ xs. marked_slots xs (leaves_in o)) em ∙ shared_viewed
 
     pub present_viewed : All (λ slot. contains_key v.bodies slot ≡ true) (shared_slots v)
-    present_viewed =
-        subst (λ (b : Boxes). All (λ slot. contains_key b.bodies slot ≡ true) (shared_slots b)) view
-        (subst (All (λ slot. contains_key (map_of bodies) slot ≡ true)) own_shared shared_present)
+    present_viewed = subst (λ (b : Boxes). All (λ slot. contains_key b.bodies slot ≡ true) (shared_slots b)) view shared_present
 
     pub cost_shared : sum (map (cost v) (shared_slots v)) ≡ sum (map (cost v) (sought v))
     cost_shared =
         ap (λ (b : Boxes). sum (map (cost b) (shared_slots b))) (sym view)
-        ∙ ap (λ l. sum (map (cost (seen o bodies fats marks looked)) l)) (sym own_shared)
-        ∙ sym (ap sum (same_costs o bodies (shared_from o bodies marks)))
+        ∙ sym (ap sum (same_costs o bodies (marked_slots marks (leaves_in o))))
         ∙ shared_sum
         ∙ ap sum (same_costs o bodies (sought_from marks 0 bodies))
         ∙ ap (λ l. sum (map (cost (seen o bodies fats marks looked)) l)) (marked_is marks bodies)
@@ -290,7 +255,7 @@ module _ {Y : Type 0} (pairs : Y → List Pair) (number : Y → ℕ) (o : Option
   pub pieces_renewed : ReachLaw → RenewingLaw → TouchedLaw → (ys : List Y) → InRuns (λ run y. Finds v run (pairs y) (number y)) (shared_slots v) ys
       → (found : List Pair) → ((p : Pair) → has_pair found p ≡ has_pair (put_together (map pairs ys)) p) → Renewed (map_of bodies) marks kept found
   pieces_renewed law renewing touched ys runs found same =
-      let slots = shared_from o bodies marks in
+      let slots = marked_slots marks (leaves_in o) in
       let m = map_of bodies in
       let r = renewed_of o bodies fats numbers marks kept s law renewing slots (shared_marked o bodies fats numbers marks kept s) kept s.kept_are in
       record {

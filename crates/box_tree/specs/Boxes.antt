@@ -1,6 +1,6 @@
 -- Definitions: a tree of fat boxes, as clauses see it.
-use Rattle.std.specs.Prelude.{◌≡◌, ◌&&◌, ◌||◌, ℕ, ◌+◌, ◌-◌, ◌^◌, min, nat_lt, Bool, false, if◌then◌else◌}
-use Rattle.std.specs.Prelude.{List, length, map, filter, sum, replicate, slice_index_or, Option, None, Some, refl}
+use Rattle.std.specs.Prelude.{◌≡◌, ◌&&◌, ◌||◌, ℕ, ◌+◌, ◌-◌, ◌^◌, min, Bool, false, if◌then◌else◌}
+use Rattle.std.specs.Prelude.{List, map, filter, sum, replicate, slice_index_or, Option, None, Some, refl}
 use Rattle.std.specs.Ordering.{nat_cmp}
 use Rattle.std.specs.FinMap.{FinMap, code, entries, empty, get, insert}
 use Rattle.std.specs.Coded.{Coded, code_by, coded×, coded_ℕ, coded_bool, coded_list}
@@ -11,7 +11,6 @@ use Rattle.broad_index.specs.Members.{has_pair, has_slot, is_near}
 use Rattle.tree_nodes.specs.Tree.{Tree, Leaf, leaves_in, visits_in}
 use Rattle.tree_nodes.specs.TreeCode.{coded_tree}
 use Rattle.box_tree.specs.declared.TheConstants.{MARGIN}
-use Rattle.box_tree.specs.declared.touched.TheConstants.{FEWEST_GROUPED}
 use Rattle.box_tree.specs.declared.moved.Moved.{Moved}
 use Rattle.box_tree.specs.declared.moved.Moved.TheVariants.{Inside, Relinked}
 
@@ -76,9 +75,9 @@ sought b = map (λ e. e.0) (filter (λ e. slice_index_or b.touched e.0 false) (e
 abbrev pub marked_slots : List Bool → List Leaf → List ℕ
 marked_slots marks xs = filter (λ s. slice_index_or marks s false) (map (λ x. x.slot) xs)
 
--- The slots that several threads seek: many in the order of their leaves, so that those of a piece lie near one another, and few rising.
+-- The slots that several threads seek, in the order of their leaves, so that those of a piece lie near one another.
 abbrev pub shared_slots : Boxes → List ℕ
-shared_slots b = if nat_lt (length (sought b)) FEWEST_GROUPED then sought b else marked_slots b.touched (leaves_in b.tree)
+shared_slots b = marked_slots b.touched (leaves_in b.tree)
 
 -- a number of 64 bits, which stops at its greatest value
 abbrev pub raised : ℕ → ℕ → ℕ

@@ -1,12 +1,11 @@
 -- Serves proofs alone: the searches of touched slots.
-use Rattle.std.specs.Prelude.{ℕ, Bool, false, not, ◌==◌, nat_lt, if◌then◌else◌}
-use Rattle.std.specs.Prelude.{List, [], ◌∷◌, ◌++◌, length, map, sum, filter, Option, None, Some, slice_index_or}
+use Rattle.std.specs.Prelude.{ℕ, Bool, false, not, ◌==◌}
+use Rattle.std.specs.Prelude.{List, [], ◌∷◌, ◌++◌, map, sum, filter, Option, None, Some, slice_index_or}
 use Rattle.fixed_box.specs.Bounds.{Bounds}
 use Rattle.broad_index.specs.declared.query.Query.TheVariants.{Region}
 use Rattle.broad_index.specs.Found.{found_of}
-use Rattle.tree_nodes.specs.Tree.{Tree, leaves_in}
-use Rattle.box_tree.specs.declared.touched.TheConstants.{FEWEST_GROUPED}
-use Rattle.box_tree.specs.Boxes.{marked_slots, raised, visits_for}
+use Rattle.tree_nodes.specs.Tree.{Tree}
+use Rattle.box_tree.specs.Boxes.{raised, visits_for}
 use Rattle.box_tree.specs.Descent.{entry_of, exact_in}
 use Rattle.slot_lists.specs.SlotMap.{entries_from}
 
@@ -34,8 +33,3 @@ looked_for tree bodies slots looked = raised looked (sum (map (λ s. visits_for 
 abbrev pub boxed : List (Option Bounds) → List ℕ → List (ℕ × Bounds)
 boxed bodies [] = []
 boxed bodies (s ∷ ss) = entry_of s (slice_index_or bodies s None) ++ boxed bodies ss
-
--- the slots that are shared among threads
-abbrev pub shared_from : Option Tree → List (Option Bounds) → List Bool → List ℕ
-shared_from tree bodies marks =
-    if nat_lt (length (sought_from marks 0 bodies)) FEWEST_GROUPED then sought_from marks 0 bodies else marked_slots marks (leaves_in tree)

@@ -4,6 +4,7 @@
 
 mod descent;
 mod group;
+mod laws;
 mod leaves;
 mod moved;
 mod preorder;
@@ -13,11 +14,9 @@ mod search;
 mod touched;
 mod tree;
 
+pub use laws::margin_limits;
 pub use moved::Moved;
 pub use tree::BoxTree;
 
 /// How far a fat box reaches beyond the box that it was made for, on each side, in raw units.
 pub const MARGIN: u32 = 8_192;
-
-#[cfg(test)]
-mod tests;

@@ -14,7 +14,7 @@ ghost use Rattle.box_tree.specs.Boxes.{marked_slots, raised};
 ghost use Rattle.box_tree.specs.Descent.{exact_in, IsInsideIn};
 ghost use Rattle.box_tree.specs.Group.{crossed, touched_of, all_visits_in, Adds, AreOf};
 ghost use Rattle.box_tree.specs.Preorder.{preorder_in};
-ghost use Rattle.box_tree.specs.Searches.{boxed, looked_for, searches, shared_from, sought_from};
+ghost use Rattle.box_tree.specs.Searches.{boxed, looked_for, searches, sought_from};
 ghost use Rattle.box_tree.specs.Ties.{Sound};
 
 use crate::descent::descend;
@@ -97,8 +97,8 @@ pub(crate) fn listing(listed: bool, preorder: &[ListedNode]) -> Option<&[ListedN
     if listed { Some(preorder) } else { None }
 }
 
-// Appends the touched slots that are present: many in the order of their leaves, so that those that lie together in space
-// mostly stand together, and few in rising order.
+// Appends the touched slots that are present in the order of their leaves, so that those that lie together in space mostly
+// stand together.
 pub(crate) fn push_shared(
     nodes: &Nodes,
     bodies: &[Option<FBox>],
@@ -112,15 +112,10 @@ pub(crate) fn push_shared(
     requires list { IfSome listing (λ list. list.now ≡ preorder_in bodies.now nodes.now) }
     requires along { marked_slots marks.now (leaves_in nodes.now) ≡ map (λ e. e.0) (touched_of marks.now (exact_in bodies.now nodes.now)) }
     requires empty { out.old.items ≡ [] }
-    ensures ok { OnOk result (out.new.items ≡ shared_from nodes.now bodies.now marks.now) }
+    ensures ok { OnOk result (out.new.items ≡ marked_slots marks.now (leaves_in nodes.now)) }
     ensures few { OnOk result (length out.new.items ≤ SLOTS) }
 {
     box_law();
-    push_sought(bodies, marks, out)?;
-    if out.len() < FEWEST_GROUPED {
-        return Ok(());
-    }
-    out.clear();
     let Some(_top) = nodes.root() else {
         return Ok(());
     };

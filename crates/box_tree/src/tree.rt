@@ -16,11 +16,10 @@ use crate::search::reach;
 use crate::touched::{SearchRoom, listing, push_shared, search_run, search_touched};
 use crate::{MARGIN, Moved};
 use broad_index::{
-    BroadPhase, FEWEST_SOUGHT, Pair, PairSeeker, Query, holding_laws, join_pieces, keeping_laws,
-    member_laws, pays_threads, push_rising_slots, settle_pairs,
+    BroadPhase, FEWEST_SOUGHT, Pair, PairSeeker, Query, Seeker, holding_laws, join_pieces,
+    keeping_laws, member_laws, pays_threads, push_rising_slots, settle_pairs,
 };
 use fixed_box::{FBox, NoMemory, SLOTS};
-use slot_search::Seeker;
 use std::alloc::Global;
 use std::marker::Model;
 use tree_nodes::{MOST_HEIGHT, Nodes};
@@ -266,6 +265,20 @@ impl BroadPhase for BoxTree {
         let mut met = Vec::new(*out.allocator());
         descend(&self.nodes, &self.bodies, query, &mut met)?;
         push_rising_slots(&mut met, out)
+    }
+
+    fn box_of(&self, slot: u32) -> Option<FBox> {
+        let slot = slot as usize;
+        if slot < self.bodies.len() {
+            self.bodies[slot]
+        } else {
+            None
+        }
+    }
+
+    // Each present slot has one leaf.
+    fn len(&self) -> u32 {
+        self.nodes.len() as u32
     }
 
     fn exchanges(&self) -> u64 {

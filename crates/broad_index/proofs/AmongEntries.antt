@@ -10,7 +10,7 @@ use Rattle.fixed_box.specs.Bounds.{Bounds, meets}
 use Rattle.broad_index.specs.declared.query.Query.{Query}
 use Rattle.broad_index.specs.Found.{found_of, query_meets}
 use Rattle.broad_index.specs.Members.{has_slot, both_meet, meets_query, is_found, is_reached}
-use Rattle.slot_search.specs.Reach.{reach_of}
+use Rattle.broad_index.specs.Reach.{reach_of}
 use Rattle.broad_index.specs.Held.{Holds}
 use Rattle.broad_index.proofs.MapMembers.{passes, slots_where, has_cons, and_false}
 

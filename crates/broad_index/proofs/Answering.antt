@@ -9,7 +9,7 @@ use Rattle.broad_index.specs.Found.{found}
 use Rattle.broad_index.specs.Near.{near, rises}
 use Rattle.broad_index.specs.NearRises.{near_rises}
 use Rattle.broad_index.specs.Members.{has_pair, has_slot, slots_rise, is_near, is_found, is_reached}
-use Rattle.slot_search.specs.Reach.{reach}
+use Rattle.broad_index.specs.Reach.{reach}
 use Rattle.broad_index.proofs.MapMembers.{near_members, found_members, found_rises, reach_members, reach_rises}
 use Rattle.broad_index.proofs.OneRising.{one_rising_pairs, one_rising_slots}
 

@@ -1,5 +1,7 @@
 pub mod AmongEntries
 pub mod Answering
+pub mod Costs
+pub mod ExchangeCounts
 pub mod Holding
 pub mod MapMembers
 pub mod Merging

@@ -18,7 +18,7 @@ use Rattle.slot_lists.specs.RisingLaws.{filtered_rise, mapped_rise}
 use Rattle.broad_index.specs.Near.{partners, near_of, near}
 use Rattle.broad_index.specs.NearRises.{true_from, slot_lt, entries_rise}
 use Rattle.broad_index.specs.Members.{same_pair, has_pair, has_slot, slots_rise, both_meet, is_near, meets_query, is_found, is_reached}
-use Rattle.slot_search.specs.Reach.{reach, reach_of}
+use Rattle.broad_index.specs.Reach.{reach, reach_of}
 
 lt_from : (x y : ℕ) → is_lt (nat_cmp x y) ≡ true → x < y
 lt_from x y h =

@@ -1,11 +1,11 @@
 -- Slots in order with their boxes beside them, as the map that they are.
 use Rattle.std.proofs.Common.{◌≡◌, ℕ, suc, ◌+◌, ◌<◌, ◌≤◌, pos, Bool, true, false, T, List, ◌∷◌, ◌++◌, length, map, filter, take, drop, zip}
-use Rattle.std.proofs.Common.{insert, remove, set, get_or, sym, ap, ap₂, subst, ◌∙◌, arith, nat_lt, is_some}
+use Rattle.std.proofs.Common.{insert, remove, set, get_or, sym, ap, ap₂, subst, ◌∙◌, arith, nat_lt, is_some, Some, None}
 use Rattle.std.proofs.Common.{length-append, length-take, length-drop, length-set}
 use Rattle.std.specs.List.{AllWithin}
 use Rattle.std.specs.List.Sorted.{IsPartitionedBy}
 use Rattle.std.specs.Ordering.{nat_cmp}
-use Rattle.std.specs.FinMap.{FinMap, entries, contains_key, find, is_sorted, insert as insert_key, remove as remove_key}
+use Rattle.std.specs.FinMap.{FinMap, entries, contains_key, find, get, get-from_sorted, is_sorted, insert as insert_key, len, len-entries, remove as remove_key}
 use Rattle.std.specs.FinMap.Entries.{put}
 use Rattle.std.proofs.lemmas.List.{drop_at, drop_more, take_at}
 use Rattle.std.proofs.lemmas.Simd.{map-map}
@@ -19,7 +19,7 @@ use Rattle.broad_index.specs.Entries.{AreEntries, Placed, pairs_at}
 use Rattle.broad_index.specs.Index.{bodies_of}
 use Rattle.broad_index.specs.Near.{near_of, partners}
 use Rattle.fixed_box.specs.Space.{space}
-use Rattle.broad_index.proofs.SortedEntries.{absent_from, entries_of_sorted, from_sorted-put, from_sorted-remove, insert_is_put, key_there}
+use Rattle.broad_index.proofs.SortedEntries.{absent_from, entries_of_sorted, find_at, find_none, from_sorted-put, from_sorted-remove, insert_is_put, key_there}
 use Rattle.broad_index.proofs.SortedEntries.{partitioned, present_from, present_within, rising_few, set_is_put, sorted_put, sorted_removed}
 
 origin : Bounds
@@ -55,7 +55,30 @@ module _ (slots : List ℕ) (boxes : List Bounds) (a : AreEntries slots boxes) w
       (zip slots boxes) slot at
   placed bodies slot at e p = subst (λ es. Placed es slot at) (ap entries (sym e) ∙ entries_are) p
 
+  -- as many slots as the map has
+  pub slots_counted : len (bodies_of (zip slots boxes)) ≡ length slots
+  slots_counted = len-entries (bodies_of (zip slots boxes)) ∙ ap length entries_are ∙ zip_long
+
   module _ (slot at : ℕ) (p : Placed (zip slots boxes) slot at) where
+    -- what a slot has is the box at its place, where the slot stands there
+    pub held_there : (s : ℕ) (body : Bounds) → at < length slots → s ≡ get_or slots at s → body ≡ get_or boxes at body → s ≡ slot
+        → Some body ≡ get (bodies_of (zip slots boxes)) slot
+    held_there s body l es eb same =
+        let here : get_or (zip slots boxes) at (s, body) ≡ (s, body) = zip_at at (s, body) l ∙ sym
+        (ap (λ x. (x, body)) es ∙ ap (λ b. (get_or slots at s, b)) eb) in
+        sym
+        (get-from_sorted nat_cmp (zip slots boxes) slot a.sorted
+        ∙ find_at (zip slots boxes) slot at (s, body) a.sorted (omega (arith, zip_long, l)) (ap (λ e. e.0) here ∙ same)
+        ∙ ap (λ e. Some e.1) here)
+
+    pub held_nowhere : (at < length slots → get_or slots at 0 ≡ slot → ⊥) → None ≡ get (bodies_of (zip slots boxes)) slot
+    held_nowhere other =
+        sym
+        (get-from_sorted nat_cmp (zip slots boxes) slot a.sorted
+        ∙ find_none (zip slots boxes) slot at (0, origin) a.sorted p.bound p.below p.above
+        (λ l same. let within : at < length slots = omega (arith, zip_long, l) in
+        other within (sym (ap (λ e. e.0) (zip_at at (0, origin) within)) ∙ same)))
+
     pub inserted_map : (body : Bounds) → contains_key (bodies_of (zip slots boxes)) slot ≡ false
         → zip (insert slots at slot) (insert boxes at body) ≡ insert (zip slots boxes) at (slot, body)
         → bodies_of (zip (insert slots at slot) (insert boxes at body)) ≡ insert_key (bodies_of (zip slots boxes)) slot body

@@ -5,7 +5,7 @@ use Rattle.std.specs.Ordering.{nat_cmp}
 use Rattle.std.specs.FinMap.{FinMap}
 use Rattle.std.proofs.lemmas.List.Elements.{All-map}
 use Rattle.fixed_box.specs.Bounds.{Bounds}
-use Rattle.slot_search.specs.Reach.{reach}
+use Rattle.broad_index.specs.Reach.{reach}
 use Rattle.broad_index.specs.declared.pair.Pair.{Pair}
 use Rattle.broad_index.specs.Members.{has_slot, is_reached}
 use Rattle.broad_index.specs.Touched.{gathered_with, AreKept, AreMarked, Renewed}

@@ -206,6 +206,26 @@ module _ {X : Type 0} where
       key_there es k i d (both_from _ _ h).1 (past e es k present lt) (omega arith)
       (λ j d lo hi. below (suc j) d (omega arith) (omega arith)) (λ j d lo hi. above (suc j) d (omega arith) (omega arith))
 
+  -- an entry is what its slot has
+  pub find_at : (es : List (ℕ × X)) (k : ℕ) (i : ℕ) (d : ℕ × X) → T (is_sorted nat_cmp es) → i < length es → (get_or es i d).0 ≡ k
+      → find nat_cmp k es ≡ Some (get_or es i d).1
+  find_at [] k i d h l same = absurd (omega arith)
+  find_at (e ∷ es) k zero d h l same = rw (sym (nat_cmp_is k e.0 Equal (sym same))) refl
+  find_at (e ∷ es) k (suc i) d h l same =
+      let within : i < length es = omega arith in
+      let above : e.0 < (get_or es i d).0 = below_at e.0 es (both_from _ _ h).0 i d within in
+      let lt : e.0 < k = subst (λ x. e.0 < x) same above in
+      rw (sym (nat_cmp_is k e.0 Greater lt)) (find_at es k i d (both_from _ _ h).1 within same)
+
+  -- a slot that doesn't stand at its place is absent
+  pub find_none : (es : List (ℕ × X)) (k : ℕ) (i : ℕ) (d : ℕ × X) → T (is_sorted nat_cmp es) → i ≤ length es → AllWithin (λ e. nat_lt e.0 k ≡ true) es 0 i
+      → AllWithin (λ e. nat_lt e.0 k ≡ false) es i (length es) → (i < length es → (get_or es i d).0 ≡ k → ⊥) → find nat_cmp k es ≡ None
+  find_none es k i d h le below above other =
+      elim (find nat_cmp k es) as (λ o. find nat_cmp k es ≡ o → o ≡ None) [
+        | None ↦ λ _. refl
+        | Some v ↦ λ e. absurd (other (present_within es k i (ap is_some e) le below) (key_there es k i d h (ap is_some e) le below above))
+      ] refl
+
   -- rising slots from m on, all of them below n, are few
   pub rising_few : (es : List (ℕ × X)) (m n : ℕ) → T (is_sorted nat_cmp es) → ((j : ℕ) (d : ℕ × X) → j < length es → m ≤ (get_or es j d).0)
       → ((j : ℕ) (d : ℕ × X) → j < length es → (get_or es j d).0 < n) → m ≤ n → m + length es ≤ n

@@ -1,4 +1,4 @@
--- This file only serves proofs: slots in order, and beside each its box.
+-- Serves proofs alone: slots in order, and beside each its box.
 use Rattle.std.specs.Prelude.{◌≡◌, ℕ, ◌<◌, ◌≤◌, Bool, true, false, nat_lt, T, IsTrue, List, length, map, zip, slice_get, slice_index_or, All}
 use Rattle.std.specs.List.{AllWithin}
 use Rattle.std.specs.Ordering.{nat_cmp}

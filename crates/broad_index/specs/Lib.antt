@@ -8,6 +8,7 @@ pub mod Members
 pub mod Near
 pub mod NearRises
 pub mod PairOrder
+pub mod Reach
 pub mod Regions
 pub mod Searched
 pub mod Touched

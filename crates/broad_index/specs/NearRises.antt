@@ -1,4 +1,4 @@
--- It serves proofs: the pairs of a map that meet stand in rising order.
+-- Serves proofs alone: the pairs of a map that meet stand in rising order.
 use Rattle.std.specs.Prelude.{◌≡◌, ℕ, ◌<◌, Bool, true, false, T, ◌&&◌, ◌||◌, nat_lt, ◌==◌, List, [], ◌∷◌, filter, refl}
 use Rattle.std.proofs.Common.{arith, ap, ◌∙◌}
 use Rattle.std.specs.Ordering.{nat_cmp, is_lt}

@@ -1,4 +1,4 @@
--- This file only serves proofs: where in space the region of a ray or a segment lies.
+-- Serves proofs alone: where in space the region of a ray or a segment lies.
 use Rattle.std.specs.Prelude.{◌≡◌, ◌⊎◌, ℤ, pos, negsuc, ◌≤ℤ◌, ◌<ℤ◌}
 use Rattle.fixed_box.specs.Bounds.{Bounds}
 use Rattle.fixed_box.specs.declared.point.Point.{Point}

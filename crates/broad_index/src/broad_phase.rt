@@ -9,6 +9,7 @@ ghost use Rattle.broad_index.specs.Near.{near, rises};
 ghost use Rattle.broad_index.specs.NearRises.{near_rises};
 ghost use Rattle.broad_index.specs.declared.pair.Pair.{Pair};
 ghost use Rattle.work_pieces.specs.Runs.{InRuns};
+ghost use Rattle.work_pieces.specs.declared.TheConstants.{MOST_WORKERS};
 
 use crate::pair_seeker::{PairSeeker, seek_by_pieces};
 use crate::{Pair, Query};
@@ -119,7 +120,7 @@ pub trait BroadPhase {
     ) -> Result<(), NoMemory>
     where
         Self: Sync + Sized,
-        requires workers { (1 ≤ workers) × (workers ≤ 16) }
+        requires workers { (1 ≤ workers) × (workers ≤ MOST_WORKERS) }
         ensures was_sound { OnOk result (spent self.old ≡ false) }
         ensures ok { OnOk result (out.new.items ≡ out.old.items ++ near (bodies self.old)) }
         ensures err { OnErr result (out.new.items ≡ out.old.items) }
@@ -147,6 +148,14 @@ pub trait BroadPhase {
         ensures ok { OnOk result (out.new.items ≡ out.old.items ++ found (bodies self.now) query.now) }
         ensures err { OnErr result (out.new.items ≡ out.old.items) };
 
+    /// The box under a slot, a proxy's AABB, and `None` where the slot is absent. It is one look-up.
+    fn box_of(&self, slot: u32) -> Option<FBox>
+        ensures held { spent self.now ≡ false → result ≡ map.get (bodies self.now) slot };
+
+    /// The number of present slots, the proxy count.
+    fn len(&self) -> u32
+        ensures len { spent self.now ≡ false → result ≡ map.len (bodies self.now) };
+
     /// The number of exchanges since the index was made or last cleared, and 0 where they aren't counted.
     fn exchanges(&self) -> u64
         ensures sound { spent self.now ≡ false → result ≡ exchanges self.now }
@@ -157,6 +166,9 @@ pub trait BroadPhase {
         ensures cleared { spent self.old ≡ false → exchanges self.new ≡ 0 }
         ensures bodies { bodies self.new ≡ bodies self.old }
         ensures spent { spent self.new ≡ spent self.old };
+
+    // An engine calls what stands above. What follows is for implementors: what several threads search, which only a structure
+    // that shares a `PairSeeker` writes, and the laws that an impl owes.
 
     /// Puts in order what several threads are to read, once before `share`. It changes nothing that any call tells.
     fn prepare(&mut self) -> Result<(), NoMemory>

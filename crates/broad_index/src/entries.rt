@@ -84,6 +84,25 @@ impl Entries {
         self.boxes.remove(at);
     }
 
+    // The box of a slot.
+    pub(crate) fn box_of(&self, slot: u32) -> Option<FBox>
+        ensures { result ≡ map.get self.now slot }
+    {
+        let at = self.place(slot);
+        if at < self.slots.len() && self.slots[at] == slot {
+            Some(self.boxes.box_at(at))
+        } else {
+            None
+        }
+    }
+
+    // How many slots there are.
+    pub(crate) fn len(&self) -> u32
+        ensures { result ≡ map.len self.now }
+    {
+        self.slots.len() as u32
+    }
+
     // Where the slots below this one end.
     fn place(&self, slot: u32) -> usize
         ensures { Placed (map.entries self.now) slot result }

@@ -1,12 +1,14 @@
-ghost use Rattle.std.specs.Prelude.{◌≡◌, ℕ, Bool, true, false, ◌&&◌, ◌||◌, ◌==◌, List, [], ◌∷◌, ◌++◌, map, filter, Some};
+ghost use Rattle.std.specs.Prelude.{◌≡◌, ℕ, ◌*◌, ◌≤◌, length, Bool, true, false, ◌&&◌, ◌||◌, ◌==◌, List, [], ◌∷◌, ◌++◌, map, filter, Some};
 ghost use Rattle.std.specs.List.{zip};
 ghost use Rattle.std.specs.List.Sorted.{IsPermutation};
 ghost use Rattle.std.specs.Ordering.{nat_cmp};
-ghost use Rattle.std.specs.FinMap.{FinMap, get, empty, insert, remove, contains_key, from_entries};
+ghost use Rattle.std.specs.FinMap.{FinMap, entries, get, empty, insert, remove, contains_key, from_entries};
 ghost use Rattle.fixed_box.specs.Bounds.{Bounds};
-ghost use Rattle.slot_search.specs.Reach.{reach, reach_of};
+ghost use Rattle.fixed_box.specs.declared.TheConstants.{SLOTS};
+ghost use Rattle.broad_index.specs.Reach.{reach, reach_of};
 ghost use Rattle.broad_index.specs.declared.pair.Pair.{Pair};
 ghost use Rattle.broad_index.specs.declared.query.Query.{Query};
+ghost use Rattle.broad_index.specs.Exchanges.{passed_by_add, passed_by_shift};
 ghost use Rattle.broad_index.specs.Found.{found, found_of};
 ghost use Rattle.broad_index.specs.Held.{Holds, apart};
 ghost use Rattle.broad_index.specs.Members.{has_pair, has_slot, slots_rise, is_near, is_found, is_reached};
@@ -68,4 +70,13 @@ pub fn keeping_laws()
         → Renewed bodies marks kept (gathered_with (zip slots (map (reach bodies) slots))) }
     ensures renewed { (bodies : FinMap nat_cmp Bounds) (marks : List Bool) (kept found out : List Pair) → Renewed bodies marks kept found
         → rises out ≡ true → ((p : Pair) → has_pair out p ≡ (has_pair (filter (stays marks) kept) p || has_pair found p)) → out ≡ near bodies }
+{}
+
+/// How many exchanges one change makes at most: over three axes each of a box's six endpoints may pass the two of every box.
+/// It does nothing.
+pub fn exchange_laws()
+    ensures added { (bodies : FinMap nat_cmp Bounds) (slot : ℕ) (body : Bounds) → length (entries bodies) ≤ SLOTS
+        → passed_by_add bodies slot body ≤ 12 * SLOTS }
+    ensures shifted { (bodies : FinMap nat_cmp Bounds) (slot : ℕ) (body : Bounds) → length (entries bodies) ≤ SLOTS
+        → passed_by_shift bodies slot body ≤ 12 * SLOTS }
 {}

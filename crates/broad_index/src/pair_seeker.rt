@@ -4,10 +4,10 @@ ghost use Rattle.std.specs.FinMap as map;
 ghost use Rattle.fixed_box.specs.Bounds.{Bounds};
 ghost use Rattle.broad_index.specs.declared.pair.Pair.{Pair};
 ghost use Rattle.work_pieces.specs.Runs.{InRuns};
+ghost use Rattle.work_pieces.specs.declared.TheConstants.{MOST_WORKERS};
 
-use crate::Pair;
+use crate::{NoSeeker, Pair};
 use fixed_box::NoMemory;
-use slot_search::NoSeeker;
 use std::alloc::Global;
 use std::thread::Threads;
 use work_pieces::{Gate, by_runs};
@@ -48,7 +48,7 @@ pub(crate) fn seek_by_pieces<R: Threads + Sync, K: PairSeeker + Sync, G: Gate + 
     gate: &G,
 ) -> Result<Vec<(Vec<Pair>, u64)>, NoMemory>
     requires few { length slots.now < 2 ^ 32 }
-    requires workers { (1 ≤ workers) × (workers ≤ 16) }
+    requires workers { (1 ≤ workers) × (workers ≤ MOST_WORKERS) }
     requires present { All (λ slot. map.contains_key (K.bodies index.now) slot ≡ true) slots.now }
     ensures { IfOk result (λ found. InRuns (λ run piece. K.seeks index.now run piece.0.items piece.1) slots.now found.items) }
 {

@@ -3,9 +3,8 @@ ghost use Rattle.std.specs.FinMap as map;
 ghost use Rattle.broad_index.specs.Fresh.{IsFresh};
 
 use crate::entries::Entries;
-use crate::{BroadPhase, Pair, Query};
+use crate::{BroadPhase, NoSeeker, Pair, Query};
 use fixed_box::{FBox, NoMemory};
-use slot_search::NoSeeker;
 use std::alloc::Global;
 use std::marker::Model;
 
@@ -105,6 +104,14 @@ impl BroadPhase for PlainIndex {
             return Err(NoMemory);
         }
         self.entries.push_found(query, out)
+    }
+
+    fn box_of(&self, slot: u32) -> Option<FBox> {
+        self.entries.box_of(slot)
+    }
+
+    fn len(&self) -> u32 {
+        self.entries.len()
     }
 
     fn exchanges(&self) -> u64 {

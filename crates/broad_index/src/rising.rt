@@ -8,7 +8,7 @@ ghost use Rattle.broad_index.specs.Found.{found};
 ghost use Rattle.broad_index.specs.Near.{near, rises};
 ghost use Rattle.broad_index.specs.Touched.{stays, Renewed};
 ghost use Rattle.broad_index.specs.Members.{has_pair, has_slot, slots_rise, is_near, is_found, is_reached};
-ghost use Rattle.slot_search.specs.Reach.{reach};
+ghost use Rattle.broad_index.specs.Reach.{reach};
 
 use crate::Pair;
 use fixed_box::NoMemory;

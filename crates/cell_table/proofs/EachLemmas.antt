@@ -16,10 +16,10 @@ use Rattle.fixed_box.specs.declared.TheConstants.{SLOTS}
 use Rattle.cell_table.specs.declared.TheConstants.{BUCKETS}
 use Rattle.cell_table.specs.declared.cell_key.CellKey.{CellKey}
 use Rattle.slot_lists.specs.SlotMap.{entries_from, map_of}
-use Rattle.cell_table.specs.Cells.{IsDistinct as DistinctSlots, is_cell, IsBucket, Visits, VisitsRow, has, same_cell, slots_in}
+use Rattle.cell_table.specs.Cells.{bucket_of, IsDistinct as DistinctSlots, VisitsRow, has, same_cell, slots_in}
 use Rattle.slot_lists.specs.Links.{Fresh, Distinct}
 use Rattle.slot_lists.specs.LinkLaws.{distinct_is}
-use Rattle.cell_table.specs.Kept.{IsKept, Rings, picked, at, meets_test, bucket_of, ring_of, walk}
+use Rattle.cell_table.specs.Kept.{IsBucket, IsKept, Rings, picked, at, meets_test, ring_of, walk}
 use Rattle.slot_lists.specs.SlotMapLaws.{entries_of_map, get_map}
 use Rattle.cell_table.proofs.RingLemmas.{fresh_not, walk_ring}
 
@@ -257,31 +257,9 @@ each_is keys N P L old mid new n key ps k bl is len put kept moved sorted =
     let t = tail_is keys N P L (drop n new) key ps k bl is (subst (λ l. IsPermutation l (drop n new)) back moved) sorted in
     sym (take-append-drop n new) ∙ ap (λ l. l ++ drop n new) (kept ∙ front) ∙ ap (λ l. old ++ l) t
 
--- ---- what is picked from a bucket, unsorted
-
-is_cell_is : (key : CellKey) (o : Option CellKey) → meets_test (λ k. same_cell k key) o ≡ is_cell key o
-is_cell_is key None = refl
-is_cell_is key (Some k) = refl
-
 pub distinct_has : (xs : List ℕ) → Distinct xs → DistinctSlots xs
 distinct_has [] d = tt
 distinct_has (x ∷ xs) d = (fresh_not x xs d.0, distinct_has xs d.1)
-
-pub visited : (keys : List (Option CellKey)) (N P L old new : List ℕ) (key : CellKey) → IsKept keys N P L → bucket_of key < BUCKETS
-    → new ≡ old ++ picked key keys (walk N SLOTS (get_or N (SLOTS + bucket_of key) 0)) → Visits (map_of keys) key old new
-visited keys N P L old new key k bl put =
-    let r = k.rings (bucket_of key) bl in
-    let q : CellKey → Bool = λ c. same_cell c key in
-    let slots = picked key keys (walk N SLOTS (get_or N (SLOTS + bucket_of key) 0)) in
-    let e : slots ≡ filter (at q keys) r.slots = ap (filter (at q keys)) (walk_ring keys N P (bucket_of key) r k.keys_len) in
-    record {
-      slots = slots;
-      appended = put;
-      members = λ s.
-          ap (λ l. has l s) e ∙ has_filter (at q keys) r.slots s ∙ ap (λ t. t && at q keys s) (r.members s) ∙ in_own key (get_or keys s None)
-          ∙ is_cell_is key (get_or keys s None) ∙ ap (is_cell key) (sym (get_map keys s));
-      once = distinct_has slots (subst Distinct (sym e) (distinct_filter (at q keys) r.slots r.distinct));
-    }
 
 -- ---- a whole bucket
 pub some_passes : (p : CellKey → Bool) (o : Option CellKey) → meets_test p o ≡ true → is_some o ≡ true
@@ -298,7 +276,6 @@ bucketed keys N P L key k bl =
           ∙ eqb_same (bucket_of key);
       present = λ s h. ap is_some (get_map keys s)
           ∙ some_passes (λ c. bucket_of c == bucket_of key) (get_or keys s None) (sym (ap (λ l. has l s) e ∙ r.members s) ∙ h);
-      once = distinct_has (ring_of N key) (subst Distinct (sym e) r.distinct);
     }
 
 pub row_visited : (keys : List (Option CellKey)) (N P L old new : List ℕ) (key : CellKey) (end : ℤ) → IsKept keys N P L

@@ -13,8 +13,8 @@ use Rattle.cell_table.specs.declared.TheConstants.{BUCKETS, LEVELS}
 use Rattle.cell_table.specs.declared.rings.TheConstants.{NODES}
 use Rattle.cell_table.specs.declared.cell_key.CellKey.{CellKey}
 use Rattle.slot_lists.specs.SlotMap.{entries_from, map_of}
-use Rattle.cell_table.specs.Cells.{slots_at}
-use Rattle.cell_table.specs.Kept.{Ring, IsKept, bucket_of, in_bucket, meets_test, put_next, put_prev, take_next, take_prev, slots_from}
+use Rattle.cell_table.specs.Cells.{bucket_of, slots_at}
+use Rattle.cell_table.specs.Kept.{Ring, IsKept, in_bucket, meets_test, put_next, put_prev, take_next, take_prev, slots_from}
 use Rattle.slot_lists.specs.SlotMapLaws.{get_map, entries_of_map}
 use Rattle.cell_table.proofs.RingLemmas.{put_same, put_other, take_same, take_other, Beside, take_inside}
 

@@ -14,8 +14,8 @@ use Rattle.slot_lists.specs.SlotMap.{map_of}
 use Rattle.slot_lists.specs.SlotMapLaws.{get_map}
 use Rattle.cell_table.specs.declared.TheConstants.{BUCKETS}
 use Rattle.cell_table.specs.declared.cell_key.CellKey.{CellKey}
-use Rattle.cell_table.specs.Cells.{IsDistinct, has}
-use Rattle.cell_table.specs.Kept.{IsKept, AreRings, AreStarts, bucket_of, in_bucket, ring_in, rings_to}
+use Rattle.cell_table.specs.Cells.{bucket_of, IsDistinct, has}
+use Rattle.cell_table.specs.Kept.{IsKept, AreRings, AreStarts, in_bucket, ring_in, rings_to}
 use Rattle.cell_table.specs.Listed.{Lists, Stands}
 use Rattle.cell_table.proofs.EachLemmas.{has_contains, distinct_has, some_passes, bucketed}
 use Rattle.cell_table.proofs.KeptLemmas.{bucket_below}

@@ -10,12 +10,12 @@ use Rattle.fixed_box.specs.declared.TheConstants.{SLOTS}
 use Rattle.cell_table.specs.declared.TheConstants.{BUCKETS}
 use Rattle.cell_table.specs.declared.rings.TheConstants.{NODES}
 use Rattle.cell_table.specs.declared.cell_key.CellKey.{CellKey}
-use Rattle.cell_table.specs.Cells.{has}
+use Rattle.cell_table.specs.Cells.{bucket_of, has}
 use Rattle.slot_lists.specs.Links.{Fresh, Distinct, Below, Links}
 use Rattle.slot_lists.specs.LinkLaws.{Fresh-append, Fresh-left, Fresh-right, Distinct-left, Distinct-right, Distinct-apart, Distinct-without}
 use Rattle.slot_lists.specs.LinkLaws.{Below-left, Below-right, Below-weaker, length-le, frame_next, frame_prev, before_end, retarget_last}
 use Rattle.slot_lists.specs.LinkLaws.{retarget_first, Links-append, Links-left, Links-right, after_start}
-use Rattle.cell_table.specs.Kept.{Ring, StartsRing, bucket_of, in_bucket, meets_test, walk, put_next, put_prev, take_next, take_prev}
+use Rattle.cell_table.specs.Kept.{Ring, StartsRing, in_bucket, meets_test, walk, put_next, put_prev, take_next, take_prev}
 
 -- ---- members
 same_tie : (x y : ℕ) → x ≡ y → eqb x y ≡ true

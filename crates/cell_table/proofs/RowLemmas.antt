@@ -8,7 +8,8 @@ use Rattle.std.proofs.lemmas.List.{get_or_read}
 use Rattle.cell_table.specs.declared.TheConstants.{BUCKETS}
 use Rattle.cell_table.specs.declared.cell_key.CellKey.{CellKey}
 use Rattle.cell_table.specs.declared.row_places.RowPlaces.{RowPlaces}
-use Rattle.cell_table.specs.Kept.{AreStarts, bucket_of}
+use Rattle.cell_table.specs.Cells.{bucket_of}
+use Rattle.cell_table.specs.Kept.{AreStarts}
 use Rattle.cell_table.specs.Listed.{HasRow, Listed, Stands, StandsIn}
 use Rattle.cell_table.proofs.KeptLemmas.{bucket_below}
 

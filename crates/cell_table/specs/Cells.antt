@@ -1,8 +1,10 @@
 -- What a table of cells means: the slots of a cell and of a level, of a map from slot to key.
-use Rattle.std.specs.Prelude.{◌≡◌, ℕ, ℤ, ◌≤ℤ◌, ◌<ℤ◌, Bool, true, false, ◌&&◌, ◌||◌, ◌==◌, List, [], ◌∷◌, ◌++◌, map, filter, Option, None, Some, refl}
+use Rattle.std.specs.Prelude.{◌≡◌, ℕ, ◌+◌, ◌*◌, ◌%◌, ℤ, ◌≤ℤ◌, ◌<ℤ◌, Bool, true, false, ◌&&◌, ◌||◌, ◌==◌, List, [], ◌∷◌, ◌++◌, map, filter, Some, refl}
+use Rattle.std.specs.Int.{cast_unsigned, w32}
 use Rattle.std.specs.Coded.{Coded, code_by, coded×, coded_ℤ, coded_ℕ}
 use Rattle.std.specs.Ordering.{nat_cmp, int_eq}
 use Rattle.std.specs.FinMap.{FinMap, entries, get, contains_key}
+use Rattle.cell_table.specs.declared.TheConstants.{BUCKETS}
 use Rattle.cell_table.specs.declared.cell_key.CellKey.{CellKey}
 
 -- a key is stored as the tuple of its fields
@@ -14,6 +16,10 @@ coded_key =
 -- two keys are one
 abbrev pub same_cell : CellKey → CellKey → Bool
 same_cell a b = a.level == b.level && int_eq a.x b.x && int_eq a.y b.y && int_eq a.z b.z
+
+-- the bucket that a key is hashed into
+abbrev pub bucket_of : CellKey → ℕ
+bucket_of k = (cast_unsigned w32 k.x * 7539 + cast_unsigned w32 k.y * 2395 + cast_unsigned w32 k.z + k.level * 5003) % BUCKETS
 
 -- the slots with exactly this key, rising as the entries of a map do
 abbrev pub slots_in : FinMap nat_cmp CellKey → CellKey → List ℕ
@@ -32,30 +38,6 @@ has (x ∷ xs) slot = (x == slot) || has xs slot
 abbrev pub IsDistinct : List ℕ → Type 0
 IsDistinct [] = Unit {0}
 IsDistinct (x ∷ xs) = (has xs x ≡ false) × IsDistinct xs
-
--- a key that is there and is this one
-abbrev pub is_cell : CellKey → Option CellKey → Bool
-is_cell key None = false
-is_cell key (Some k) = same_cell k key
-
--- exactly the slots with this key are appended, each once and in any order
-pub record Visits (cells : FinMap nat_cmp CellKey) (key : CellKey) (old new : List ℕ) : Type 0 where
-  pub slots : List ℕ
-  pub appended : new ≡ old ++ slots
-  pub members : (slot : ℕ) → has slots slot ≡ is_cell key (get cells slot)
-  pub once : IsDistinct slots
-
--- a list of slots that have keys, among them all with this key, and each once
-pub record IsBucket (cells : FinMap nat_cmp CellKey) (key : CellKey) (slots : List ℕ) : Type 0 where
-  pub members : (slot : ℕ) → get cells slot ≡ Some key → has slots slot ≡ true
-  pub present : (slot : ℕ) → has slots slot ≡ true → contains_key cells slot ≡ true
-  pub once : IsDistinct slots
-
--- such a list is appended
-pub record VisitsBucket (cells : FinMap nat_cmp CellKey) (key : CellKey) (old new : List ℕ) : Type 0 where
-  pub slots : List ℕ
-  pub appended : new ≡ old ++ slots
-  pub bucket : IsBucket cells key slots
 
 -- Slots that have keys are appended, among them all with keys in a row of cells, from that of a key on and below an end of z.
 pub record VisitsRow (cells : FinMap nat_cmp CellKey) (key : CellKey) (end : ℤ) (old new : List ℕ) : Type 0 where

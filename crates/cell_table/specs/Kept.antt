@@ -1,18 +1,15 @@
--- This file only serves proofs: the rings of links that keep the slots of each bucket, and the numbers of each level.
-use Rattle.std.specs.Prelude.{◌≡◌, ℕ, zero, suc, ◌+◌, ◌*◌, ◌%◌, ◌<◌, ◌≤◌, Bool, true, false, ◌==◌, nat_lt, ℤ, ◌≤ℤ◌, ◌<ℤ◌}
+-- Serves proofs alone: the rings of links that keep the slots of each bucket, and the numbers of each level.
+use Rattle.std.specs.Prelude.{◌≡◌, ℕ, zero, suc, ◌+◌, ◌<◌, ◌≤◌, Bool, true, false, ◌==◌, nat_lt, ℤ, ◌≤ℤ◌, ◌<ℤ◌}
 use Rattle.std.specs.Prelude.{List, [], ◌∷◌, ◌++◌, length, slice_index, slice_index_or, slice_set, map, filter, count_by, Option, None, Some, if◌then◌else◌}
-use Rattle.std.specs.Int.{cast_unsigned, w32}
+use Rattle.std.specs.Ordering.{nat_cmp}
+use Rattle.std.specs.FinMap.{FinMap, get, contains_key}
 use Rattle.fixed_box.specs.declared.TheConstants.{SLOTS}
 use Rattle.cell_table.specs.declared.TheConstants.{BUCKETS, LEVELS}
 use Rattle.cell_table.specs.declared.rings.TheConstants.{NODES}
 use Rattle.cell_table.specs.declared.cell_key.CellKey.{CellKey}
-use Rattle.cell_table.specs.Cells.{has, same_cell}
+use Rattle.cell_table.specs.Cells.{bucket_of, has, same_cell}
 use Rattle.slot_lists.specs.SlotMap.{entries_from}
 use Rattle.slot_lists.specs.Links.{Distinct, Links}
-
--- the bucket that a key is hashed into
-abbrev pub bucket_of : CellKey → ℕ
-bucket_of k = (cast_unsigned w32 k.x * 7539 + cast_unsigned w32 k.y * 2395 + cast_unsigned w32 k.z + k.level * 5003) % BUCKETS
 
 -- the slots of a list, counted from n, whose keys pass a test
 abbrev pub slots_from : (CellKey → Bool) → ℕ → List (Option CellKey) → List ℕ
@@ -64,6 +61,11 @@ ring_in next b = walk next SLOTS (slice_index next (SLOTS + b))
 -- the slots in the ring of a key's bucket
 abbrev pub ring_of : List ℕ → CellKey → List ℕ
 ring_of next key = ring_in next (bucket_of key)
+
+-- a list of slots that have keys, among them all with this key
+pub record IsBucket (cells : FinMap nat_cmp CellKey) (key : CellKey) (slots : List ℕ) : Type 0 where
+  pub members : (slot : ℕ) → get cells slot ≡ Some key → has slots slot ≡ true
+  pub present : (slot : ℕ) → has slots slot ≡ true → contains_key cells slot ≡ true
 
 -- a slot that stands in some ring
 pub record IsLinked (next : List ℕ) (s : ℕ) : Type 0 where

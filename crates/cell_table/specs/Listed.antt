@@ -5,8 +5,7 @@ use Rattle.std.specs.FinMap.{FinMap, get, contains_key}
 use Rattle.fixed_box.specs.declared.TheConstants.{SLOTS}
 use Rattle.cell_table.specs.declared.cell_key.CellKey.{CellKey}
 use Rattle.cell_table.specs.declared.row_places.RowPlaces.{RowPlaces}
-use Rattle.cell_table.specs.Cells.{IsDistinct}
-use Rattle.cell_table.specs.Kept.{bucket_of}
+use Rattle.cell_table.specs.Cells.{bucket_of, IsDistinct}
 
 -- slots, and for each bucket the place where its stretch of them starts
 pub record Listed : Type 0 where

@@ -1,6 +1,5 @@
 ghost use Rattle.std.specs.Prelude.{◌≡◌, ◌<◌};
-ghost use Rattle.cell_table.specs.Cells.{same_cell};
-ghost use Rattle.cell_table.specs.Kept.{bucket_of};
+ghost use Rattle.cell_table.specs.Cells.{bucket_of, same_cell};
 
 use crate::{BUCKETS, CellKey};
 

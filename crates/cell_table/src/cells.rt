@@ -1,8 +1,8 @@
 ghost use Rattle.std.specs.Prelude.{◌≡◌, ℕ, ◌+◌, ◌<◌, ◌≤◌, ◌++◌, ◌==◌, None, IfOk, OnOk, OnErr, length, take, drop, vec_len, slice_index, slice_index_or};
 ghost use Rattle.std.specs.Ordering.{nat_cmp};
 ghost use Rattle.std.specs.List.Sorted.{IsPermutation, IsSorted};
-ghost use Rattle.cell_table.specs.Cells.{same_cell};
-ghost use Rattle.cell_table.specs.Kept.{bucket_of, walk, picked, at, meets_test, slots_from, ring_of, rings_to, Rings, AreRings, StartsRing};
+ghost use Rattle.cell_table.specs.Cells.{bucket_of, same_cell};
+ghost use Rattle.cell_table.specs.Kept.{walk, picked, at, meets_test, slots_from, ring_of, rings_to, Rings, AreRings, StartsRing};
 
 use crate::buckets::{bucket_of, is_same};
 use crate::rings::NODES;

@@ -6,12 +6,14 @@ mod bucket_list;
 mod buckets;
 mod cell_key;
 mod cells;
+mod laws;
 mod rings;
 mod row_places;
 mod table;
 
 pub use bucket_list::BucketList;
 pub use cell_key::CellKey;
+pub use laws::cell_limits;
 pub use row_places::RowPlaces;
 pub use table::CellTable;
 
@@ -20,6 +22,3 @@ pub const LEVELS: u8 = 11;
 
 // How many buckets the cells are hashed into.
 const BUCKETS: u32 = 16_384;
-
-#[cfg(test)]
-mod tests;

@@ -1,13 +1,11 @@
 ghost use Rattle.std.specs.Prelude.{◌≡◌, ◌+◌, ◌<◌, ◌++◌, true, false, IfOk, OnOk, OnErr, length, take};
 ghost use Rattle.std.specs.FinMap as map;
-ghost use Rattle.cell_table.specs.Cells.{slots_in, slots_at, Visits, VisitsBucket, VisitsRow};
+ghost use Rattle.cell_table.specs.Cells.{slots_in, slots_at, VisitsRow};
 ghost use Rattle.cell_table.specs.Kept.{AreStarts};
 ghost use Rattle.cell_table.specs.Listed.{Lists};
 
 use crate::buckets::bucket_of;
-use crate::cells::{
-    no_counts, no_keys, push_bucket, push_cell, push_level, push_row, put_rings, sort_from,
-};
+use crate::cells::{no_counts, no_keys, push_cell, push_level, push_row, put_rings, sort_from};
 use crate::rings::{link, nodes, unlink};
 use crate::{BUCKETS, CellKey, LEVELS};
 use fixed_box::{NoMemory, SLOTS};
@@ -117,29 +115,6 @@ impl CellTable {
         push_cell(&self.keys, &self.next, key, out)?;
         sort_from(out, before);
         Ok(())
-    }
-
-    /// Appends the slots with exactly this key, in whichever order they stand in their bucket, for a search that sorts
-    /// what it finds. After `NoMemory` `out` is as before.
-    pub fn visit_in(&self, key: &CellKey, out: &mut Vec<u32>) -> Result<(), NoMemory>
-        ensures ok { OnOk result (Visits self.now key.now out.old.items out.new.items) }
-        ensures err { OnErr result (out.new.items ≡ out.old.items) }
-    {
-        push_cell(&self.keys, &self.next, key, out)
-    }
-
-    /// Appends the slots that share the bucket of this key, among them all with this key, in whichever order they stand
-    /// there. A search that tests what it finds needs no look at their keys. After `NoMemory` `out` is as before.
-    pub fn visit_bucket(&self, key: &CellKey, out: &mut Vec<u32>) -> Result<(), NoMemory>
-        ensures ok { OnOk result (VisitsBucket self.now key.now out.old.items out.new.items) }
-        ensures err { OnErr result (out.new.items ≡ out.old.items) }
-    {
-        let before = out.len();
-        let pushed = push_bucket(&self.next, key, out);
-        if pushed.is_err() {
-            out.truncate(before);
-        }
-        pushed
     }
 
     /// Appends the slots in the buckets of a row of cells, one bucket after the other: from the cell of a key on, below an

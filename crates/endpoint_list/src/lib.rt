@@ -9,6 +9,3 @@ use fixed_box::SLOTS;
 
 /// How many node numbers there are: 0 to 16,383. Node `2 * slot` is the minimum of a slot, `2 * slot + 1` its maximum.
 pub const NODES: u32 = 2 * SLOTS;
-
-#[cfg(test)]
-mod tests;

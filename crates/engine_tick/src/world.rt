@@ -1,12 +1,13 @@
 ghost use Rattle.std.specs.Prelude.{◌≡◌, ◌++◌, ◌<◌, [], true, false, OnOk, OnErr};
 ghost use Rattle.std.specs.FinMap as map;
 ghost use Rattle.std.specs.List.{All};
+ghost use Rattle.broad_index.specs.Exchanges.{passed_by_add};
 ghost use Rattle.broad_index.specs.Found.{found};
 ghost use Rattle.broad_index.specs.Near.{near};
 ghost use Rattle.engine_tick.specs.Moves.{moved_all};
 ghost use Rattle.engine_tick.specs.Touching.{AreTouching};
 
-use broad_index::{BroadPhase, Pair, Query};
+use broad_index::{BroadPhase, Pair, Query, member_laws};
 use fixed_box::{FBox, NoMemory, SLOTS};
 
 /// Where an engine's bodies are: a box for each of them, under a slot that the engine has chosen.
@@ -34,9 +35,11 @@ impl<B: BroadPhase + Drop> World<B> {
         requires absent { map.contains_key (B.bodies self.old.index) slot ≡ false }
         ensures entered { OnOk result (B.bodies self.new.index ≡ map.insert (B.bodies self.old.index) slot body) }
         ensures sound { OnOk result (B.spent self.new.index ≡ false) }
+        // The count of exchanges begins anew with it.
+        ensures counted { B.COUNTS ≡ true → OnOk result (B.exchanges self.new.index ≡ passed_by_add (B.bodies self.old.index) slot body) }
         ensures err { OnErr result (B.spent self.new.index ≡ true) }
     {
-        // No count of exchanges is wanted here, and one that begins anew has room.
+        // A count that begins anew has room.
         self.index.clear_exchanges();
         self.index.add(slot, body)
     }
@@ -48,6 +51,7 @@ impl<B: BroadPhase + Drop> World<B> {
         requires present { map.contains_key (B.bodies self.old.index) slot ≡ true }
         ensures gone { B.bodies self.new.index ≡ map.remove (B.bodies self.old.index) slot }
         ensures sound { B.spent self.new.index ≡ false }
+        ensures exchanges { B.exchanges self.new.index ≡ B.exchanges self.old.index }
     {
         self.index.leave(slot);
     }
@@ -55,6 +59,7 @@ impl<B: BroadPhase + Drop> World<B> {
     /// Moves bodies to where they are now, and puts the pairs that touch then into `touching`, in rising order.
     ///
     /// What `touching` had is dropped, and its memory serves again. Where a body is moved twice, the later move counts.
+    /// Each move begins a new count of exchanges, so the index's count tells nothing of the tick.
     pub fn tick(&mut self, moved: &[(u32, FBox)], touching: &mut Vec<Pair>) -> Result<(), NoMemory>
         requires sound { B.spent self.old.index ≡ false }
         requires small { All (λ m. m.0 < SLOTS) moved.now }
@@ -66,7 +71,10 @@ impl<B: BroadPhase + Drop> World<B> {
         ensures in_order { OnOk result (touching.new.items ≡ near (B.bodies self.new.index)) }
         ensures sound { OnOk result (B.spent self.new.index ≡ false) }
         ensures err { OnErr result (touching.new.items ≡ []) }
+        // Where a move ran out of memory the index is spent, and where the search did all moves are made.
+        ensures left { OnErr result (B.spent self.new.index ≡ false → B.bodies self.new.index ≡ moved_all (B.bodies self.old.index) moved.now) }
     {
+        member_laws();
         touching.clear();
         self.move_all(moved)?;
         self.index.pairs(touching)
@@ -74,6 +82,7 @@ impl<B: BroadPhase + Drop> World<B> {
 
     /// Appends the bodies that meet a query, in rising order of their slots. After an `Err` all is as before.
     pub fn hits(&self, query: &Query, met: &mut Vec<u32>) -> Result<(), NoMemory>
+        ensures sound { OnOk result (B.spent self.now.index ≡ false) }
         ensures met { OnOk result (met.new.items ≡ met.old.items ++ found (B.bodies self.now.index) query.now) }
         ensures err { OnErr result (met.new.items ≡ met.old.items) }
     {
@@ -87,6 +96,7 @@ impl<B: BroadPhase + Drop> World<B> {
         requires present { All (λ m. map.contains_key (B.bodies self.old.index) m.0 ≡ true) moved.now }
         ensures moved { OnOk result (B.bodies self.new.index ≡ moved_all (B.bodies self.old.index) moved.now) }
         ensures sound { OnOk result (B.spent self.new.index ≡ false) }
+        ensures err { OnErr result (B.spent self.new.index ≡ true) }
     {
         for one in moved {
             self.index.clear_exchanges();

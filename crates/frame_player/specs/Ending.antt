@@ -1,4 +1,4 @@
--- Serves proofs: the text of a play before it is written, and what writing it makes of the status.
+-- Serves proofs alone: the text of a play before it is written, and what writing it makes of the status.
 use Rattle.std.specs.Prelude.{◌≡◌, ℕ, ◌<◌, Bool, true, List, [], Option, Some, Result, Ok, Err}
 use Rattle.play_io.specs.declared.sink.SinkFault.{SinkFault}
 use Rattle.play_io.specs.declared.sink.SinkFault.TheVariants as why

@@ -1,4 +1,4 @@
--- Serves proofs: the last line of a frame, as the player has its number.
+-- Serves proofs alone: the last line of a frame, as the player has its number.
 use Rattle.std.specs.Prelude.{ℕ, List, [], Option, Some, None}
 use Rattle.pair_report.specs.PairReport.{exchanges_line}
 

@@ -1,4 +1,4 @@
--- Serves proofs: the answers of an index of slots, in handles.
+-- Serves proofs alone: the answers of an index of slots, in handles.
 use Rattle.std.specs.Prelude.{ℕ, List, if◌then◌else◌, Option, Some, None}
 use Rattle.live_table.specs.declared.handle.Handle.{Handle}
 use Rattle.live_table.specs.declared.live.Live.{Live}

@@ -1,4 +1,4 @@
--- Serves proofs: a play that touches neither end.
+-- Serves proofs alone: a play that touches neither end.
 use Rattle.std.specs.Prelude.{◌≡◌, ℕ, List, [], Option, Some, None, IfSome}
 use Rattle.std.proofs.Common.{refl, sym, ap}
 use Rattle.std.proofs.lemmas.List.{append-nil}

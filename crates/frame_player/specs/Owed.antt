@@ -1,4 +1,4 @@
--- Serves proofs: the answers to queries that are gathered.
+-- Serves proofs alone: the answers to queries that are gathered.
 use Rattle.std.specs.Prelude.{◌≡◌, ℕ, ◌<◌, List, [], ◌∷◌, ◌++◌, length, Option, Some, None}
 use Rattle.live_table.specs.declared.live.Live.{Live}
 use Rattle.broad_index.specs.declared.query.Query.{Query}

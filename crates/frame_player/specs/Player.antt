@@ -1,4 +1,4 @@
--- Serves proofs: the player's state as the world that it stands for, and what a line does to it.
+-- Serves proofs alone: the player's state as the world that it stands for, and what a line does to it.
 use Rattle.std.specs.Prelude.{◌≡◌, ℕ, ◌+◌, ◌*◌, ◌-◌, ◌^◌, ◌<◌, ◌≤◌, Bool, true, false, sum}
 use Rattle.std.specs.Ordering.{nat_cmp}
 use Rattle.std.specs.FinMap.{FinMap}

@@ -1,4 +1,4 @@
--- Serves proofs: how far a play has come, between two lines.
+-- Serves proofs alone: how far a play has come, between two lines.
 use Rattle.std.specs.Prelude.{◌≡◌, ℕ, ◌<◌, Bool, true, false, List, ◌++◌, Option, Some}
 use Rattle.std.specs.List.{count_by}
 use Rattle.scene_lines.specs.Reading.{coming}

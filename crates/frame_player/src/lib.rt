@@ -21,6 +21,3 @@ pub use scene_play::play;
 pub use status::{Limits, Options, Status};
 pub use worked::worked_scenes;
 pub use writing::write_all;
-
-#[cfg(test)]
-mod tests;

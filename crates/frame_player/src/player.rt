@@ -5,7 +5,7 @@ use crate::Options;
 use crate::allowed::{allow_first, allow_later};
 use crate::frame_text::send_frame;
 use crate::handle_lists::push_pairs;
-use broad_index::{BroadPhase, Gate, Pair};
+use broad_index::{BroadPhase, Gate, Pair, exchange_laws};
 use fixed_box::{FBox, NoMemory, SLOTS};
 use live_table::{Full, Group, Handle, LiveTable, Masks, Stale};
 use pair_events::{PairTable, Told};
@@ -104,6 +104,7 @@ impl<B: BroadPhase + Drop> Player<B> {
         ensures text { OnOk result (out.new.items ≡ out.old.items ++ reply false (world_in B.exchanges self.old) (Command.Add body masks)) }
         ensures err { OnErr result (out.new.items ≡ out.old.items) }
     {
+        exchange_laws();
         let nobodys = Group {
             owner: 0,
             fixed: false,
@@ -125,6 +126,7 @@ impl<B: BroadPhase + Drop> Player<B> {
         ensures text { OnOk result (out.new.items ≡ out.old.items ++ reply false (world_in B.exchanges self.old) (Command.Move handle body)) }
         ensures err { OnErr result (out.new.items ≡ out.old.items) }
     {
+        exchange_laws();
         match self.table.set_box(handle, body) {
             Ok(()) => self.index.shift(handle.slot, body),
             Err(Stale) => put_stale(handle, out),

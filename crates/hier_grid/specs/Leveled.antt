@@ -1,4 +1,4 @@
--- This file only serves proofs: the boxes of each level in columns, and where each slot's box stands.
+-- Serves proofs alone: the boxes of each level in columns, and where each slot's box stands.
 use Rattle.std.specs.Prelude.{◌≡◌, ℕ, ◌+◌, ◌<◌, ◌≤◌, pos, List, [], length, slice_index, slice_index_or, Some}
 use Rattle.std.specs.Ordering.{nat_cmp}
 use Rattle.std.specs.FinMap.{FinMap, get}

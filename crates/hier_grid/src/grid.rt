@@ -12,12 +12,11 @@ use crate::hits::{push_hits, push_reach};
 use crate::kept_boxes::KeptBoxes;
 use crate::pair_search::{Findings, find_run};
 use broad_index::{
-    BroadPhase, FEWEST_SOUGHT, Pair, PairSeeker, Query, join_pieces, push_rising_pairs,
+    BroadPhase, FEWEST_SOUGHT, Pair, PairSeeker, Query, Seeker, join_pieces, push_rising_pairs,
     settle_pairs,
 };
 use cell_table::CellTable;
 use fixed_box::{FBox, NoMemory, SLOTS};
-use slot_search::Seeker;
 use std::alloc::Global;
 use std::marker::Model;
 
@@ -198,6 +197,14 @@ impl BroadPhase for HierGrid {
         push_hits(&self.kept, self.alloc, query, out)
     }
 
+    fn box_of(&self, slot: u32) -> Option<FBox> {
+        self.kept.boxes().box_of(slot)
+    }
+
+    fn len(&self) -> u32 {
+        self.kept.boxes().len()
+    }
+
     fn exchanges(&self) -> u64 {
         0
     }
@@ -213,7 +220,7 @@ impl BroadPhase for HierGrid {
     fn pays_threads(&self) -> bool
         ensures { (result ≡ true) ↔ (FEWEST_SOUGHT ≤ length (present self.now)) }
     {
-        self.kept.boxes().len() >= FEWEST_SOUGHT
+        self.kept.boxes().len() as usize >= FEWEST_SOUGHT
     }
 
     // Several threads search wherever they may.

@@ -2,7 +2,7 @@ ghost use Rattle.std.specs.Prelude.{◌≡◌, ◌++◌, Some, OnOk, OnErr, filt
 ghost use Rattle.std.specs.FinMap as map;
 ghost use Rattle.broad_index.specs.Found.{found};
 ghost use Rattle.broad_index.specs.Members.{is_found};
-ghost use Rattle.slot_search.specs.Reach.{reach};
+ghost use Rattle.broad_index.specs.Reach.{reach};
 
 use crate::kept_boxes::KeptBoxes;
 use crate::nearby::Nearby;

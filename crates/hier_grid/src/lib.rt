@@ -16,6 +16,3 @@ mod pair_search;
 mod partners;
 
 pub use grid::HierGrid;
-
-#[cfg(test)]
-mod tests;

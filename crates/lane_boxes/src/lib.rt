@@ -14,6 +14,3 @@ pub use packet::BoxPacket;
 
 // How many boxes are tested at once.
 const LANES: usize = 8;
-
-#[cfg(test)]
-mod tests;

@@ -1,4 +1,4 @@
--- This file only serves proofs: how rows keep their counts and sets their slots, and what those of a table keep.
+-- Serves proofs alone: how rows keep their counts and sets their slots, and what those of a table keep.
 use Rattle.std.specs.Prelude.{◌≡◌, ℕ, zero, suc, ◌+◌, ◌*◌, ◌/◌, ◌%◌, ◌<◌, ◌≤◌, Bool}
 use Rattle.std.specs.Prelude.{◌==◌, if◌then◌else◌, List, [], ◌∷◌, ◌++◌, length, map, count_by, slice_index, slice_index_or}
 use Rattle.std.specs.List.{range_with_len}

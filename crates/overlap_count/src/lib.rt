@@ -8,6 +8,3 @@ mod slot_set;
 mod tally;
 
 pub use counts::Counts;
-
-#[cfg(test)]
-mod tests;

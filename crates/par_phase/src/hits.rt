@@ -1,5 +1,6 @@
 ghost use Rattle.std.specs.Prelude.{◌≡◌, ◌^◌, ◌<◌, ◌≤◌, length, map, IfOk};
 ghost use Rattle.broad_index.specs.Found.{found};
+ghost use Rattle.work_pieces.specs.declared.TheConstants.{MOST_WORKERS};
 
 use broad_index::{BroadPhase, Gate, Query};
 use fixed_box::NoMemory;
@@ -25,7 +26,7 @@ pub fn hits_many<R: Threads + Sync, B: BroadPhase + Sync, G: Gate + Sync>(
     gate: &G,
 ) -> Result<Vec<Vec<u32>>, NoMemory>
     requires few { length queries.now < 2 ^ 32 }
-    requires workers { (1 ≤ workers) × (workers ≤ 16) }
+    requires workers { (1 ≤ workers) × (workers ≤ MOST_WORKERS) }
     ensures { IfOk result (λ lists. map (λ list. list.items) lists.items ≡ map (found (B.bodies index.now)) queries.now) }
 {
     by_pieces(
@@ -40,8 +41,8 @@ pub fn hits_many<R: Threads + Sync, B: BroadPhase + Sync, G: Gate + Sync>(
 
 // How many workers of those that there may be answer some queries.
 fn workers_for<G: Gate>(queries: &[Query], workers: u32, gate: &G) -> u32
-    requires { (1 ≤ workers) × (workers ≤ 16) }
-    ensures { (1 ≤ result) × (result ≤ 16) }
+    requires { (1 ≤ workers) × (workers ≤ MOST_WORKERS) }
+    ensures { (1 ≤ result) × (result ≤ MOST_WORKERS) }
 {
     if gate.needs_threads() || queries.len() >= FEWEST_SHARED {
         workers

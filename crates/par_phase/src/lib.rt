@@ -3,8 +3,5 @@
 
 mod hits;
 
+pub use broad_index::{Seeker, seek_many};
 pub use hits::hits_many;
-pub use slot_search::{Seeker, seek_many};
-
-#[cfg(test)]
-mod tests;

@@ -6,7 +6,7 @@ ghost use Rattle.made_scene.specs.MadeScene.{made_text};
 ghost use Rattle.scene_drill.specs.Drill.{output, drill_report, drill_text, IsDrilled};
 ghost use Rattle.work_pieces.specs.declared.TheConstants.{MOST_WORKERS};
 
-use crate::{Load, made_scene_is_played};
+use crate::{Load, made_scene_is_played, put_summary};
 use broad_index::{BroadPhase, Gate};
 use fixed_box::{NoMemory, SLOTS};
 use frame_player::{Limits, Options, Status, play, write_all};

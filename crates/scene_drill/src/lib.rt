@@ -13,8 +13,3 @@ pub use drilling::drill;
 pub use load::Load;
 pub use made_play::made_scene_is_played;
 pub use summary::put_summary;
-
-#[cfg(test)]
-mod summary_tests;
-#[cfg(test)]
-mod tests;

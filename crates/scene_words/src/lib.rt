@@ -19,6 +19,3 @@ pub use line_fault::LineFault;
 pub use printing::{print_command, printed_reads_back};
 pub use values::numeral;
 pub use version::Version;
-
-#[cfg(test)]
-mod tests;

@@ -1,14 +1,13 @@
 -- Boxes in a list by their slots.
-use Rattle.std.proofs.Common.{◌≡◌, ℕ, zero, suc, ◌+◌, ◌<◌, ◌≤◌, Bool, true, List, [], ◌∷◌, length, get_or, map, Option, None, Some}
+use Rattle.std.proofs.Common.{◌≡◌, ℕ, zero, suc, ◌+◌, ◌-◌, ◌<◌, ◌≤◌, Bool, false, true, List, [], ◌∷◌, length, get_or, map, Option, None, Some}
 use Rattle.std.proofs.Common.{is_some, cond, refl, sym, ap, ◌∙◌, arith, inl, inr, ◌⊎◌, All}
 use Rattle.std.proofs.lemmas.Bool.{true≢false}
-use Rattle.std.proofs.lemmas.List.Recursion.{is_count_by}
-use Rattle.std.specs.List.{count_by}
 use Rattle.std.specs.Ordering.{nat_cmp}
-use Rattle.std.specs.FinMap.{FinMap, get, contains_key}
+use Rattle.std.specs.FinMap.{FinMap, get, contains_key, empty_of_len, get-empty, insert, len, len-entries, len-insert, len-remove, remove}
+use Rattle.std.proofs.lemmas.Cmp.{nat_cmp_total}
 use Rattle.fixed_box.specs.Bounds.{Bounds}
 use Rattle.slot_lists.specs.SlotMap.{entries_from, map_of}
-use Rattle.slot_lists.specs.SlotMapLaws.{get_map}
+use Rattle.slot_lists.specs.SlotMapLaws.{entries_of_map, get_map}
 
 pub past : (boxes : List (Option Bounds)) (k : ℕ) → length boxes ≤ k → get_or boxes k None ≡ None
 past [] k h = refl
@@ -44,20 +43,29 @@ pub slots_present : (boxes : List (Option Bounds)) → All (λ s. contains_key (
 slots_present boxes = entry_some 0 boxes (contains_key (map_of boxes))
     (λ k h. let e : 0 + k ≡ k = omega arith in ap (contains_key (map_of boxes)) e ∙ ap is_some (get_map boxes k) ∙ h)
 
--- how many entries a list has doesn't depend on where its slots begin
-as_many : (n m : ℕ) (boxes : List (Option Bounds))
-    → length (map (λ (e : ℕ × Bounds). e.0) (entries_from n boxes)) ≡ length (map (λ (e : ℕ × Bounds). e.0) (entries_from m boxes))
-as_many n m [] = refl
-as_many n m (None ∷ xs) = as_many (n + 1) (m + 1) xs
-as_many n m (Some v ∷ xs) = ap suc (as_many (n + 1) (m + 1) xs)
+entries_few : (n : ℕ) (boxes : List (Option Bounds)) → length (entries_from n boxes) ≤ length boxes
+entries_few n [] = omega arith
+entries_few n (None ∷ xs) = omega (arith, entries_few (n + 1) xs)
+entries_few n (Some v ∷ xs) = omega (arith, entries_few (n + 1) xs)
 
-pub slots_counted : (boxes : List (Option Bounds)) → length (map (λ (e : ℕ × Bounds). e.0) (entries_from 0 boxes)) ≡ count_by is_some boxes
-slots_counted = is_count_by (λ bs. length (map (λ (e : ℕ × Bounds). e.0) (entries_from 0 bs))) is_some refl step
-  where
-    step : (x : Option Bounds) (xs : List (Option Bounds)) → length (map (λ (e : ℕ × Bounds). e.0) (entries_from 0 (x ∷ xs)))
-        ≡ cond (is_some x) (1 + length (map (λ (e : ℕ × Bounds). e.0) (entries_from 0 xs))) (length (map (λ (e : ℕ × Bounds). e.0) (entries_from 0 xs)))
-    step None xs = as_many 1 0 xs
-    step (Some v) xs =
-        let e : length (map (λ (e : ℕ × Bounds). e.0) (entries_from 1 xs))
-        ≡ length (map (λ (e : ℕ × Bounds). e.0) (entries_from 0 xs)) = as_many 1 0 xs in
-        omega arith
+-- no more slots are present than the list has places
+pub counted_few : (boxes : List (Option Bounds)) → len (map_of boxes) ≤ length boxes
+counted_few boxes =
+    let e : len (map_of boxes) ≡ length (entries_from 0 boxes) = len-entries (map_of boxes) ∙ ap length (entries_of_map boxes) in
+    omega (arith, e, entries_few 0 boxes)
+
+-- how a change of one slot changes their number
+pub one_more : (bodies : FinMap nat_cmp Bounds) (s : ℕ) (b : Bounds) → contains_key bodies s ≡ false → len (insert bodies s b) ≡ len bodies + 1
+one_more bodies s b h = len-insert nat_cmp_total bodies s b ∙ ap (λ t. cond t (len bodies) (len bodies + 1)) h
+
+pub as_before : (bodies : FinMap nat_cmp Bounds) (s : ℕ) (b : Bounds) → contains_key bodies s ≡ true → len (insert bodies s b) ≡ len bodies
+as_before bodies s b h = len-insert nat_cmp_total bodies s b ∙ ap (λ t. cond t (len bodies) (len bodies + 1)) h
+
+pub one_fewer : (bodies : FinMap nat_cmp Bounds) (s : ℕ) → contains_key bodies s ≡ true → len (remove bodies s) ≡ len bodies - 1
+one_fewer bodies s h = len-remove nat_cmp_total bodies s ∙ ap (λ t. cond t (len bodies - 1) (len bodies)) h
+
+pub some_there : (bodies : FinMap nat_cmp Bounds) (s : ℕ) → contains_key bodies s ≡ true → 1 ≤ len bodies
+some_there bodies s h = elim (len bodies) as (λ n. len bodies ≡ n → 1 ≤ n) [
+  | zero ↦ λ e. absurd (true≢false (sym h ∙ ap (λ m. contains_key m s) (empty_of_len bodies e) ∙ ap is_some (get-empty nat_cmp s)))
+  | suc n ↦ λ e. omega arith
+] refl

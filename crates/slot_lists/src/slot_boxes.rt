@@ -1,5 +1,5 @@
 ghost use Rattle.std.specs.Prelude.{◌≡◌, ℕ, ◌<◌, ◌≤◌, true, false, None, IfOk, OnOk, length};
-ghost use Rattle.std.specs.Prelude.{All, count_by, is_some, map as mapped, slice_index_or};
+ghost use Rattle.std.specs.Prelude.{All, map as mapped, slice_index_or};
 ghost use Rattle.std.specs.FinMap as map;
 ghost use Rattle.slot_lists.specs.SlotMap.{entries_from};
 ghost use Rattle.slot_lists.specs.Present.{present};
@@ -12,13 +12,15 @@ use std::marker::Model;
 #[derive(Drop)]
 pub struct SlotBoxes {
     boxes: Vec<Option<FBox>>,
+    // How many slots are present.
+    count: u32,
 }
 
 impl Model for SlotBoxes {
     ghost use Rattle.std.specs.Prelude.{◌≡◌, length};
     ghost use Rattle.std.specs.Ordering.{nat_cmp};
     ghost use Rattle.std.specs.Coded.{coded_ℕ};
-    ghost use Rattle.std.specs.FinMap.{FinMap, code};
+    ghost use Rattle.std.specs.FinMap.{FinMap, code, len};
     ghost use Rattle.fixed_box.specs.Bounds.{Bounds, coded_bounds};
     ghost use Rattle.fixed_box.specs.declared.TheConstants.{SLOTS};
     ghost use Rattle.slot_lists.specs.SlotMap.{map_of};
@@ -29,7 +31,7 @@ impl Model for SlotBoxes {
 
     ghost view = { λ b. map_of b.boxes.items };
 
-    ghost invariant = { λ b. length b.boxes.items ≡ SLOTS };
+    ghost invariant = { λ b. (length b.boxes.items ≡ SLOTS) × (b.count ≡ len (map_of b.boxes.items)) };
 }
 
 impl SlotBoxes {
@@ -39,6 +41,7 @@ impl SlotBoxes {
     {
         Ok(SlotBoxes {
             boxes: no_boxes(alloc)?,
+            count: 0,
         })
     }
 
@@ -61,6 +64,7 @@ impl SlotBoxes {
         requires absent { map.contains_key self.old slot ≡ false }
         ensures { self.new ≡ map.insert self.old slot body }
     {
+        self.count += 1;
         self.boxes[slot as usize] = Some(body);
     }
 
@@ -77,14 +81,16 @@ impl SlotBoxes {
         requires { map.contains_key self.old slot ≡ true }
         ensures { self.new ≡ map.remove self.old slot }
     {
+        self.count -= 1;
         self.boxes[slot as usize] = None;
     }
 
-    /// How many slots are present. It looks at each slot.
-    pub fn len(&self) -> usize
-        ensures { result ≡ length (present self.now) }
+    /// How many slots are present. It is kept, and looks at no slot.
+    pub fn len(&self) -> u32
+        ensures len { result ≡ map.len self.now }
+        ensures present { result ≡ length (present self.now) }
     {
-        count_present(&self.boxes)
+        self.count
     }
 
     /// The present slots, rising.
@@ -119,13 +125,6 @@ fn no_boxes(alloc: Global) -> Result<Vec<Option<FBox>>, NoMemory>
         boxes.push(None)?;
     }
     Ok(boxes)
-}
-
-// How many slots have boxes.
-fn count_present(boxes: &[Option<FBox>]) -> usize
-    ensures { result ≡ count_by is_some boxes.now }
-{
-    boxes.iter().filter(|body| body.is_some()).count()
 }
 
 // Replaces a list by the slots that have boxes.

@@ -1,4 +1,4 @@
--- This file only serves proofs: the nodes of entries, and their keys as numbers.
+-- Serves proofs alone: the nodes of entries, and their keys as numbers.
 use Rattle.std.specs.Prelude.{◌≡◌, ◌≢◌, ℕ, ◌+◌, ◌*◌, ◌<◌, ℤ, int_le, Bool, true, List, [], ◌∷◌, flat_map}
 use Rattle.fixed_box.specs.declared.TheConstants.{SLOTS}
 use Rattle.fixed_box.specs.Bounds.{Bounds}

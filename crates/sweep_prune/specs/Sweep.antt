@@ -1,4 +1,4 @@
--- This file only serves proofs: what a sweep keeps beside a map of boxes, and how a change of one box changes it.
+-- Serves proofs alone: what a sweep keeps beside a map of boxes, and how a change of one box changes it.
 use Rattle.std.specs.Prelude.{◌≡◌, ℕ, ◌+◌, ◌*◌, ◌≤◌, ℤ, int_le, true, List, length, slice_index, count_by, Some}
 use Rattle.std.specs.Ordering.{nat_cmp}
 use Rattle.std.specs.FinMap.{FinMap, entries, get, contains_key, insert}

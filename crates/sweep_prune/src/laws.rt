@@ -1,23 +1,6 @@
-ghost use Rattle.std.specs.Prelude.{◌≡◌, ◌&&◌, ◌==◌, nat_lt, [], ◌∷◌, pos};
-ghost use Rattle.std.specs.Ordering.{nat_cmp};
-ghost use Rattle.std.specs.FinMap.{FinMap};
-ghost use Rattle.fixed_box.specs.Bounds.{Bounds};
-ghost use Rattle.broad_index.specs.declared.pair.Pair.{Pair};
-ghost use Rattle.broad_index.specs.Members.{has_pair};
-ghost use Rattle.broad_index.specs.Near.{near};
+ghost use Rattle.std.specs.Prelude.{◌≡◌, [], ◌∷◌, pos};
 ghost use Rattle.sweep_prune.specs.Keyed.{keyed_of};
-ghost use Rattle.sweep_prune.specs.Overlaps.{axes};
 ghost use Rattle.sweep_prune.specs.declared.axis.Axis.TheVariants.{X};
-
-use broad_index::member_laws;
-
-/// The pairs of boxes that meet are those that overlap on all three axes. It does nothing.
-pub fn overlap_laws()
-    ensures { (bodies : FinMap nat_cmp Bounds) (p : Pair) → has_pair (near bodies) p
-        ≡ (nat_lt p.a p.b && axes bodies p.a p.b == 3) }
-{
-    member_laws();
-}
 
 // Where one box ends at the value at which another begins, the minimum comes before the maximum, whichever slot is
 // lower.

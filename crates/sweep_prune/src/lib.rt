@@ -17,8 +17,4 @@ mod walk_down;
 mod walk_up;
 
 pub use axis::Axis;
-pub use laws::overlap_laws;
 pub use sap::Sap;
-
-#[cfg(test)]
-mod tests;

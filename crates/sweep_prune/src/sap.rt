@@ -11,10 +11,9 @@ use crate::Axis;
 use crate::lists::push_nodes;
 use crate::move_box::{Keys, move_box, place_box};
 use crate::walk::{Core, clear, enter, quit};
-use broad_index::{BroadPhase, Pair, PlainIndex, Query, member_laws};
+use broad_index::{BroadPhase, NoSeeker, Pair, PlainIndex, Query, member_laws};
 use endpoint_list::NODES;
 use fixed_box::{FBox, NoMemory};
-use slot_search::NoSeeker;
 use std::alloc::Global;
 use std::marker::Model;
 
@@ -171,6 +170,14 @@ impl BroadPhase for Sap {
             return Err(NoMemory);
         }
         self.plain.hits(query, out)
+    }
+
+    fn box_of(&self, slot: u32) -> Option<FBox> {
+        self.plain.box_of(slot)
+    }
+
+    fn len(&self) -> u32 {
+        self.plain.len()
     }
 
     fn exchanges(&self) -> u64 {

@@ -1,5 +1,5 @@
 -- A leaf goes into a slab and its tree.
-use Rattle.std.proofs.Common.{◌≡◌, ◌≢◌, ℕ, zero, suc, ◌+◌, ◌<◌, ◌≤◌, max, true, false, cond, eqb, Option, None, Some, IsSome, List, [], ◌∷◌, length}
+use Rattle.std.proofs.Common.{◌≡◌, ◌≢◌, ℕ, zero, suc, ◌+◌, ◌*◌, ◌/◌, ◌<◌, ◌≤◌, max, true, false, cond, eqb, Option, None, Some, IsSome, List, [], ◌∷◌, length}
 use Rattle.std.proofs.Common.{length-append, refl, sym, ap, ◌∙◌, subst, arith, inl, inr, ⊎_elim, ◌⊎◌, All}
 use Rattle.std.specs.List.{sum_by}
 use Rattle.std.proofs.lemmas.Bool.Decides.{nat_tests}
@@ -7,6 +7,7 @@ use Rattle.std.proofs.lemmas.List.Sorted.{length_permutation, sum_by_pushed}
 use Rattle.std.proofs.lemmas.List.Sums.{sum_by-cons}
 use Rattle.slab.specs.Slab.{Slab, get, slab_len, Updates}
 use Rattle.fixed_box.specs.Bounds.{Bounds}
+use Rattle.fixed_box.specs.declared.TheConstants.{SLOTS}
 use Rattle.tree_nodes.specs.declared.node_view.NodeView.{NodeView}
 use Rattle.tree_nodes.specs.declared.node_view.NodeView.TheVariants.{Leaf}
 use Rattle.tree_nodes.specs.Insertion.{ToInsert, Inserted}
@@ -123,6 +124,20 @@ inserted_sound old ready new at leaf new_parent result slot fat t u s few absent
           subst (λ x. one slot x ≡ 1) e (one_same slot) in omega arith)
           (λ z. omega arith) (one_cases slot k);
     }
+
+pub halved : (nodes n : ℕ) → 2 * n ≤ nodes + 1 → nodes ≤ 2 * n → (nodes + 1) / 2 ≡ n
+halved nodes n low high = omega (arith, low, high)
+
+-- how many leaves there are, from the number of nodes
+pub leaves_counted : (slab : Slab NodeView) (root : Option ℕ) (t : Option Tree) → SoundIn slab root t
+    → (2 * length (leaves_in t) ≤ slab_len slab + 1) × (slab_len slab ≤ 2 * length (leaves_in t)) × (length (leaves_in t) ≤ SLOTS)
+leaves_counted slab None None s = let e : slab_len slab ≡ 0 = s in (omega arith, omega arith, omega arith)
+leaves_counted slab None (Some t) s = absurd s.0
+leaves_counted slab (Some n) None s = absurd s
+leaves_counted slab (Some n) (Some t) s =
+    let e = s.1.counted in
+    let z = size_leaves t in
+    (omega arith, omega arith, s.1.few)
 
 -- a sound slab has room for inner_of more nodes below 8,192 leaves
 pub room_two : (slab : Slab NodeView) (root : Option ℕ) (t : Option Tree) → SoundIn slab root t → length (leaves_in t) < 8192 → slab_len slab + 2 ≤ 16383

@@ -1,4 +1,3 @@
-pub mod Filled
 pub mod Insertion
 pub mod Moved
 pub mod Parts

@@ -21,6 +21,7 @@ pub fn tree_laws()
         All (λ x. meets x.fat q ≡ false) (leaves t) }
     ensures fewest { (t : Tree) → Balanced t → fewest (height t) ≤ length (leaves t) }
     ensures height { (t : Tree) → Balanced t → length (leaves t) ≤ SLOTS → height t ≤ MOST_HEIGHT }
+    ensures limits { MOST_HEIGHT ≡ 18 }
 
     // What stands in a tree is balanced, and shows under its number. A leaf in the list of leaves is such a node.
     ensures itself { (t : Tree) → Within t t }

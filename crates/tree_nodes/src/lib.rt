@@ -28,8 +28,5 @@ pub use nodes::Nodes;
 /// The greatest height that a balanced tree of at most 8,192 leaves has.
 pub const MOST_HEIGHT: u8 = 18;
 
-/// How many nodes a tree of 8,192 leaves has: the leaves, and one inner node fewer.
-pub const MOST_NODES: usize = 16_383;
-
-#[cfg(test)]
-mod tests;
+// How many nodes a tree of 8,192 leaves has: the leaves, and one inner node fewer.
+const MOST_NODES: usize = 16_383;

@@ -161,6 +161,15 @@ impl Nodes {
         self.root
     }
 
+    /// How many leaves there are, at most 8,192. It looks at none of them.
+    pub fn len(&self) -> usize
+        ensures value { result ≡ length (leaves_in self.now) }
+        ensures most { result ≤ SLOTS }
+    {
+        // a tree has one inner node fewer than leaves
+        (self.slab.len() + 1) / 2
+    }
+
     /// The height of the top node, 0 for a leaf and where there is none, and at most 18.
     pub fn height(&self) -> u8
         ensures value { result ≡ height_in self.now }

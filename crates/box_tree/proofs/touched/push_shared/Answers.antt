@@ -1,5 +1,5 @@
--- Many slots come in the order of their leaves.
-use Rattle.std.proofs.Common.{◌≡◌, ℕ, IfSome, map, ◌++◌, ◌≤◌, ◌∙◌, ap, sym, subst, length, arith}
+-- The slots come in the order of their leaves.
+use Rattle.std.proofs.Common.{◌≡◌, ℕ, IfSome, map, ◌++◌, ◌≤◌, ◌∙◌, ap, sym, subst, length}
 use Rattle.fixed_box.specs.declared.TheConstants.{SLOTS}
 use Rattle.tree_nodes.specs.Tree.{leaves_in}
 use Rattle.fixed_box.specs.Bounds.{Bounds}
@@ -8,18 +8,17 @@ use Rattle.box_tree.specs.Group.{touched_of}
 use Rattle.box_tree.specs.Preorder.{listed, preorder_in}
 use Rattle.box_tree.proofs.Groups.{root_below}
 use Rattle.box_tree.proofs.Preorders.{listed_in}
-use Rattle.box_tree.proofs.SharedSlots.{shared_few, shared_many}
+use Rattle.box_tree.proofs.SharedSlots.{shared_few}
 use Rattle.box_tree.proofs.touched.push_shared.Goals as goal
 
 pub returns-clause-ok : goal.returns-clause-ok
 returns-clause-ok c =
     let marks = c.args.marks.now in
     c.in_ok-push_marked_slots-2.ensures
-    ∙ ap (λ l. l ++ map (λ (e : ℕ × Bounds). e.0) (touched_of marks (listed c.deref.result.now))) c.clear.ensures.items
+    ∙ ap (λ l. l ++ map (λ (e : ℕ × Bounds). e.0) (touched_of marks (listed c.deref.result.now))) c.requires.empty
     ∙ ap (λ l. map (λ (e : ℕ × Bounds). e.0) (touched_of marks (listed l))) (c.deref.ensures.value ∙ c.in_ok-list_preorder.ensures)
     ∙ ap (λ es. map (λ (e : ℕ × Bounds). e.0) (touched_of marks es)) (listed_in c.args.bodies.now c.args.nodes.now)
     ∙ sym c.requires.along
-    ∙ shared_many c.args.nodes.now c.args.bodies.now marks c.push_sought.new.out.items c.in_ok-push_sought.ensures.ok (omega arith)
 
 pub returns-clause-few : goal.returns-clause-few
 returns-clause-few c =
@@ -28,7 +27,7 @@ returns-clause-few c =
     c.root.ensures.tree c.requires.inside in
     subst (λ l. length l ≤ SLOTS)
     (sym (c.in_ok-push_marked_slots-2.ensures
-    ∙ ap (λ l. l ++ map (λ (e : ℕ × Bounds). e.0) (touched_of marks (listed c.deref.result.now))) c.clear.ensures.items
+    ∙ ap (λ l. l ++ map (λ (e : ℕ × Bounds). e.0) (touched_of marks (listed c.deref.result.now))) c.requires.empty
     ∙ ap (λ l. map (λ (e : ℕ × Bounds). e.0) (touched_of marks (listed l))) (c.deref.ensures.value ∙ c.in_ok-list_preorder.ensures)
     ∙ ap (λ es. map (λ (e : ℕ × Bounds). e.0) (touched_of marks es)) (listed_in c.args.bodies.now c.args.nodes.now)
     ∙ sym c.requires.along
@@ -41,11 +40,10 @@ returns-in-Some-listing-clause-ok c =
     let there : c.in-Some-listing.list.now ≡ preorder_in c.args.bodies.now c.args.nodes.now =
     subst (λ o. IfSome o (λ list. list.now ≡ preorder_in c.args.bodies.now c.args.nodes.now)) c.in-Some-listing.is c.requires.list in
     c.in_ok-push_marked_slots.ensures
-    ∙ ap (λ l. l ++ map (λ (e : ℕ × Bounds). e.0) (touched_of marks (listed c.in-Some-listing.list.now))) c.clear.ensures.items
+    ∙ ap (λ l. l ++ map (λ (e : ℕ × Bounds). e.0) (touched_of marks (listed c.in-Some-listing.list.now))) c.requires.empty
     ∙ ap (λ l. map (λ (e : ℕ × Bounds). e.0) (touched_of marks (listed l))) there
     ∙ ap (λ es. map (λ (e : ℕ × Bounds). e.0) (touched_of marks es)) (listed_in c.args.bodies.now c.args.nodes.now)
     ∙ sym c.requires.along
-    ∙ shared_many c.args.nodes.now c.args.bodies.now marks c.push_sought.new.out.items c.in_ok-push_sought.ensures.ok (omega arith)
 
 pub returns-in-Some-listing-clause-few : goal.returns-in-Some-listing-clause-few
 returns-in-Some-listing-clause-few c =
@@ -56,7 +54,7 @@ returns-in-Some-listing-clause-few c =
     c.root.ensures.tree c.requires.inside in
     subst (λ l. length l ≤ SLOTS)
     (sym (c.in_ok-push_marked_slots.ensures
-    ∙ ap (λ l. l ++ map (λ (e : ℕ × Bounds). e.0) (touched_of marks (listed c.in-Some-listing.list.now))) c.clear.ensures.items
+    ∙ ap (λ l. l ++ map (λ (e : ℕ × Bounds). e.0) (touched_of marks (listed c.in-Some-listing.list.now))) c.requires.empty
     ∙ ap (λ l. map (λ (e : ℕ × Bounds). e.0) (touched_of marks (listed l))) there
     ∙ ap (λ es. map (λ (e : ℕ × Bounds). e.0) (touched_of marks es)) (listed_in c.args.bodies.now c.args.nodes.now)
     ∙ sym c.requires.along

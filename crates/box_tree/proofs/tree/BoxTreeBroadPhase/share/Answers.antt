@@ -37,13 +37,13 @@ pub returns-clause-slots : goal.returns-clause-slots
 returns-clause-slots c =
     let s = c.self.inside in
     shared_read s.nodes s.bodies.items s.fats.items s.numbers.items s.marks.items s.kept.items c.self.invariant.sound c.args.self.now s.looked
-    c.self.view_is c.deref.ensures.value c.deref-3.ensures.value c.in_ok-push_shared.ensures.ok
+    c.self.view_is c.deref-3.ensures.value c.in_ok-push_shared.ensures.ok
 
 pub returns-clause-present : goal.returns-clause-present
 returns-clause-present c =
     let s = c.self.inside in
     let e = shared_read s.nodes s.bodies.items s.fats.items s.numbers.items s.marks.items s.kept.items c.self.invariant.sound c.args.self.now s.looked
-    c.self.view_is c.deref.ensures.value c.deref-3.ensures.value c.in_ok-push_shared.ensures.ok in
+    c.self.view_is c.deref-3.ensures.value c.in_ok-push_shared.ensures.ok in
     subst (λ l. All (λ slot. contains_key c.args.self.now.bodies slot ≡ true) l) (sym e)
     (present_viewed s.nodes s.bodies.items s.fats.items s.numbers.items s.marks.items s.kept.items c.self.invariant.sound c.args.self.now s.looked
     c.self.view_is)

@@ -1,8 +1,8 @@
 -- What the bucket has of this key, sorted, is what the map has.
 use Rattle.std.proofs.Common.{◌+◌, ◌++◌, arith, ap, ◌∙◌, get_or}
 use Rattle.fixed_box.specs.declared.TheConstants.{SLOTS}
-use Rattle.cell_table.specs.Cells.{slots_in}
-use Rattle.cell_table.specs.Kept.{bucket_of, picked, walk}
+use Rattle.cell_table.specs.Cells.{bucket_of, slots_in}
+use Rattle.cell_table.specs.Kept.{picked, walk}
 use Rattle.cell_table.proofs.EachLemmas.{each_is}
 use Rattle.cell_table.proofs.KeptLemmas.{bucket_below}
 use Rattle.cell_table.proofs.table.CellTable.each_in.Goals as goal

@@ -4,7 +4,6 @@ use Rattle.std.specs.FinMap.{contains_key, entries, insert}
 use Rattle.std.proofs.lemmas.Result.{on_ok_weaker}
 use Rattle.broad_index.specs.Exchanges.{passed_from_above}
 use Rattle.live_table.specs.Bodies.{slots_with_bodies}
-use Rattle.frame_player.proofs.Counts.{added_few}
 use Rattle.frame_player.proofs.Kept.{few_bodies}
 use Rattle.frame_player.proofs.player.Player.add.Goals as goal
 
@@ -17,7 +16,7 @@ returns-clause-obeyed g c =
     let given = c.in-Ok.ensures in
     let added = c.in_ok-add-in-Ok.ensures in
     let bodies = g.B.BroadPhase.bodies c.args.self.now.index in
-    let few = added_few bodies c.in-Ok.handle.slot c.args.body (few_bodies bodies c.args.self.now.table playing.boxes playing.table) in
+    let few = c.exchange_laws.ensures.added bodies c.in-Ok.handle.slot c.args.body (few_bodies bodies c.args.self.now.table playing.boxes playing.table) in
     let exchanges = g.B.BroadPhase.exchanges c.args.self.now.index in
     let live = c.args.self.now.table.entries in
     on_ok_weaker c.put_add.result (λ _. record {

@@ -4,7 +4,6 @@ use Rattle.std.specs.List.{sum}
 use Rattle.std.specs.FinMap.{contains_key, entries, get, insert}
 use Rattle.broad_index.specs.Exchanges.{passed_from}
 use Rattle.live_table.specs.Bodies.{bodies_of, slots_with_bodies}
-use Rattle.frame_player.proofs.Counts.{shifted_few}
 use Rattle.frame_player.proofs.Kept.{few_bodies, on_shifted}
 use Rattle.frame_player.proofs.player.Player.shift.Goals as goal
 
@@ -16,7 +15,7 @@ returns-in-Ok-clause-obeyed g c =
     let playing = c.requires.playing in
     let moved = c.in-Ok.ensures in
     let bodies = g.B.BroadPhase.bodies c.args.self.now.index in
-    let few = shifted_few bodies c.args.handle.slot c.args.body (few_bodies bodies c.args.self.now.table playing.boxes playing.table) in
+    let few = c.exchange_laws.ensures.shifted bodies c.args.handle.slot c.args.body (few_bodies bodies c.args.self.now.table playing.boxes playing.table) in
     let exchanges = g.B.BroadPhase.exchanges c.args.self.now.index in
     let live = c.args.self.now.table.entries in
     on_shifted c.shift.result c.shift.ensures.sound c.shift.ensures.ok c.shift.ensures.counted (λ sound put passed. record {

@@ -1,0 +1,46 @@
+-- As many slots have boxes as there are leaves.
+use Rattle.std.proofs.Common.{◌≡◌, ℕ, suc, ◌+◌, cond, Option, None, Some, is_some, List, [], ◌∷◌, length, get_or, refl, sym, ap, ◌∙◌, arith}
+use Rattle.std.specs.List.{count_by}
+use Rattle.std.specs.FinMap.{len, len-entries}
+use Rattle.std.proofs.lemmas.List.Recursion.{is_count_by}
+use Rattle.fixed_box.specs.declared.TheConstants.{SLOTS}
+use Rattle.fixed_box.specs.Bounds.{Bounds}
+use Rattle.slot_lists.specs.SlotMap.{entries_from, map_of}
+use Rattle.slot_lists.specs.SlotMapLaws.{entries_of_map}
+use Rattle.tree_nodes.specs.Tree.{Tree, leaves_in}
+use Rattle.box_tree.specs.Ties.{Ties, AreFat}
+
+-- how many entries a list has doesn't depend on where its slots begin
+begun_anywhere : (n m : ℕ) (xs : List (Option Bounds)) → length (entries_from n xs) ≡ length (entries_from m xs)
+begun_anywhere n m [] = refl
+begun_anywhere n m (None ∷ xs) = begun_anywhere (n + 1) (m + 1) xs
+begun_anywhere n m (Some v ∷ xs) = ap suc (begun_anywhere (n + 1) (m + 1) xs)
+
+entries_counted : (xs : List (Option Bounds)) → length (entries_from 0 xs) ≡ count_by is_some xs
+entries_counted = is_count_by (λ bs. length (entries_from 0 bs)) is_some refl step
+  where
+    step : (x : Option Bounds) (xs : List (Option Bounds))
+        → length (entries_from 0 (x ∷ xs)) ≡ cond (is_some x) (1 + length (entries_from 0 xs)) (length (entries_from 0 xs))
+    step None xs = begun_anywhere 1 0 xs
+    step (Some v) xs =
+        let e : length (entries_from 1 xs) ≡ length (entries_from 0 xs) = begun_anywhere 1 0 xs in
+        omega arith
+
+-- where two lists have boxes at the same slots
+as_many : (n : ℕ) (xs ys : List (Option Bounds)) → length xs ≡ length ys → ((k : ℕ) → is_some (get_or xs k None) ≡ is_some (get_or ys k None))
+    → length (entries_from n xs) ≡ length (entries_from n ys)
+as_many n [] [] l same = refl
+as_many n [] (y ∷ ys) l same = absurd (omega arith)
+as_many n (x ∷ xs) [] l same = absurd (omega arith)
+as_many n (None ∷ xs) (None ∷ ys) l same = as_many (n + 1) xs ys (omega arith) (λ k. same (suc k))
+as_many n (None ∷ xs) (Some b ∷ ys) l same = let no = same 0 in cc
+as_many n (Some a ∷ xs) (None ∷ ys) l same = let no = same 0 in cc
+as_many n (Some a ∷ xs) (Some b ∷ ys) l same = ap suc (as_many (n + 1) xs ys (omega arith) (λ k. same (suc k)))
+
+pub leaves_counted : (o : Option Tree) (bodies fats : List (Option Bounds)) (numbers : List ℕ) → Ties o fats numbers → AreFat fats bodies
+    → length bodies ≡ SLOTS → length fats ≡ SLOTS → length (leaves_in o) ≡ len (map_of bodies)
+leaves_counted o bodies fats numbers ties fat lb lf =
+    ties.counted
+    ∙ sym (entries_counted fats)
+    ∙ as_many 0 fats bodies (lf ∙ sym lb) fat.same
+    ∙ sym (len-entries (map_of bodies) ∙ ap length (entries_of_map bodies))

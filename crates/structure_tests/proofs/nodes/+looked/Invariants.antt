@@ -1,0 +1,4 @@
+use Rattle.structure_tests.proofs.nodes.+looked.Given as goal
+
+abbrev pub decreases-looked : goal.decreases-looked
+decreases-looked l = l.levels
