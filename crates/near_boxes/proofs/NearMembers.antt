@@ -33,7 +33,7 @@ by_slot m n e h = elim (nat_cmp m.slot n.slot) as (λ r. r ≡ nat_cmp m.slot n.
   | Greater ↦ λ _ g. absurd (true≢false (sym g))
 ] refl h
 
-precedes : (m n : Near) → is_lt (near_cmp m n) ≡ true → Precedes m n
+pub precedes : (m n : Near) → is_lt (near_cmp m n) ≡ true → Precedes m n
 precedes m n h =
     elim (nat_cmp m.square n.square) as
     (λ r. r ≡ nat_cmp m.square n.square → is_lt (ordering_then r (nat_cmp m.slot n.slot)) ≡ true → Precedes m n) [
@@ -133,7 +133,7 @@ module _ (bodies : FinMap nat_cmp Bounds) (at : Point) where
         let one : sum_by (has k) all ≤ 1 = once at k (entries bodies) (entries_up bodies) in
         omega (arith, right, left, both, sums, one)
 
-    rising : (i j : ℕ) (d : Near) → i < j → j < length ordered → Precedes (get_or ordered i d) (get_or ordered j d)
+    pub rising : (i j : ℕ) (d : Near) → i < j → j < length ordered → Precedes (get_or ordered i d) (get_or ordered j d)
     rising i j d lt in_list =
         let le : i ≤ j = omega arith in
         before (get_or ordered i d) (get_or ordered j d)

@@ -1,8 +1,9 @@
 -- Definitions: how far boxes lie from a point, and the nearest boxes of a map.
-use Rattle.std.specs.Prelude.{◌≡◌, ◌⊎◌, ℕ, ◌+◌, ◌*◌, ◌<◌, max, ℤ, ◌-ℤ◌, unsigned_abs, int_lt, if◌then◌else◌, List, map, take, Some}
+use Rattle.std.specs.Prelude.{◌≡◌, ◌⊎◌, ℕ, ◌+◌, ◌*◌, ◌<◌, min, max, ℤ, ◌-ℤ◌, unsigned_abs, int_lt, if◌then◌else◌, List, map, take, length, get_or, Some}
 use Rattle.std.specs.Ordering.{nat_cmp, on, then_cmp}
 use Rattle.std.specs.declared.cmp.Ordering.{Ordering}
-use Rattle.std.specs.FinMap.{FinMap, entries, get}
+use Rattle.std.specs.FinMap.{FinMap, entries, get, len}
+use Rattle.std.specs.List.{Contains}
 use Rattle.fixed_box.specs.declared.point.Point.{Point}
 use Rattle.fixed_box.specs.Bounds.{Bounds}
 use Rattle.ordered_lists.specs.Ordered.{ordered_by}
@@ -47,3 +48,11 @@ IsSeen bodies at near = (b : Bounds) × ((get bodies near.slot ≡ Some b) × (n
 -- m is nearer than n, or as near under a lower slot
 abbrev pub Precedes : Near → Near → Type 0
 Precedes m n = (m.square < n.square) ⊎ ((m.square ≡ n.square) × (m.slot < n.slot))
+
+-- What a list of the nearest is, in its own words: it has as many slots of the map as are wanted, or all, each with its square. Each comes before all
+-- later ones, and before each slot that is left out.
+pub record AreNearest (bodies : FinMap nat_cmp Bounds) (at : Point) (want : ℕ) (nears : List Near) : Type 0 where
+  pub count : length nears ≡ min want (len bodies)
+  pub seen : (near : Near) → Contains nears near → IsSeen bodies at near
+  pub rising : (i j : ℕ) (d : Near) → i < j → j < length nears → Precedes (get_or nears i d) (get_or nears j d)
+  pub left_out : (near other : Near) → Contains nears near → IsSeen bodies at other → ¬ Contains nears other → Precedes near other

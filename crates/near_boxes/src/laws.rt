@@ -1,29 +1,22 @@
-ghost use Rattle.std.specs.Prelude.{◌≡◌, ℕ, ◌<◌, ◌∷◌, [], length, min, get_or};
-ghost use Rattle.std.specs.List.{Contains};
+ghost use Rattle.std.specs.Prelude.{◌≡◌, ℕ, List, ◌∷◌, []};
 ghost use Rattle.std.specs.Ordering.{nat_cmp};
-ghost use Rattle.std.specs.FinMap.{FinMap, len};
+ghost use Rattle.std.specs.FinMap.{FinMap};
 ghost use Rattle.fixed_box.specs.declared.point.Point.{Point};
 ghost use Rattle.fixed_box.specs.Bounds.{Bounds};
 ghost use Rattle.near_boxes.specs.declared.near.Near.{Near};
-ghost use Rattle.near_boxes.specs.Nearest.{nearest, nearest_of, IsSeen, Precedes};
+ghost use Rattle.near_boxes.specs.Nearest.{nearest, nearest_of, AreNearest};
 ghost use Rattle.near_boxes.specs.Rows.{three_crates, middle, far_and_near, lowest};
 
 use crate::Near;
 use ordered_lists::order_laws;
 
-/// A law for proofs, with nothing to run: `nearest` has so many slots of the map as are wanted, or all, each with its square.
-/// Each comes before all later ones, and before every slot that is left out: it is nearer, or as near under a lower slot.
+/// A law for proofs, with nothing to run, in the words of the subject: `nearest` has as many slots of the map as are wanted,
+/// or all, each with its square, and each comes before all later ones and before every slot that is left out. One slot comes
+/// before another where its box is nearer, or as near and its slot is lower. No other list is so.
 pub fn nearest_law()
-    ensures len { (bodies : FinMap nat_cmp Bounds) (at : Point) (want : ℕ) →
-        length (nearest bodies at want) ≡ min want (len bodies) }
-    ensures seen { (bodies : FinMap nat_cmp Bounds) (at : Point) (want : ℕ) (near : Near) →
-        Contains (nearest bodies at want) near → IsSeen bodies at near }
-    ensures rising { (bodies : FinMap nat_cmp Bounds) (at : Point) (want i j : ℕ) (d : Near) →
-        i < j → j < length (nearest bodies at want) →
-        Precedes (get_or (nearest bodies at want) i d) (get_or (nearest bodies at want) j d) }
-    ensures left_out { (bodies : FinMap nat_cmp Bounds) (at : Point) (want : ℕ) (near other : Near) →
-        Contains (nearest bodies at want) near → IsSeen bodies at other →
-        ¬ Contains (nearest bodies at want) other → Precedes near other }
+    ensures nearest { (bodies : FinMap nat_cmp Bounds) (at : Point) (want : ℕ) → AreNearest bodies at want (nearest bodies at want) }
+    ensures only { (bodies : FinMap nat_cmp Bounds) (at : Point) (want : ℕ) (nears : List Near) →
+        AreNearest bodies at want nears → nears ≡ nearest bodies at want }
 {
     order_laws::<Near>();
 }

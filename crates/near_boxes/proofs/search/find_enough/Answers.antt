@@ -19,9 +19,10 @@ reaches half most e = inl (at_most most (squared half) e)
     at_most : (m n : ℕ) → m ≡ n → m ≤ n
     at_most m n e = omega arith
 
-kept_of : (near : ℕ → Option Near) (read slots : List ℕ) (kept all : List Near) → kept ≡ filter_map near read → read ≡ slots → filter_map near slots ≡ all
-    → kept ≡ all
-kept_of near read slots kept all is same whole = is ∙ ap (filter_map near) same ∙ whole
+-- what is kept of slots that were read from a list
+kept_of : (near : ℕ → Option Near) (read held slots : List ℕ) (kept all : List Near) → kept ≡ filter_map near read → read ≡ held → held ≡ slots
+    → filter_map near slots ≡ all → kept ≡ all
+kept_of near read held slots kept all is same found whole = is ∙ ap (filter_map near) (same ∙ found) ∙ whole
 
 abbrev front : ℕ → List Near → List Near
 front want nears = take want (ordered_by near_cmp nears)
@@ -40,14 +41,13 @@ returns-then-len-want-2 g c =
     let half = c.cubes.half in
     let most = c.from-most.result in
     let want = c.args.want in
-    let slots : c.deref.result.now ≡ found index (Region (cube at half)) = c.deref.ensures.value ∙ c.in_ok-find_slots.ensures.slots in
     let all : filter_map (within bodies at most) (found index (Region (cube at half))) ≡ all_within bodies at most =
     gathered_by at most bodies index half c.in_ok-find_slots.ensures.at c.requires.in_space c.requires.among
     (reaches half most (c.from-most.ensures ∙ c.squared.ensures)) (c.member_laws.ensures.found_rises index) (c.member_laws.ensures.found index)
     in
     let is : c.keep_within.new.found.items ≡ all_within bodies at most =
-    kept_of (within bodies at most) c.deref.result.now (found index (Region (cube at half))) c.keep_within.new.found.items (all_within bodies at most)
-    c.in_ok-keep_within.ensures slots all
+    kept_of (within bodies at most) c.deref.result.now c.find_slots.new.slots.items (found index (Region (cube at half))) c.keep_within.new.found.items
+    (all_within bodies at most) c.in_ok-keep_within.ensures c.deref.ensures.value c.in_ok-find_slots.ensures.slots all
     in
     let enough : want ≤ length c.keep_within.new.found.items = first_of (search rules, omega arith, omega (arith, c.keep_within.new.found.ok.0)) in
     front_within most want (map (seen_from at) (entries bodies)) c.keep_within.new.found.items
@@ -60,14 +60,13 @@ returns g c =
     let at = c.args.at.now in
     let most : ℕ = 340282366920938463463374607431768211455 in
     let space = cube at 4294967295 in
-    let slots : c.deref-2.result.now ≡ found index (Region space) = c.deref-2.ensures.value ∙ c.in_ok-find_slots-2.ensures.slots in
     let all : filter_map (within bodies at most) (found index (Region space)) ≡ all_within bodies at most =
     gathered_by at most bodies index 4294967295 c.in_ok-find_slots-2.ensures.at c.requires.in_space c.requires.among (inr refl)
     (c.member_laws.ensures.found_rises index) (c.member_laws.ensures.found index)
     in
     let is : c.keep_within-2.new.found.items ≡ all_within bodies at most =
-    kept_of (within bodies at most) c.deref-2.result.now (found index (Region space)) c.keep_within-2.new.found.items (all_within bodies at most)
-    c.in_ok-keep_within-2.ensures slots all
+    kept_of (within bodies at most) c.deref-2.result.now c.find_slots-2.new.slots.items (found index (Region space)) c.keep_within-2.new.found.items
+    (all_within bodies at most) c.in_ok-keep_within-2.ensures c.deref-2.ensures.value c.in_ok-find_slots-2.ensures.slots all
     in
     let whole : all_within bodies at most ≡ map (seen_from at) (entries bodies) =
     all_gathered at bodies c.in_ok-find_slots-2.ensures.at c.requires.in_space in
