@@ -25,6 +25,10 @@ squared n = n * n
 abbrev pub square : Point → Bounds → ℕ
 square at b = squared (gap b.lo.x b.hi.x at.x) + squared (gap b.lo.y b.hi.y at.y) + squared (gap b.lo.z b.hi.z at.z)
 
+-- the square of the distance between two points
+abbrev pub square_between : Point → Point → ℕ
+square_between p q = squared (unsigned_abs (p.x -ℤ q.x)) + squared (unsigned_abs (p.y -ℤ q.y)) + squared (unsigned_abs (p.z -ℤ q.z))
+
 -- by the square, and then by the slot
 abbrev pub near_cmp : Near → Near → Ordering
 near_cmp = then_cmp (on (λ n. n.square) nat_cmp) (on (λ n. n.slot) nat_cmp)

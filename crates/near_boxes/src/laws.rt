@@ -1,14 +1,23 @@
-ghost use Rattle.std.specs.Prelude.{◌≡◌, ℕ, List, ◌∷◌, []};
+ghost use Rattle.std.specs.Prelude.{◌≡◌, ◌≤◌, ℕ, IsTrue, List, ◌∷◌, []};
 ghost use Rattle.std.specs.Ordering.{nat_cmp};
 ghost use Rattle.std.specs.FinMap.{FinMap};
 ghost use Rattle.fixed_box.specs.declared.point.Point.{Point};
-ghost use Rattle.fixed_box.specs.Bounds.{Bounds};
+ghost use Rattle.fixed_box.specs.Bounds.{Bounds, holds};
+ghost use Rattle.fixed_box.specs.Point.{is_at_most};
 ghost use Rattle.near_boxes.specs.declared.near.Near.{Near};
-ghost use Rattle.near_boxes.specs.Nearest.{nearest, nearest_of, AreNearest};
+ghost use Rattle.near_boxes.specs.Nearest.{square, square_between, nearest, nearest_of, AreNearest};
 ghost use Rattle.near_boxes.specs.Rows.{three_crates, middle, far_and_near, lowest};
 
 use crate::Near;
 use ordered_lists::order_laws;
+
+/// A law for proofs, with nothing to run: `square` is the square of the distance to the nearest point of a box. None of its
+/// points is nearer, and one is as near.
+pub fn square_law()
+    ensures least { (at p : Point) (b : Bounds) → IsTrue (holds b p) → square at b ≤ square_between at p }
+    ensures met { (at : Point) (b : Bounds) → IsTrue (is_at_most b.lo b.hi) →
+        (p : Point) × (IsTrue (holds b p) × (square at b ≡ square_between at p)) }
+{}
 
 /// A law for proofs, with nothing to run, in the words of the subject: `nearest` has as many slots of the map as are wanted,
 /// or all, each with its square, and each comes before all later ones and before every slot that is left out. One slot comes

@@ -9,7 +9,7 @@ mod search;
 
 pub use bodies::Bodies;
 pub use distance::square;
-pub use laws::nearest_law;
+pub use laws::{nearest_law, square_law};
 pub use near::Near;
 pub use search::nearest;
 

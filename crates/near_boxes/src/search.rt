@@ -5,7 +5,6 @@ ghost use Rattle.fixed_box.specs.Bounds.{meets};
 ghost use Rattle.fixed_box.specs.Space.{space};
 ghost use Rattle.ordered_lists.specs.Ordered.{ordered_by};
 ghost use Rattle.broad_index.specs.Found.{found};
-ghost use Rattle.broad_index.specs.declared.query.Query.{Query};
 ghost use Rattle.broad_index.specs.declared.query.Query.TheVariants.{Region};
 ghost use Rattle.near_boxes.specs.Bodies.{AreInSpace, AreAmong};
 ghost use Rattle.near_boxes.specs.Nearest.{nearest, near_cmp};
@@ -24,9 +23,10 @@ const NARROWEST: u32 = 1 << 12;
 /// Appends the `want` bodies that are nearest to a point, or all where there are fewer, in rising order of the square of
 /// their distance and then of their slot. After an `Err` `out` is as before.
 ///
-/// It asks the index for a cube around the point, and for wider ones until `want` bodies are as near as the cube's sides.
-/// So its time goes by how many boxes lie about as near as the last of the answer, and not by how many there are. It takes
-/// memory for the slots of a cube and for the bodies that are near enough.
+/// It asks the index for a cube around the point, and for wider ones until `want` bodies are as near as the cube's sides:
+/// at most 21, of which the last is all of space. So over a structure that keeps boxes by where they are, its time goes by
+/// how many lie about as near as the last of the answer. It takes memory for the slots that a cube meets, and for those of
+/// the bodies that are near enough.
 ///
 /// ```
 /// nearest(alloc, &index, &bodies, &at, 8, &mut nears)?; // the slots of the eight nearest, each with its square
