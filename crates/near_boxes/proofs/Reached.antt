@@ -1,0 +1,159 @@
+-- A box at most as far from a point as the half side of a cube around it meets the cube.
+use Rattle.std.proofs.Common.{◌≡◌, ℕ, ◌+◌, ◌*◌, ◌≤◌, max, true, ◌&&◌, arith, inl, inr, sym, subst}
+use Rattle.std.proofs.Math.Nat.{mul-le-mul_left}
+use Rattle.std.proofs.lemmas.Int.{ints}
+use Rattle.std.proofs.lemmas.Bool.{and_parts, and_from, cases_lt}
+use Rattle.std.specs.Prelude.{ℤ, pos, negsuc, ◌+ℤ◌, ◌≤ℤ◌, int_le}
+use Rattle.fixed_box.specs.Bounds.{Bounds, meets}
+use Rattle.fixed_box.specs.declared.point.Point.{Point}
+use Rattle.fixed_box.specs.Point.{is_at_most, lowered, raised}
+use Rattle.fixed_box.specs.Space.{space}
+use Rattle.near_boxes.specs.Nearest.{above, gap, squared, square}
+use Rattle.near_boxes.specs.Within.{spot, cube, Reaches}
+
+-- how an interval that lies in space stands to a coordinate that does
+record IsPlaced (lo hi at : ℤ) : Type 0 where
+  low : negsuc 2147483647 ≤ℤ at
+  high : at ≤ℤ pos 2147483647
+  begins : lo ≤ℤ pos 2147483647
+  ends : negsuc 2147483647 ≤ℤ hi
+
+at_least : (x : ℤ) → int_le (negsuc 2147483647) x ≡ true → negsuc 2147483647 ≤ℤ x
+at_least x h = omega (arith, ints)
+
+at_most : (x : ℤ) → int_le x (pos 2147483647) ≡ true → x ≤ℤ pos 2147483647
+at_most x h = omega (arith, ints)
+
+record ArePlaced (at : Point) (b : Bounds) : Type 0 where
+  x : IsPlaced b.lo.x b.hi.x at.x
+  y : IsPlaced b.lo.y b.hi.y at.y
+  z : IsPlaced b.lo.z b.hi.z at.z
+
+record Ends (b : Bounds) : Type 0 where
+  hx : negsuc 2147483647 ≤ℤ b.hi.x
+  hy : negsuc 2147483647 ≤ℤ b.hi.y
+  hz : negsuc 2147483647 ≤ℤ b.hi.z
+  lx : b.lo.x ≤ℤ pos 2147483647
+  ly : b.lo.y ≤ℤ pos 2147483647
+  lz : b.lo.z ≤ℤ pos 2147483647
+
+ends : (b : Bounds) → meets space b ≡ true → Ends b
+ends b h =
+    let parts = and_parts (is_at_most space.lo b.hi) (is_at_most b.lo space.hi) h in
+    let low = and_parts (int_le space.lo.x b.hi.x && int_le space.lo.y b.hi.y) (int_le space.lo.z b.hi.z) parts.0 in
+    let lows = and_parts (int_le space.lo.x b.hi.x) (int_le space.lo.y b.hi.y) low.0 in
+    let high = and_parts (int_le b.lo.x space.hi.x && int_le b.lo.y space.hi.y) (int_le b.lo.z space.hi.z) parts.1 in
+    let highs = and_parts (int_le b.lo.x space.hi.x) (int_le b.lo.y space.hi.y) high.0 in
+    record {
+      hx = at_least b.hi.x lows.0;
+      hy = at_least b.hi.y lows.1;
+      hz = at_least b.hi.z low.1;
+      lx = at_most b.lo.x highs.0;
+      ly = at_most b.lo.y highs.1;
+      lz = at_most b.lo.z high.1;
+    }
+
+placed : (at : Point) (b : Bounds) → meets space (spot at) ≡ true → meets space b ≡ true → ArePlaced at b
+placed at b here h =
+    let p = ends (spot at) here in
+    let e = ends b h in
+    record {
+      x = record { low = p.hx; high = p.lx; begins = e.lx; ends = e.hx };
+      y = record { low = p.hy; high = p.ly; begins = e.ly; ends = e.hy };
+      z = record { low = p.hz; high = p.lz; begins = e.lz; ends = e.hz };
+    }
+
+within_reach : (low high : ℤ) (h : ℕ) → above low high ≤ h → high ≤ℤ (low +ℤ pos h)
+within_reach low high h le = grind (arith, ints)
+
+all_reach : (low high : ℤ) → negsuc 2147483647 ≤ℤ low → high ≤ℤ pos 2147483647 → high ≤ℤ (low +ℤ pos 4294967295)
+all_reach low high a b = omega (arith, ints)
+
+lowered_le : (at hi : ℤ) (h : ℕ) → at ≤ℤ pos 2147483647 → negsuc 2147483647 ≤ℤ hi → at ≤ℤ (hi +ℤ pos h) → int_le (lowered at h) hi ≡ true
+lowered_le at hi h high low le = grind (arith, ints)
+
+le_raised : (at lo : ℤ) (h : ℕ) → negsuc 2147483647 ≤ℤ at → lo ≤ℤ pos 2147483647 → lo ≤ℤ (at +ℤ pos h) → int_le lo (raised at h) ≡ true
+le_raised at lo h low high le = grind (arith, ints)
+
+-- squares rise with the numbers
+square_le : (m n : ℕ) → m ≤ n → m * m ≤ n * n
+square_le m n le = omega (arith, mul-le-mul_left m le, mul-le-mul_left n le)
+
+root_le : (m n : ℕ) → m * m ≤ n * n → m ≤ n
+root_le m n h = elim (cases_lt n m) as (λ _. m ≤ n) [
+  | inl lt ↦ let more : n + 1 ≤ m = omega arith in absurd (omega (arith, h, square_le (n + 1) m more))
+  | inr le ↦ le
+]
+
+parts_le : (x y z most : ℕ) → (x + y) + z ≤ most → (x ≤ most) × (y ≤ most) × (z ≤ most)
+parts_le x y z most h = (omega arith, omega arith, omega arith)
+
+max_parts : (m n h : ℕ) → max m n ≤ h → (m ≤ h) × (n ≤ h)
+max_parts m n h le = (omega arith, omega arith)
+
+module _ (lo hi at : ℤ) (p : IsPlaced lo hi at) (half : ℕ) where
+  -- the interval meets that of a cube that comes as near
+  record IsMet : Type 0 where
+    low : int_le (lowered at half) hi ≡ true
+    high : int_le lo (raised at half) ≡ true
+
+  near_met : gap lo hi at ≤ half → IsMet
+  near_met le =
+      let g = max_parts (above at lo) (above hi at) half le in
+      record {
+        low = lowered_le at hi half p.high p.ends (within_reach hi at half g.1);
+        high = le_raised at lo half p.low p.begins (within_reach at lo half g.0);
+      }
+
+  far_met : half ≡ 4294967295 → IsMet
+  far_met e = record {
+    low = lowered_le at hi half p.high p.ends (subst (λ h. at ≤ℤ (hi +ℤ pos h)) (sym e) (all_reach hi at p.ends p.high));
+    high = le_raised at lo half p.low p.begins (subst (λ h. lo ≤ℤ (at +ℤ pos h)) (sym e) (all_reach at lo p.low p.begins));
+  }
+
+  is_met : (most : ℕ) → Reaches half most → squared (gap lo hi at) ≤ most → IsMet
+  is_met most r le = elim r as (λ _. IsMet) [
+    | inl h ↦ let g : gap lo hi at * gap lo hi at ≤ half * half = (let k = le in let l = h in omega arith) in near_met (root_le (gap lo hi at) half g)
+    | inr e ↦ far_met e
+  ]
+
+small_above : (low high : ℤ) → negsuc 2147483647 ≤ℤ low → high ≤ℤ pos 2147483647 → above low high ≤ 4294967295
+small_above low high a b = grind (arith, ints)
+
+small_gap : (lo hi at : ℤ) → IsPlaced lo hi at → gap lo hi at ≤ 4294967295
+small_gap lo hi at p =
+    let a = small_above at lo p.low p.begins in
+    let b = small_above hi at p.ends p.high in
+    most_of (above at lo) (above hi at) a b
+  where
+    most_of : (m n : ℕ) → m ≤ 4294967295 → n ≤ 4294967295 → max m n ≤ 4294967295
+    most_of m n a b = omega arith
+
+small_square : (lo hi at : ℤ) → IsPlaced lo hi at → squared (gap lo hi at) ≤ 18446744065119617025
+small_square lo hi at p = square_le (gap lo hi at) 4294967295 (small_gap lo hi at p)
+
+module _ (at : Point) (here : meets space (spot at) ≡ true) (b : Bounds) (h : meets space b ≡ true) where
+  -- A box so near meets the cube.
+  pub near_meets : (half most : ℕ) → Reaches half most → square at b ≤ most → meets (cube at half) b ≡ true
+  near_meets half most r le =
+      let p = placed at b here h in
+      let s = parts_le (squared (gap b.lo.x b.hi.x at.x)) (squared (gap b.lo.y b.hi.y at.y)) (squared (gap b.lo.z b.hi.z at.z)) most le in
+      let x = is_met b.lo.x b.hi.x at.x p.x half most r s.0 in
+      let y = is_met b.lo.y b.hi.y at.y p.y half most r s.1 in
+      let z = is_met b.lo.z b.hi.z at.z p.z half most r s.2 in
+      and_from (is_at_most (cube at half).lo b.hi) (is_at_most b.lo (cube at half).hi)
+      (and_from (int_le (cube at half).lo.x b.hi.x && int_le (cube at half).lo.y b.hi.y) (int_le (cube at half).lo.z b.hi.z)
+      (and_from (int_le (cube at half).lo.x b.hi.x) (int_le (cube at half).lo.y b.hi.y) x.low y.low) z.low)
+      (and_from (int_le b.lo.x (cube at half).hi.x && int_le b.lo.y (cube at half).hi.y) (int_le b.lo.z (cube at half).hi.z)
+      (and_from (int_le b.lo.x (cube at half).hi.x) (int_le b.lo.y (cube at half).hi.y) x.high y.high) z.high)
+
+  -- No box in space is farther than that.
+  pub all_near : square at b ≤ 340282366920938463463374607431768211455
+  all_near =
+      let p = placed at b here h in
+      sum_le (squared (gap b.lo.x b.hi.x at.x)) (squared (gap b.lo.y b.hi.y at.y)) (squared (gap b.lo.z b.hi.z at.z))
+      (small_square b.lo.x b.hi.x at.x p.x) (small_square b.lo.y b.hi.y at.y p.y) (small_square b.lo.z b.hi.z at.z p.z)
+    where
+      sum_le : (x y z : ℕ) → x ≤ 18446744065119617025 → y ≤ 18446744065119617025 → z ≤ 18446744065119617025
+          → (x + y) + z ≤ 340282366920938463463374607431768211455
+      sum_le x y z a b c = omega arith

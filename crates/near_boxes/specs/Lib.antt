@@ -1,0 +1,4 @@
+pub mod Bodies
+pub mod Nearest
+pub mod Rows
+pub mod Within
