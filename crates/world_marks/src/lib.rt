@@ -15,3 +15,6 @@ pub use undo::Undo;
 
 /// So many marks may be held.
 pub const MOST_MARKS: u32 = 64;
+
+#[cfg(test)]
+mod tests;
