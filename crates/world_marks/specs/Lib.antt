@@ -1,0 +1,3 @@
+pub mod HeldMarks
+pub mod Marks
+pub mod Undone
