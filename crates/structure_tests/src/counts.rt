@@ -4,6 +4,7 @@ use broad_index::Pair;
 use fixed_box::{NoMemory, SLOTS};
 use overlap_count::Counts;
 use std::alloc::Global;
+use std::process::Abort;
 use std::test::Fail;
 
 // What `threes` appends.
@@ -34,94 +35,50 @@ fn lower(counts: &mut Counts, pair: Pair)
     }
 }
 
-// One axis more, where it `rises` and there is one.
-fn raise_if(counts: &mut Counts, pair: Pair, rises: bool) -> Result<(), NoMemory>
+fn same_count(rt: &impl Abort, counts: &Counts, pair: Pair, count: u8)
     requires order { pair.a < pair.b }
     requires small { pair.b < SLOTS }
 {
-    if counts.count(pair) < 3 {
-        counts.raise_if(pair, rises)?;
-    }
+    assert_eq!(rt; counts.count(pair), count);
+}
+
+fn same_full(
+    rt: &impl Abort,
+    alloc: Global,
+    counts: &Counts,
+    pairs: &[Pair],
+) -> Result<(), NoMemory> {
+    let full = full(alloc, counts)?;
+    same_pairs(rt, &full, pairs);
     Ok(())
 }
 
-// One axis less, where it `lowers` and there is one.
-fn lower_if(counts: &mut Counts, pair: Pair, lowers: bool)
-    requires order { pair.a < pair.b }
-    requires small { pair.b < SLOTS }
-{
-    if counts.count(pair) > 0 {
-        counts.lower_if(pair, lowers);
-    }
+fn same_pairs(rt: &impl Abort, pairs: &[Pair], wanted: &[Pair]) {
+    assert_eq!(rt; pairs, wanted);
 }
 
-#[test]
-fn a_flag_tells_whether_a_count_changes(rt: HostRuntime) -> Result<(), Fail> {
-    let pair = Pair { a: 70, b: 8191 };
-    let mut counts = Counts::new(rt.alloc())?;
-    for (rises, count) in [(false, 0), (true, 1), (false, 1), (true, 2), (true, 3)] {
-        raise_if(&mut counts, pair, rises)?;
-        assert_eq!(rt; counts.count(pair), count);
+fn raise_and_lower(rt: &impl Abort, alloc: Global, counts: &mut Counts) -> Result<(), NoMemory> {
+    let pair = Pair { a: 1, b: 5 };
+    for _axis in 0..3 {
+        raise(counts, pair)?;
     }
-    assert_eq!(rt; full(rt.alloc(), &counts)?.as_slice(), [pair].as_slice());
-    for (lowers, count) in [(false, 3), (true, 2), (false, 2), (true, 1), (true, 0)] {
-        lower_if(&mut counts, pair, lowers);
-        assert_eq!(rt; counts.count(pair), count);
-    }
-    assert_eq!(rt; full(rt.alloc(), &counts)?.len(), 0);
+    same_count(rt, counts, pair, 3);
+    same_full(rt, alloc, counts, &[pair])?;
+    lower(counts, pair);
+    same_count(rt, counts, pair, 2);
+    same_full(rt, alloc, counts, &[])?;
+    counts.forget(5);
+    same_count(rt, counts, pair, 0);
     Ok(())
 }
 
+// A test owns its counts, and what is done with them stands in functions that borrow them: where a function may return,
+// its proof drops each field of each value that it owns.
 #[test]
 fn a_pair_is_full_while_it_counts_3(rt: HostRuntime) -> Result<(), Fail> {
-    let pair = Pair { a: 1, b: 5 };
     let mut counts = Counts::new(rt.alloc())?;
-    for _axis in 0..3 {
-        raise(&mut counts, pair)?;
-    }
-    assert_eq!(rt; counts.count(pair), 3);
-    assert_eq!(rt; full(rt.alloc(), &counts)?.as_slice(), [pair].as_slice());
-    lower(&mut counts, pair);
-    assert_eq!(rt; counts.count(pair), 2);
-    assert_eq!(rt; full(rt.alloc(), &counts)?.len(), 0);
-    counts.forget(5);
-    assert_eq!(rt; counts.count(pair), 0);
-    Ok(())
-}
-
-#[test]
-fn pairs_of_any_words_come_in_order(rt: HostRuntime) -> Result<(), Fail> {
-    let mut counts = Counts::new(rt.alloc())?;
-    for (a, b) in [
-        (8190, 8191),
-        (64, 8191),
-        (0, 8191),
-        (64, 127),
-        (0, 63),
-        (63, 64),
-        (0, 1),
-        (64, 65),
-    ] {
-        for _axis in 0..3 {
-            raise(&mut counts, Pair { a, b })?;
-        }
-    }
-    let pairs = full(rt.alloc(), &counts)?;
-    let want = [
-        (0, 1),
-        (0, 63),
-        (0, 8191),
-        (63, 64),
-        (64, 65),
-        (64, 127),
-        (64, 8191),
-        (8190, 8191),
-    ];
-    assert_eq!(rt; pairs.len(), want.len());
-    for (pair, slots) in pairs.iter().zip(&want) {
-        assert_eq!(rt; (pair.a, pair.b), *slots);
-    }
-    counts.forget(64);
-    assert_eq!(rt; full(rt.alloc(), &counts)?.len(), 4);
+    let done = raise_and_lower(&rt, rt.alloc(), &mut counts);
+    drop(counts);
+    done?;
     Ok(())
 }

@@ -2,7 +2,7 @@ use endpoint_list::{EndList, NODES, list_laws};
 use std::test::Fail;
 
 // The node after a present one.
-fn next_of(list: &EndList, node: u32) -> Option<u32> {
+pub(crate) fn next_of(list: &EndList, node: u32) -> Option<u32> {
     list_laws();
     if list.has(node) {
         list.next(node)

@@ -8,6 +8,8 @@ mod cells;
 #[cfg(test)]
 mod counts;
 #[cfg(test)]
+mod each_structure;
+#[cfg(test)]
 mod endpoints;
 #[cfg(test)]
 mod gates;
@@ -17,8 +19,6 @@ mod grids;
 mod lanes;
 #[cfg(test)]
 mod nodes;
-#[cfg(test)]
-mod plain_list;
 #[cfg(test)]
 mod queries;
 #[cfg(test)]

@@ -2,14 +2,14 @@ ghost use Rattle.std.specs.Prelude.{◌≡◌, ◌<◌, false, OnOk};
 
 mod by_hand;
 
-use broad_index::{BroadPhase, NoGate, Pair, Query};
+use crate::endpoints::next_of;
+use broad_index::{BroadPhase, Pair};
 use by_hand::{enter_slot, exchange_at, quit_slot};
 use endpoint_list::EndList;
 use fixed_box::{FBox, NoMemory, Point, SLOTS};
 use std::alloc::Global;
 use std::process::Abort;
 use std::test::Fail;
-use std::thread::Threads;
 use sweep_prune::walk::{Core, clear};
 use sweep_prune::{Axis, Sap};
 
@@ -60,15 +60,6 @@ fn put(sap: &mut Sap, slot: u32, body: FBox) -> Result<(), NoMemory>
     }
 }
 
-// Takes a slot out, where it is present.
-fn take(sap: &mut Sap, slot: u32)
-    requires { slot < SLOTS }
-{
-    if sap.box_of(slot).is_some() {
-        sap.leave(slot);
-    }
-}
-
 // Two boxes that touch come.
 fn touch(rt: &impl Abort, alloc: Global, sap: &mut Sap) -> Result<(), Fail> {
     put_unit(sap, 0, 0)?;
@@ -111,121 +102,93 @@ fn boxes_that_touch_overlap_until_one_moves_away(rt: HostRuntime) -> Result<(), 
     done
 }
 
-// Two like boxes come, and one leaves.
-fn compare_two<R: Threads + Sync + Abort>(
-    rt: &R,
-    alloc: Global,
-    sap: &mut Sap,
-) -> Result<(), Fail> {
-    put_unit(sap, 4, 0)?;
-    put_unit(sap, 2, 0)?;
-    let mut slots = Vec::new(alloc);
-    let here = unit_at(0).ok_or("a box")?;
-    sap.hits(&Query::Spot(here.lo()), &mut slots)?;
-    same_numbers(rt, "hits", &slots, &[2, 4]);
-    let mut pairs = Vec::new(alloc);
-    sap.pairs(&mut pairs)?;
-    sap.pairs_with(rt, 2, &NoGate, &mut pairs)?;
-    assert_eq!(rt;
-        pairs.as_slice(),
-        [Pair { a: 2, b: 4 }, Pair { a: 2, b: 4 }].as_slice()
-    );
-    take(sap, 2);
-    pairs.clear();
-    sap.pairs(&mut pairs)?;
-    assert!(rt; pairs.is_empty());
-    Ok(())
+// The node after another, where there are both.
+fn after(list: &EndList, node: Option<u32>) -> Option<u32> {
+    next_of(list, node?)
 }
 
-#[test]
-fn pairs_and_hits_rise_by_slot(rt: HostRuntime) -> Result<(), Fail> {
-    let mut sap = Sap::new(rt.alloc())?;
-    let done = compare_two(&rt, rt.alloc(), &mut sap);
-    drop(sap);
-    done
-}
-
-// Appends the first nodes of a list, at most eight.
-fn push_nodes(list: &EndList, out: &mut Vec<u32>) -> Result<(), NoMemory> {
-    let mut at = list.first();
-    'nodes: for _ in 0..8 {
-        let Some(node) = at else {
-            return Ok(());
-        };
-        out.push(node)?;
-        at = if list.has(node) {
-            list.next(node)
-        } else {
-            None
-        };
-    }
-    Ok(())
-}
-
-// The nodes on an axis.
-fn compare_nodes(
-    rt: &impl Abort,
-    alloc: Global,
-    core: &Core,
-    axis: Axis,
-    what: &str,
-    wanted: &[u32],
-) -> Result<(), NoMemory> {
-    let mut nodes = Vec::new(alloc);
-    push_nodes(core.list(axis), &mut nodes)?;
-    same_numbers(rt, what, &nodes, wanted);
-    Ok(())
+// The first four nodes on an axis.
+fn compare_nodes(rt: &impl Abort, core: &Core, axis: Axis, what: &str, wanted: [Option<u32>; 4]) {
+    let list = core.list(axis);
+    let first = list.first();
+    let second = after(list, first);
+    let third = after(list, second);
+    let fourth = after(list, third);
+    assert_eq!(rt; [first, second, third, fourth], wanted, "{what}");
 }
 
 // The middle nodes of two slots change places on an axis, and then the slots overlap on so many.
-fn exchange_on(
-    rt: &impl Abort,
-    alloc: Global,
-    core: &mut Core,
-    axis: Axis,
-    count: u64,
-) -> Result<(), NoMemory> {
-    compare_nodes(rt, alloc, core, axis, "nodes before", &[0, 1, 2, 3])?;
+fn exchange_on(rt: &impl Abort, core: &mut Core, axis: Axis, count: u64) -> Result<(), NoMemory> {
+    compare_nodes(
+        rt,
+        core,
+        axis,
+        "before",
+        [Some(0), Some(1), Some(2), Some(3)],
+    );
     exchange_at(core, axis, 1)?;
-    compare_nodes(rt, alloc, core, axis, "nodes after", &[0, 2, 1, 3])?;
+    compare_nodes(
+        rt,
+        core,
+        axis,
+        "after",
+        [Some(0), Some(2), Some(1), Some(3)],
+    );
     same_number(rt, "count after", u64::from(core.count(PAIR)), count);
     Ok(())
 }
 
 // Two slots come, and change places on each axis.
-fn exchange_each(rt: &impl Abort, alloc: Global, core: &mut Core) -> Result<(), NoMemory> {
+fn exchange_each(rt: &impl Abort, core: &mut Core) -> Result<(), NoMemory> {
     enter_slot(core, 0);
     enter_slot(core, 1);
     same_number(rt, "count at first", u64::from(core.count(PAIR)), 0);
-    exchange_on(rt, alloc, core, Axis::X, 1)?;
-    exchange_on(rt, alloc, core, Axis::Y, 2)?;
-    exchange_on(rt, alloc, core, Axis::Z, 3)?;
+    exchange_on(rt, core, Axis::X, 1)?;
+    exchange_on(rt, core, Axis::Y, 2)?;
+    exchange_on(rt, core, Axis::Z, 3)?;
     same_number(rt, "exchanges", core.exchanged(), 3);
     Ok(())
 }
 
 // The first of the two leaves.
-fn quit_first(rt: &impl Abort, alloc: Global, core: &mut Core) -> Result<(), NoMemory> {
+fn quit_first(rt: &impl Abort, core: &mut Core) {
     quit_slot(core, 0);
     same_number(rt, "count without a slot", u64::from(core.count(PAIR)), 0);
-    compare_nodes(rt, alloc, core, Axis::X, "nodes on x", &[2, 3])?;
-    compare_nodes(rt, alloc, core, Axis::Y, "nodes on y", &[2, 3])?;
-    compare_nodes(rt, alloc, core, Axis::Z, "nodes on z", &[2, 3])?;
+    compare_nodes(
+        rt,
+        core,
+        Axis::X,
+        "nodes on x",
+        [Some(2), Some(3), None, None],
+    );
+    compare_nodes(
+        rt,
+        core,
+        Axis::Y,
+        "nodes on y",
+        [Some(2), Some(3), None, None],
+    );
+    compare_nodes(
+        rt,
+        core,
+        Axis::Z,
+        "nodes on z",
+        [Some(2), Some(3), None, None],
+    );
     clear(core);
     same_number(rt, "exchanges when cleared", core.exchanged(), 0);
-    Ok(())
 }
 
-fn exchange_and_quit(rt: &impl Abort, alloc: Global, core: &mut Core) -> Result<(), Fail> {
-    exchange_each(rt, alloc, core)?;
-    quit_first(rt, alloc, core)?;
+fn exchange_and_quit(rt: &impl Abort, core: &mut Core) -> Result<(), Fail> {
+    exchange_each(rt, core)?;
+    quit_first(rt, core);
     Ok(())
 }
 
 #[test]
 fn counts_follow_each_single_exchange(rt: HostRuntime) -> Result<(), Fail> {
     let mut core = Core::new(rt.alloc())?;
-    let done = exchange_and_quit(&rt, rt.alloc(), &mut core);
+    let done = exchange_and_quit(&rt, &mut core);
     drop(core);
     done
 }

@@ -1,4 +1,0 @@
-use Rattle.structure_tests.proofs.nodes.+looked.Given as goal
-
-abbrev pub decreases-looked : goal.decreases-looked
-decreases-looked l = l.levels
