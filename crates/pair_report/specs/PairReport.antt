@@ -69,6 +69,7 @@ cause_text cause.Handle = codes "handle"
 cause_text cause.Number = codes "number"
 cause_text cause.Range = codes "range"
 cause_text cause.Mask = codes "mask"
+cause_text cause.Owner = codes "owner"
 cause_text cause.Inverted = codes "inverted"
 cause_text cause.Full = codes "full"
 

@@ -19,6 +19,8 @@ pub enum Cause {
     Range,
     /// A mask isn't one to eight digits of base 16.
     Mask,
+    /// An owner isn't a number of 32 bits in one to ten digits.
+    Owner,
     /// A box has a lower corner above its upper one.
     Inverted,
     /// 8,192 boxes live.

@@ -214,6 +214,7 @@ fn cause_text(cause: Cause) -> &'static [u8]
         Cause::Number => b"number",
         Cause::Range => b"range",
         Cause::Mask => b"mask",
+        Cause::Owner => b"owner",
         Cause::Inverted => b"inverted",
         Cause::Full => b"full",
     }

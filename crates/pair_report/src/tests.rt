@@ -28,9 +28,10 @@ fn lines_have_their_text(rt: HostRuntime) -> Result<(), Fail> {
     put_hits(QKind::Between, &[b], &mut out)?;
     put_end(3, 2, 1, &mut out)?;
     put_refused(5, Cause::Inverted, &mut out)?;
+    put_refused(6, Cause::Owner, &mut out)?;
     let text = b"add 7:0\nstale 8191:4294967295\nframe 1 33550336\nover 7:0 8191:4294967295\n\
         exchanges 18446744073709551615\nbox 0\npoint 1 7:0\nray 2 7:0 8191:4294967295\nseg 1 8191:4294967295\n\
-        end 3 2 1\nrefused 5 inverted\n";
+        end 3 2 1\nrefused 5 inverted\nrefused 6 owner\n";
     assert_eq!(rt; out.as_slice(), text.as_slice());
     Ok(())
 }
