@@ -50,9 +50,33 @@ kind_text Between = codes "seg "
 abbrev pub handles_text : List Handle → List ℕ
 handles_text handles = flat_map (λ handle. codes " " ++ handle_text handle) handles
 
--- the answer to a query: how many boxes, and which
+-- how many handles, which, and the end of the line
+abbrev pub listing_text : List Handle → List ℕ
+listing_text handles = decimal (length handles) ++ handles_text handles ++ codes "\n"
+
+-- the answer to a query
 abbrev pub hits_line : QKind → List Handle → List ℕ
-hits_line kind handles = kind_text kind ++ decimal (length handles) ++ handles_text handles ++ codes "\n"
+hits_line kind handles = kind_text kind ++ listing_text handles
+
+-- the boxes that a moved box meets
+abbrev pub cast_line : List Handle → List ℕ
+cast_line handles = codes "cast " ++ listing_text handles
+
+-- the boxes nearest to a point
+abbrev pub near_line : List Handle → List ℕ
+near_line handles = codes "near " ++ listing_text handles
+
+-- a mark was made, and so many are held then
+abbrev pub mark_line : ℕ → List ℕ
+mark_line held = codes "mark " ++ decimal held ++ codes "\n"
+
+-- the world is the marked one again, and so many marks are left
+abbrev pub back_line : ℕ → List ℕ
+back_line left = codes "back " ++ decimal left ++ codes "\n"
+
+-- nothing changed, and so many marks are held
+abbrev pub nomark_line : ℕ → List ℕ
+nomark_line held = codes "nomark " ++ decimal held ++ codes "\n"
 
 -- the input ended
 abbrev pub end_line : ℕ → ℕ → ℕ → List ℕ

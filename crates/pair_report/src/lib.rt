@@ -3,11 +3,14 @@
 
 mod cause;
 mod lines;
+mod listing;
 
 pub use cause::Cause;
 pub use lines::{
-    put_add, put_end, put_exchanges, put_frame, put_hits, put_refused, put_stale, put_told,
+    put_add, put_back, put_end, put_exchanges, put_frame, put_mark, put_nomark, put_refused,
+    put_stale, put_told,
 };
+pub use listing::{put_cast, put_hits, put_near};
 
 #[cfg(test)]
 mod tests;

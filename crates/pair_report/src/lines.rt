@@ -1,10 +1,9 @@
-ghost use Rattle.std.specs.Prelude.{◌≡◌, ◌+◌, ◌≤◌, ◌++◌, length, take, vec_len, codes, decimal, OnOk, OnErr};
-ghost use Rattle.pair_report.specs.PairReport.{handle_text, add_line, stale_line, frame_line, event_text, told_line, exchanges_line, kind_text};
-ghost use Rattle.pair_report.specs.PairReport.{handles_text, hits_line, end_line, cause_text, refused_line};
+ghost use Rattle.std.specs.Prelude.{◌≡◌, ◌+◌, ◌≤◌, ◌++◌, length, codes, decimal, OnOk, OnErr};
+ghost use Rattle.pair_report.specs.PairReport.{handle_text, add_line, stale_line, frame_line, event_text, told_line, exchanges_line};
+ghost use Rattle.pair_report.specs.PairReport.{mark_line, back_line, nomark_line, end_line, cause_text, refused_line};
 ghost use Rattle.text_line.specs.declared.TheConstants.{ROOM};
 
 use crate::Cause;
-use broad_index::QKind;
 use fixed_box::NoMemory;
 use live_table::Handle;
 use pair_events::{Event, Told};
@@ -74,61 +73,40 @@ pub fn put_exchanges(number: u64, out: &mut Vec<u8>) -> Result<(), NoMemory>
     Ok(out.extend_from_slice(line.bytes())?)
 }
 
-/// The answer to a query: its name, the number of boxes, and their handles, each after a space.
-pub fn put_hits(kind: QKind, handles: &[Handle], out: &mut Vec<u8>) -> Result<(), NoMemory>
-    ensures ok { OnOk result (out.new.items ≡ out.old.items ++ hits_line kind handles.now) }
+/// A mark was made: `mark N`, the number of marks that are held then.
+pub fn put_mark(held: u32, out: &mut Vec<u8>) -> Result<(), NoMemory>
+    ensures ok { OnOk result (out.new.items ≡ out.old.items ++ mark_line held) }
     ensures err { OnErr result (out.new.items ≡ out.old.items) }
 {
-    let before = out.len();
-    let put = push_hits(kind, handles, out);
-    if put.is_err() {
-        out.truncate(before);
-    }
-    put
+    put_number(b"mark ", held, out)
 }
 
-// The same. What was there stays, after an `Err` too.
-fn push_hits(kind: QKind, handles: &[Handle], out: &mut Vec<u8>) -> Result<(), NoMemory>
-    ensures ok { OnOk result (out.new.items ≡ out.old.items ++ hits_line kind handles.now) }
-    ensures kept { take (vec_len out.old) out.new.items ≡ out.old.items }
-{
-    push_count(kind, handles.len(), out)?;
-    push_handles(handles, out)?;
-    Ok(out.push(b'\n')?)
-}
-
-// The name of a query, and a number.
-fn push_count(kind: QKind, count: usize, out: &mut Vec<u8>) -> Result<(), NoMemory>
-    ensures ok { OnOk result (out.new.items ≡ out.old.items ++ (kind_text kind ++ decimal count)) }
+/// The world is the marked one again: `back N`, the number of marks that are left.
+pub fn put_back(left: u32, out: &mut Vec<u8>) -> Result<(), NoMemory>
+    ensures ok { OnOk result (out.new.items ≡ out.old.items ++ back_line left) }
     ensures err { OnErr result (out.new.items ≡ out.old.items) }
 {
-    let mut line = TextLine::new();
-    line.text(kind_text(kind));
-    line.wide_number(count as u64);
-    Ok(out.extend_from_slice(line.bytes())?)
+    put_number(b"back ", left, out)
 }
 
-// Handles, each after a space. What was there stays, after an `Err` too.
-fn push_handles(handles: &[Handle], out: &mut Vec<u8>) -> Result<(), NoMemory>
-    ensures ok { OnOk result (out.new.items ≡ out.old.items ++ handles_text handles.now) }
-    ensures kept { take (vec_len out.old) out.new.items ≡ out.old.items }
+/// No mark was made, or none is there to go back to, and nothing changed: `nomark N`, the number of marks that are held.
+pub fn put_nomark(held: u32, out: &mut Vec<u8>) -> Result<(), NoMemory>
+    ensures ok { OnOk result (out.new.items ≡ out.old.items ++ nomark_line held) }
+    ensures err { OnErr result (out.new.items ≡ out.old.items) }
 {
-    let mut rest = handles;
-    'handles: while let Some((handle, more)) = rest.split_first() {
-        push_handle(*handle, out)?;
-        rest = more;
-    }
-    Ok(())
+    put_number(b"nomark ", held, out)
 }
 
-// A handle after a space.
-fn push_handle(handle: Handle, out: &mut Vec<u8>) -> Result<(), NoMemory>
-    ensures ok { OnOk result (out.new.items ≡ out.old.items ++ (codes " " ++ handle_text handle)) }
+// A word and a number.
+fn put_number(word: &[u8], number: u32, out: &mut Vec<u8>) -> Result<(), NoMemory>
+    requires { length word.now ≤ 7 }
+    ensures ok { OnOk result (out.new.items ≡ out.old.items ++ (word.now ++ decimal number ++ codes "\n")) }
     ensures err { OnErr result (out.new.items ≡ out.old.items) }
 {
     let mut line = TextLine::new();
-    line.text(b" ");
-    put_handle(handle, &mut line);
+    line.text(word);
+    line.number(number);
+    line.text(b"\n");
     Ok(out.extend_from_slice(line.bytes())?)
 }
 
@@ -163,7 +141,7 @@ pub fn put_refused(line: u32, cause: Cause, out: &mut Vec<u8>) -> Result<(), NoM
 }
 
 #[inline(always)]
-fn put_handle(handle: Handle, line: &mut TextLine)
+pub(crate) fn put_handle(handle: Handle, line: &mut TextLine)
     requires { length line.old + 21 ≤ ROOM }
     ensures text { line.new ≡ line.old ++ handle_text handle }
     ensures length { length line.new ≤ length line.old + 21 }
@@ -185,18 +163,6 @@ fn put_event(event: Event, line: &mut TextLine)
         Event::Begin => line.text(b"begin "),
         Event::Stay => line.text(b"stay "),
         Event::Over => line.text(b"over "),
-    }
-}
-
-fn kind_text(kind: QKind) -> &'static [u8]
-    ensures text { result.now ≡ kind_text kind }
-    ensures length { length result.now ≤ 6 }
-{
-    match kind {
-        QKind::Region => b"box ",
-        QKind::Spot => b"point ",
-        QKind::Along => b"ray ",
-        QKind::Between => b"seg ",
     }
 }
 

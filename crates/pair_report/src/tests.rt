@@ -26,11 +26,18 @@ fn lines_have_their_text(rt: HostRuntime) -> Result<(), Fail> {
     put_hits(QKind::Spot, &[a], &mut out)?;
     put_hits(QKind::Along, &[a, b], &mut out)?;
     put_hits(QKind::Between, &[b], &mut out)?;
+    put_cast(&[b, a], &mut out)?;
+    put_near(&[a], &mut out)?;
+    put_near(&[], &mut out)?;
+    put_mark(64, &mut out)?;
+    put_back(63, &mut out)?;
+    put_nomark(0, &mut out)?;
     put_end(3, 2, 1, &mut out)?;
     put_refused(5, Cause::Inverted, &mut out)?;
     put_refused(6, Cause::Owner, &mut out)?;
     let text = b"add 7:0\nstale 8191:4294967295\nframe 1 33550336\nover 7:0 8191:4294967295\n\
         exchanges 18446744073709551615\nbox 0\npoint 1 7:0\nray 2 7:0 8191:4294967295\nseg 1 8191:4294967295\n\
+        cast 2 8191:4294967295 7:0\nnear 1 7:0\nnear 0\nmark 64\nback 63\nnomark 0\n\
         end 3 2 1\nrefused 5 inverted\nrefused 6 owner\n";
     assert_eq!(rt; out.as_slice(), text.as_slice());
     Ok(())

@@ -1,6 +1,6 @@
 use Rattle.std.proofs.Common.{◌≡◌, ◌++◌, length, take, vec_len}
 use Rattle.pair_report.specs.PairReport.{handles_text}
-use Rattle.pair_report.proofs.lines.push_handles.Given as goal
+use Rattle.pair_report.proofs.listing.push_handles.Given as goal
 
 abbrev pub invariant-handles : goal.invariant-handles
 invariant-handles l = record {
