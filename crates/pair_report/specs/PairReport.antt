@@ -70,11 +70,11 @@ near_line handles = codes "near " ++ listing_text handles
 abbrev pub mark_line : ℕ → List ℕ
 mark_line held = codes "mark " ++ decimal held ++ codes "\n"
 
--- the world is the marked one again, and so many marks are left
+-- the world is that of the newest mark again, and so many marks are left
 abbrev pub back_line : ℕ → List ℕ
 back_line left = codes "back " ++ decimal left ++ codes "\n"
 
--- nothing changed, and so many marks are held
+-- no further mark is allowed, or none is there to go back to, and so many are held
 abbrev pub nomark_line : ℕ → List ℕ
 nomark_line held = codes "nomark " ++ decimal held ++ codes "\n"
 

@@ -1,4 +1,5 @@
-//! The lines of a report. Each call appends one line, or answers want of memory with the text as before.
+//! The lines of a report. Each call appends one line, or answers want of memory with the text as before. Its cost is
+//! that of the line's bytes, and of moving the text where that has no room left.
 #![tactic(auto)]
 
 mod cause;

@@ -73,7 +73,7 @@ pub fn put_exchanges(number: u64, out: &mut Vec<u8>) -> Result<(), NoMemory>
     Ok(out.extend_from_slice(line.bytes())?)
 }
 
-/// A mark was made: `mark N`, the number of marks that are held then.
+/// A mark was made: `mark N`, the number of marks that are held then, the new one among them.
 pub fn put_mark(held: u32, out: &mut Vec<u8>) -> Result<(), NoMemory>
     ensures ok { OnOk result (out.new.items ≡ out.old.items ++ mark_line held) }
     ensures err { OnErr result (out.new.items ≡ out.old.items) }
@@ -81,7 +81,7 @@ pub fn put_mark(held: u32, out: &mut Vec<u8>) -> Result<(), NoMemory>
     put_number(b"mark ", held, out)
 }
 
-/// The world is the marked one again: `back N`, the number of marks that are left.
+/// The world is that of the newest mark again, which is dropped: `back N`, the number of marks that are left.
 pub fn put_back(left: u32, out: &mut Vec<u8>) -> Result<(), NoMemory>
     ensures ok { OnOk result (out.new.items ≡ out.old.items ++ back_line left) }
     ensures err { OnErr result (out.new.items ≡ out.old.items) }
@@ -89,7 +89,7 @@ pub fn put_back(left: u32, out: &mut Vec<u8>) -> Result<(), NoMemory>
     put_number(b"back ", left, out)
 }
 
-/// No mark was made, or none is there to go back to, and nothing changed: `nomark N`, the number of marks that are held.
+/// No further mark is allowed, or none is there to go back to: `nomark N`, the number of marks that are held.
 pub fn put_nomark(held: u32, out: &mut Vec<u8>) -> Result<(), NoMemory>
     ensures ok { OnOk result (out.new.items ≡ out.old.items ++ nomark_line held) }
     ensures err { OnErr result (out.new.items ≡ out.old.items) }

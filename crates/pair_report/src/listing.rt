@@ -8,8 +8,8 @@ use fixed_box::NoMemory;
 use live_table::Handle;
 use text_line::TextLine;
 
-/// The answer to a query: its name, the number of boxes, and their handles as they stand, each after a space. Whoever asks puts
-/// them in order: by slots, or for rays by where they enter.
+/// The answer to a query: its name, the number of boxes, and their handles as they stand in the list, each after a space.
+/// Their order is the caller's: that of slots, or of a ray's entries where those are asked for.
 pub fn put_hits(kind: QKind, handles: &[Handle], out: &mut Vec<u8>) -> Result<(), NoMemory>
     ensures ok { OnOk result (out.new.items ≡ out.old.items ++ hits_line kind handles.now) }
     ensures err { OnErr result (out.new.items ≡ out.old.items) }
@@ -17,7 +17,8 @@ pub fn put_hits(kind: QKind, handles: &[Handle], out: &mut Vec<u8>) -> Result<()
     put_listing(kind_text(kind), handles, out)
 }
 
-/// The boxes that a moved box meets: `cast N`, and the handles as they stand, which is in the order in which it meets them.
+/// The boxes that a box meets when it is moved along a line: `cast N`, and their handles as they stand in the list. Their
+/// order is the caller's: that in which they are met, then that of slots.
 pub fn put_cast(handles: &[Handle], out: &mut Vec<u8>) -> Result<(), NoMemory>
     ensures ok { OnOk result (out.new.items ≡ out.old.items ++ cast_line handles.now) }
     ensures err { OnErr result (out.new.items ≡ out.old.items) }
@@ -25,7 +26,8 @@ pub fn put_cast(handles: &[Handle], out: &mut Vec<u8>) -> Result<(), NoMemory>
     put_listing(b"cast ", handles, out)
 }
 
-/// The boxes nearest to a point: `near N`, and the handles as they stand, the nearest first.
+/// The boxes nearest to a point: `near N`, and their handles as they stand in the list. Their order is the caller's: the
+/// nearest first, then that of slots.
 pub fn put_near(handles: &[Handle], out: &mut Vec<u8>) -> Result<(), NoMemory>
     ensures ok { OnOk result (out.new.items ≡ out.old.items ++ near_line handles.now) }
     ensures err { OnErr result (out.new.items ≡ out.old.items) }
