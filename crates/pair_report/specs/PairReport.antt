@@ -82,7 +82,7 @@ nomark_line held = codes "nomark " ++ decimal held ++ codes "\n"
 abbrev pub end_line : ℕ → ℕ → ℕ → List ℕ
 end_line lines frames live = codes "end " ++ decimal lines ++ codes " " ++ decimal frames ++ codes " " ++ decimal live ++ codes "\n"
 
--- and a cause by its own
+-- a cause is named by its own word
 abbrev pub cause_text : Cause → List ℕ
 cause_text cause.Lines = codes "lines"
 cause_text cause.Long = codes "long"
