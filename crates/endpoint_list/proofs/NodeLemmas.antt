@@ -1,8 +1,8 @@
 -- Nodes that are none of a list, distinct nodes and nodes below a number, as a list is joined, cut and changed.
-use Rattle.std.proofs.Common.{◌≡◌, ℕ, ◌<◌, ◌≤◌, List, [], ◌∷◌, ◌++◌, eqb, ◌||◌, ap, refl, sym, arith, false, true, eq-eqb, ne_eqb, inl, inr}
+use Rattle.std.proofs.Common.{Some, unwrap_or, ◌≡◌, ℕ, ◌<◌, ◌≤◌, List, [], ◌∷◌, ◌++◌, eqb, ◌||◌, ap, refl, sym, arith, false, true, eq-eqb, ne_eqb, inl, inr}
 use Rattle.std.proofs.lemmas.Bool.{cases_eq}
 use Rattle.endpoint_list.specs.declared.TheConstants.{NODES}
-use Rattle.endpoint_list.specs.NodeList.{has, IsDistinct, IsNodeList}
+use Rattle.endpoint_list.specs.NodeList.{has, first_of, IsDistinct, IsNodeList}
 use Rattle.slot_lists.specs.Links.{Fresh, Distinct, Below}
 use Rattle.slot_lists.specs.LinkLaws.{Fresh-append}
 use Rattle.endpoint_list.specs.Links.{IsKept}
@@ -79,6 +79,10 @@ has_split k (x ∷ xs) h =
           let rest = has_split k xs (rw (ne_eqb x k o) at h) in
           (x ∷ rest.0, rest.1, ap (λ ns. x ∷ ns) rest.2)
     ]
+
+pub first_split : (k : ℕ) (xs : List ℕ) → first_of xs ≡ Some k → (rest : List ℕ) × (xs ≡ k ∷ rest)
+first_split k [] e = absurd (cc)
+first_split k (x ∷ xs) e = (xs, ap (λ o. unwrap_or o 0 ∷ xs) e)
 
 pub has_middle : (k : ℕ) (ys zs : List ℕ) → has k (ys ++ k ∷ zs) ≡ true
 has_middle k [] zs = rw (eq-eqb k k refl) refl

@@ -1,4 +1,4 @@
-ghost use Rattle.std.specs.Prelude.{◌≡◌, ◌<◌, ◌++◌, ◌∷◌, [], true, false, List, ℕ, IfOk};
+ghost use Rattle.std.specs.Prelude.{◌≡◌, ◌<◌, ◌++◌, ◌∷◌, [], true, false, List, ℕ, IfOk, Some};
 ghost use Rattle.endpoint_list.specs.NodeList.{has, first_of, last_of, IsNodeList};
 
 use crate::NODES;
@@ -139,9 +139,11 @@ impl EndList {
     }
 }
 
-/// A law for callers that tested by `has`: a node is present exactly where the list can be cut before it.
+/// Laws for callers that tested by `has` and `next`: a node is present exactly where the list can be cut before it, and a
+/// list with a first node is that one and a rest.
 pub fn list_laws()
     ensures cut { (node : ℕ) (nodes : List ℕ) → has node nodes ≡ true
         → (before : List ℕ) × (after : List ℕ) × (nodes ≡ before ++ node ∷ after) }
     ensures present { (node : ℕ) (before after : List ℕ) → has node (before ++ node ∷ after) ≡ true }
+    ensures begins { (node : ℕ) (nodes : List ℕ) → first_of nodes ≡ Some node → (rest : List ℕ) × (nodes ≡ node ∷ rest) }
 {}
