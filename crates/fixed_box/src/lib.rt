@@ -24,6 +24,3 @@ pub type Fix = i32;
 
 /// How many slots there are for boxes: 0 to 8,191. So many boxes may live at once.
 pub const SLOTS: u32 = 8_192;
-
-#[cfg(test)]
-mod tests;

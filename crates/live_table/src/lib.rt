@@ -21,6 +21,3 @@ pub use live::{Live, may_pair};
 pub use masks::Masks;
 pub use stale::Stale;
 pub use table::LiveTable;
-
-#[cfg(test)]
-mod tests;

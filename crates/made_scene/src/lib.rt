@@ -12,6 +12,3 @@ pub use laws::{made_limits, made_scene_laws};
 
 /// The most frames of a made scene.
 pub const MOST_FRAMES: u32 = 100;
-
-#[cfg(test)]
-mod tests;

@@ -12,6 +12,3 @@ pub use distance::square;
 pub use laws::{nearest_law, square_law};
 pub use near::Near;
 pub use search::nearest;
-
-#[cfg(test)]
-mod tests;

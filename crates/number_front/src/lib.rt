@@ -6,6 +6,3 @@ mod printed_ahead;
 
 pub use numbers_ahead::{digits_ahead, fix_ahead};
 pub use printed_ahead::printed_fix_ahead;
-
-#[cfg(test)]
-mod tests;

@@ -9,6 +9,3 @@ mod told;
 pub use hpair::HPair;
 pub use pair_table::PairTable;
 pub use told::{Event, Told};
-
-#[cfg(test)]
-mod tests;

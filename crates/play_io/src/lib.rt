@@ -20,6 +20,3 @@ pub use mem_sink::MemSink;
 pub use mem_source::MemSource;
 pub use sink::{Sink, SinkFault};
 pub use source::{Failed, Source};
-
-#[cfg(test)]
-mod tests;

@@ -15,6 +15,3 @@ pub use ray::{Ray, first_law, ray_entry, ray_law, ray_meets};
 pub use seg::{Seg, seg_law, seg_meets};
 pub use wbox::WBox;
 pub use wpoint::WPoint;
-
-#[cfg(test)]
-mod tests;

@@ -21,6 +21,3 @@ pub const LONGEST_LINE: usize = 1_024;
 
 /// How many bytes the buffer of a reader of lines has.
 pub const BUFFER_LEN: usize = 65_536;
-
-#[cfg(test)]
-mod tests;

@@ -4,6 +4,3 @@
 mod slot_boxes;
 
 pub use slot_boxes::SlotBoxes;
-
-#[cfg(test)]
-mod tests;

@@ -1,6 +1,5 @@
 ghost use Rattle.std.specs.Prelude.{◌<◌};
 
-use crate::gates::{Meeting, Threaded};
 use broad_index::{BroadPhase, NoGate, Pair, Query, Seeker, seek_many};
 use cell_table::CellKey;
 use fixed_box::{FBox, NoMemory, Point, SLOTS};
@@ -9,6 +8,7 @@ use std::alloc::Global;
 use std::process::Abort;
 use std::test::Fail;
 use std::thread::Threads;
+use test_gates::{Meeting, Threaded};
 
 fn same_numbers(rt: &impl Abort, what: &str, numbers: &[u32], wanted: &[u32]) {
     assert_eq!(rt; numbers, wanted, "{what}");

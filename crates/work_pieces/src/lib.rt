@@ -11,6 +11,3 @@ pub use pieces::{by_pieces, by_runs};
 
 /// The most workers of a search.
 pub const MOST_WORKERS: u32 = 16;
-
-#[cfg(test)]
-mod tests;

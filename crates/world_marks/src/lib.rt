@@ -15,6 +15,3 @@ pub use undo::Undo;
 
 /// So many marks may be held.
 pub const MOST_MARKS: u32 = 64;
-
-#[cfg(test)]
-mod tests;

@@ -1,5 +1,4 @@
 use super::{cube, edit, put, same_number, same_pairs, same_slots, two_here};
-use crate::gates::{Meeting, Threaded};
 use box_tree::BoxTree;
 use broad_index::{BroadPhase, NoGate, Pair, seek_many};
 use fixed_box::{FBox, NoMemory};
@@ -7,6 +6,7 @@ use std::alloc::Global;
 use std::process::Abort;
 use std::test::Fail;
 use std::thread::Threads;
+use test_gates::{Meeting, Threaded};
 
 // Pairs after an edit, on two threads, and how many nodes were looked at.
 fn pairs_on_two<R: Threads + Sync + Abort>(

@@ -1,0 +1,97 @@
+ghost use Rattle.std.specs.FinMap as map;
+
+use broad_index::{BroadPhase, PlainIndex};
+use fixed_box::{FBox, Point, space_law};
+use near_boxes::{Bodies, Near, nearest, square};
+use std::test::Fail;
+
+// Raw units.
+const ONE: i32 = 65_536;
+
+const LOW: i32 = i32::MIN;
+
+fn at(x: i32, y: i32, z: i32) -> Point {
+    Point { x, y, z }
+}
+
+// A crate of one unit whose lower corner has this x.
+fn crate_from(x: i32) -> Option<FBox> {
+    FBox::new(at(x, 0, 0), at(x.saturating_add(ONE), ONE, ONE))
+}
+
+// Boxes under the slots 0 to 2.
+#[derive(Clone, Copy)]
+struct Three {
+    first: FBox,
+    second: FBox,
+    third: FBox,
+}
+
+impl Bodies for Three {
+    ghost bodies = { λ three. map.insert (map.insert (map.insert map.empty 0 three.first) 1 three.second) 2 three.third };
+
+    fn body(&self, slot: u32) -> Option<FBox> {
+        space_law(&self.first);
+        space_law(&self.second);
+        space_law(&self.third);
+        if slot == 0 {
+            Some(self.first)
+        } else if slot == 1 {
+            Some(self.second)
+        } else if slot == 2 {
+            Some(self.third)
+        } else {
+            None
+        }
+    }
+}
+
+// From the middle of the first the other two are as near as each other.
+#[test]
+fn the_nearest_come_by_square_and_then_by_slot(rt: HostRuntime) -> Result<(), Fail> {
+    let bodies = Three {
+        first: crate_from(0).ok_or("a box")?,
+        second: crate_from(3 * ONE).ok_or("a box")?,
+        third: crate_from(-3 * ONE).ok_or("a box")?,
+    };
+    let mut index = PlainIndex::new(rt.alloc())?;
+    index.add(0, bodies.first)?;
+    index.add(1, bodies.second)?;
+    index.add(2, bodies.third)?;
+    let middle = at(ONE / 2, ONE / 2, ONE / 2);
+    let all = [
+        Near { slot: 0, square: 0 },
+        Near {
+            slot: 1,
+            square: 26_843_545_600,
+        },
+        Near {
+            slot: 2,
+            square: 26_843_545_600,
+        },
+    ];
+    let mut nears = Vec::new(rt.alloc());
+    nearest(rt.alloc(), &index, &bodies, &middle, 2, &mut nears)?;
+    assert_eq!(rt; nears.as_slice(), &all[..2]);
+    nears.clear();
+    nearest(rt.alloc(), &index, &bodies, &middle, 8192, &mut nears)?;
+    assert_eq!(rt; nears.as_slice(), all.as_slice());
+    Ok(())
+}
+
+#[test]
+fn squares_may_have_more_than_64_bits(rt: HostRuntime) -> Result<(), Fail> {
+    let lowest = at(LOW, LOW, LOW);
+    for (corner, wanted) in [
+        (lowest, 0),
+        (at(LOW, LOW, LOW + 2 * ONE), 1u128 << 34),
+        (
+            at(i32::MAX, LOW + 2 * ONE, LOW),
+            (1u128 << 64) + (1 << 33) + 1,
+        ),
+    ] {
+        let body = FBox::new(corner, corner).ok_or("a box")?;
+        assert_eq!(rt; square(&lowest, &body), wanted);
+    }
+    Ok(())
+}
