@@ -7,7 +7,7 @@ ghost use Rattle.tree_nodes.specs.declared.node_view.NodeView.TheVariants.{Leaf 
 use fixed_box::{FBox, Point, SLOTS};
 use std::process::Abort;
 use std::test::Fail;
-use tree_nodes::{NodeView, Nodes};
+use tree_nodes::{MOST_HEIGHT, NodeView, Nodes};
 
 // The flat box at a point of the x axis.
 fn flat(x: i32) -> Option<FBox> {
@@ -99,5 +99,100 @@ fn two_leaves_are_a_tree_of_height_1(rt: HostRuntime) -> Result<(), Fail> {
     let mut nodes = Nodes::new(rt.alloc())?;
     two_come(&rt, &mut nodes, here, there);
     drop(nodes);
+    Ok(())
+}
+
+// The next number of a linear congruential generator.
+fn next_word(state: &mut u32) -> u32
+    ensures { result < 16777216 }
+{
+    *state = state.wrapping_mul(1_664_525).wrapping_add(1_013_904_223);
+    *state >> 8
+}
+
+// A box somewhere in a cube of 256 units, with sides of one unit.
+fn scattered(state: &mut u32) -> Option<FBox> {
+    let lo = Point {
+        x: next_word(state) as i32,
+        y: next_word(state) as i32,
+        z: next_word(state) as i32,
+    };
+    let hi = Point {
+        x: lo.x + 65_536,
+        y: lo.y + 65_536,
+        z: lo.z + 65_536,
+    };
+    FBox::new(lo, hi)
+}
+
+// Scattered boxes come under all slots.
+fn fill(nodes: &mut Nodes, state: &mut u32) -> Option<()>
+    requires { IsFilled nodes.old 0 }
+{
+    'fill: for slot in 0..SLOTS {
+        let fat = scattered(state)?;
+        add_next(nodes, slot, fat);
+    }
+    Some(())
+}
+
+// How many nodes a search looks at, in a tree of so many levels.
+fn looked(nodes: &Nodes, node: usize, region: &FBox, levels: u8) -> u64
+    requires { IsSome (view_in nodes.now node) }
+{
+    if levels == 0 {
+        return 0;
+    }
+    match nodes.view(node) {
+        NodeView::Leaf { slot: _, fat: _ } => 1,
+        NodeView::Inner {
+            left,
+            right,
+            hull,
+            height: _,
+        } => {
+            if !hull.overlaps(region) {
+                return 1;
+            }
+            let below = looked(nodes, left, region, levels - 1);
+            below
+                .saturating_add(looked(nodes, right, region, levels - 1))
+                .saturating_add(1)
+        }
+    }
+}
+
+// How many nodes 256 searches look at.
+fn looked_by_searches(nodes: &Nodes, state: &mut u32) -> Option<u64> {
+    let root = nodes.root()?;
+    let mut total = 0u64;
+    'search: for _ in 0..256 {
+        let region = scattered(state)?;
+        total = total.saturating_add(looked(nodes, root, &region, MOST_HEIGHT + 1));
+    }
+    Some(total)
+}
+
+// The same searches of all slots before the tree is rebuilt and behind that.
+fn search_and_rebuild(rt: &impl Abort, nodes: &mut Nodes) -> Option<()>
+    requires { IsFilled nodes.old 0 }
+{
+    fill(nodes, &mut 42)?;
+    let grown = looked_by_searches(nodes, &mut 7)?;
+    nodes.rebuild();
+    let rebuilt = looked_by_searches(nodes, &mut 7)?;
+    assert!(rt; grown < 256 * 160, "{grown} nodes for 256 searches");
+    assert!(rt; rebuilt <= grown, "{rebuilt} nodes after {grown}");
+    Some(())
+}
+
+#[test]
+fn a_search_of_8192_boxes_looks_at_few_nodes_and_at_no_more_in_a_rebuilt_tree(
+    rt: HostRuntime,
+) -> Result<(), Fail> {
+    let mut nodes = Nodes::new(rt.alloc())?;
+    let done = search_and_rebuild(&rt, &mut nodes);
+    drop(nodes);
+    done.ok_or("boxes")?;
     Ok(())
 }
