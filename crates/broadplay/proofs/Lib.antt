@@ -1,2 +1,0 @@
-mod OptionWords
-mod TaskOutcomes

@@ -1,2 +1,0 @@
-pub mod JobOutcome
-pub mod JobWords

@@ -2,15 +2,11 @@
 //! compare structures, machines and versions by.
 #![tactic(auto)]
 
-mod job;
-mod named;
-mod run_job;
-
 use frame_player::Status;
-pub use job::{Job, Structure, Task, read_words};
+pub use job_runs::broadplay;
+pub use job_words::{Job, Structure, Task, read_words};
 pub use made_scene::drill_scene;
 use play_io::{FileSink, FileSource};
-pub use run_job::broadplay;
 use std::env;
 use std::process::ExitCode;
 use std::rt::Env;

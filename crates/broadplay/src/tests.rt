@@ -8,6 +8,7 @@ mod drill;
 use super::*;
 use box_tree::BoxTree;
 use broad_index::{BroadPhase, Gate, NoGate, PlainIndex};
+use fixed_box::SLOTS;
 use frame_player::{Limits, Options, play};
 use hier_grid::HierGrid;
 use pair_report::Cause;
@@ -15,12 +16,35 @@ use play_io::{HonestSink, HonestSource, MemSink, MemSource};
 use scene_lines::MOST_LINES;
 use std::alloc::{AllocError, Global};
 use std::process::Abort;
-use std::sync::atomic::{AtomicBool, AtomicU32, Ordering};
 use std::test::Fail;
 use std::thread::Threads;
-use sweep_prune::Sap;
+use test_gates::{Entries, Meeting, Threaded};
+
+// The words of a command line.
+fn list_of(alloc: Global, words: &[&str]) -> Result<Vec<String>, AllocError> {
+    let mut list = Vec::new(alloc);
+    for word in words {
+        list.push(String::from_str(alloc, word)?)?;
+    }
+    Ok(list)
+}
+
+fn same_bytes(rt: &impl Abort, bytes: &[u8], wanted: &[u8]) {
+    assert_eq!(rt; bytes, wanted);
+}
+
+fn same_status(rt: &impl Abort, status: Status, wanted: Status) {
+    assert_eq!(rt; status, wanted);
+}
+
+fn same_number(rt: &impl Abort, number: u64, wanted: u64) {
+    assert_eq!(rt; number, wanted);
+}
 
 // What a command line writes for a scene, with the status. Reads and writes go in pieces of at most 7 bytes.
+//
+// Here as below, what owns values hands them to a function that borrows them: where a function may return, its proof drops
+// each field of each value that it owns.
 fn written<R: Threads + Sync + Abort>(
     rt: &R,
     alloc: Global,
@@ -29,24 +53,26 @@ fn written<R: Threads + Sync + Abort>(
     report: &[u8],
     status: Status,
 ) -> Result<(), Fail> {
-    let mut list = Vec::new(alloc);
-    for word in words {
-        list.push(String::from_str(alloc, word)?)?;
-    }
-    let mut source = HonestSource::new(alloc, scene, 7)?;
-    let mut sink = HonestSink::new(alloc, 7);
-    let answer = broadplay(rt, alloc, &list, &mut source, &mut sink);
-    assert_eq!(rt; sink.bytes(), report);
-    assert_eq!(rt; answer, status);
-    Ok(())
+    let list = list_of(alloc, words)?;
+    let done = written_for(rt, alloc, &list, scene, report, status);
+    drop(list);
+    done
 }
 
-// A gate that asks for a thread of its own for each piece, however little there is to search.
-#[derive(Drop)]
-struct Threaded;
-
-impl Gate for Threaded {
-    fn enter(&self, _piece: u32) {}
+fn written_for<R: Threads + Sync + Abort>(
+    rt: &R,
+    alloc: Global,
+    words: &[String],
+    scene: &[u8],
+    report: &[u8],
+    status: Status,
+) -> Result<(), Fail> {
+    let mut source = HonestSource::new(alloc, scene, 7)?;
+    let mut sink = HonestSink::new(alloc, 7);
+    let answer = broadplay(rt, alloc, words, &mut source, &mut sink);
+    same_bytes(rt, sink.bytes(), report);
+    same_status(rt, answer, status);
+    Ok(())
 }
 
 // What the tree and the grid write for a scene where four threads search, however little there is.
@@ -258,16 +284,28 @@ fn written_with_faults<R: Threads + Sync + Abort>(
     status: Status,
 ) -> Result<(), Fail> {
     for structure in ["sap", "tree"] {
-        let mut list = play_with(alloc, structure)?;
-        for word in ["--workers", "4"] {
-            list.push(String::from_str(alloc, word)?)?;
-        }
-        let mut source = MemSource::new(alloc, scene, 1, failing.0)?;
-        let mut sink = MemSink::new(alloc, 1, failing.1)?;
-        let answer = broadplay(rt, alloc, &list, &mut source, &mut sink);
-        assert_eq!(rt; sink.bytes(), report);
-        assert_eq!(rt; answer, status);
+        let list = list_of(alloc, &["play", "--with", structure, "--workers", "4"])?;
+        let done = faulty_for(rt, alloc, &list, scene, failing, report, status);
+        drop(list);
+        done?;
     }
+    Ok(())
+}
+
+fn faulty_for<R: Threads + Sync + Abort>(
+    rt: &R,
+    alloc: Global,
+    words: &[String],
+    scene: &[u8],
+    failing: (&[u32], &[u32]),
+    report: &[u8],
+    status: Status,
+) -> Result<(), Fail> {
+    let mut source = MemSource::new(alloc, scene, 1, failing.0)?;
+    let mut sink = MemSink::new(alloc, 1, failing.1)?;
+    let answer = broadplay(rt, alloc, words, &mut source, &mut sink);
+    same_bytes(rt, sink.bytes(), report);
+    same_status(rt, answer, status);
     Ok(())
 }
 
@@ -356,58 +394,91 @@ fn exchanges_are_told_at_each_frame(rt: HostRuntime) -> Result<(), Fail> {
     Ok(())
 }
 
-// 300 boxes alike, of which the first may move away, with the numbers of exchanges if they are told.
-fn boxes_alike<R: Threads + Sync + Abort>(
-    rt: &R,
-    alloc: Global,
-    words: &[&str],
-    first: &str,
+// A line for each pair of slots from one on.
+fn put_pairs(report: &mut String, word: &str, first: u32) -> Result<(), AllocError> {
+    for a in first..300 {
+        for b in a + 1..300 {
+            writeln!(report, "{word} {a}:0 {b}:0")?;
+        }
+    }
+    Ok(())
+}
+
+// 300 boxes alike and a frame, with the number of exchanges if it is told.
+fn put_alike(
+    scene: &mut String,
+    report: &mut String,
     corners: &str,
-    exchanges: [&str; 2],
-) -> Result<(), Fail> {
-    let mut scene = String::from_str(alloc, "scene 1\n")?;
-    let mut report = String::new(alloc);
+    exchanges: &str,
+) -> Result<(), AllocError> {
+    scene.clear();
+    scene.push_str("scene 1\n")?;
+    report.clear();
     for slot in 0..300 {
         writeln!(scene, "add {corners}")?;
         writeln!(report, "add {slot}:0")?;
     }
-    writeln!(scene, "frame")?;
-    writeln!(report, "frame 1 44850")?;
-    for a in 0..300 {
-        for b in a + 1..300 {
-            writeln!(report, "begin {a}:0 {b}:0")?;
-        }
-    }
-    report.push_str(exchanges[0])?;
-    let mut stopped = String::from_str(alloc, report.as_str())?;
-    writeln!(stopped, "end 302 1 300")?;
-    written(
-        rt,
-        alloc,
-        words,
-        scene.as_bytes(),
-        stopped.as_bytes(),
-        Status::Done,
-    )?;
+    scene.push_str("frame\n")?;
+    report.push_str("frame 1 44850\n")?;
+    put_pairs(report, "begin", 0)?;
+    report.push_str(exchanges)
+}
+
+// The first of them moves away, and another frame.
+fn put_first_away(
+    scene: &mut String,
+    report: &mut String,
+    first: &str,
+    exchanges: &str,
+) -> Result<(), AllocError> {
     writeln!(scene, "move 0:0 {first}\nframe")?;
-    writeln!(report, "frame 2 44551")?;
-    for a in 1..300 {
-        for b in a + 1..300 {
-            writeln!(report, "stay {a}:0 {b}:0")?;
-        }
-    }
+    report.push_str("frame 2 44551\n")?;
+    put_pairs(report, "stay", 1)?;
     for b in 1..300 {
         writeln!(report, "over 0:0 {b}:0")?;
     }
-    writeln!(report, "{}end 304 2 300", exchanges[1])?;
-    written(
-        rt,
-        alloc,
-        words,
-        scene.as_bytes(),
-        report.as_bytes(),
-        Status::Done,
-    )
+    report.push_str(exchanges)
+}
+
+// Boxes alike: where they stand, where the first then goes, and the numbers of exchanges if they are told.
+#[derive(Clone, Copy)]
+struct Alike<'a> {
+    corners: &'a str,
+    first: &'a str,
+    exchanges: [&'a str; 2],
+}
+
+fn alike_written<R: Threads + Sync + Abort>(
+    rt: &R,
+    alloc: Global,
+    words: &[&str],
+    alike: &Alike,
+    scene: &mut String,
+    report: &mut String,
+) -> Result<(), Fail> {
+    let done = Status::Done;
+    put_alike(scene, report, alike.corners, alike.exchanges[0])?;
+    report.push_str("end 302 1 300\n")?;
+    written(rt, alloc, words, scene.as_bytes(), report.as_bytes(), done)?;
+    put_alike(scene, report, alike.corners, alike.exchanges[0])?;
+    put_first_away(scene, report, alike.first, alike.exchanges[1])?;
+    report.push_str("end 304 2 300\n")?;
+    written(rt, alloc, words, scene.as_bytes(), report.as_bytes(), done)
+}
+
+// What is written of boxes alike, before the first moves away and with that.
+fn boxes_alike<R: Threads + Sync + Abort>(
+    rt: &R,
+    alloc: Global,
+    words: &[&str],
+    alike: &Alike,
+) -> Result<(), Fail> {
+    let mut scene = String::new(alloc);
+    let mut report = String::new(alloc);
+    let done = alike_written(rt, alloc, words, alike, &mut scene, &mut report);
+    drop(report);
+    drop(scene);
+    done
 }
 
 #[test]
@@ -418,40 +489,31 @@ fn boxes_alike_are_all_pairs(rt: HostRuntime) -> Result<(), Fail> {
         &["play", "--with", "tree", "--workers", "4"],
         &["play", "--with", "grid"],
     ];
+    let near = Alike {
+        corners: "0 0 0 1 1 1",
+        first: "5 5 5 6 6 6",
+        exchanges: ["", ""],
+    };
+    let at_the_end = Alike {
+        corners: "32767 32767 32767 32767 32767 32767",
+        first: "-32768 5 5 6 6 6",
+        exchanges: ["", ""],
+    };
     for list in words {
-        boxes_alike(
-            &rt,
-            rt.alloc(),
-            list,
-            "5 5 5 6 6 6",
-            "0 0 0 1 1 1",
-            ["", ""],
-        )?;
-    }
-    // At the end of the coordinates.
-    for list in words {
-        boxes_alike(
-            &rt,
-            rt.alloc(),
-            list,
-            "-32768 5 5 6 6 6",
-            "32767 32767 32767 32767 32767 32767",
-            ["", ""],
-        )?;
+        boxes_alike(&rt, rt.alloc(), list, &near)?;
+        boxes_alike(&rt, rt.alloc(), list, &at_the_end)?;
     }
     Ok(())
 }
 
 #[test]
 fn boxes_alike_pass_one_another(rt: HostRuntime) -> Result<(), Fail> {
-    boxes_alike(
-        &rt,
-        rt.alloc(),
-        &["play", "--exchanges"],
-        "5 5 5 6 6 6",
-        "0 0 0 1 1 1",
-        ["exchanges 134550\n", "exchanges 2691\n"],
-    )
+    let alike = Alike {
+        corners: "0 0 0 1 1 1",
+        first: "5 5 5 6 6 6",
+        exchanges: ["exchanges 134550\n", "exchanges 2691\n"],
+    };
+    boxes_alike(&rt, rt.alloc(), &["play", "--exchanges"], &alike)
 }
 
 #[test]
@@ -538,8 +600,8 @@ fn played_over<R: Threads + Sync + Abort, B: BroadPhase + Sync + Drop, G: Gate +
         &mut source,
         &mut sink,
     );
-    assert_eq!(rt; sink.bytes(), report);
-    assert_eq!(rt; answer, status);
+    same_bytes(rt, sink.bytes(), report);
+    same_status(rt, answer, status);
     Ok(())
 }
 
@@ -576,39 +638,67 @@ fn a_scene_has_at_most_so_many_lines(rt: HostRuntime) -> Result<(), Fail> {
     )
 }
 
-// A scene of so many boxes, flat and apart, and the report of those for which there is room.
-fn crowd(alloc: Global, boxes: u32, room: u32) -> Result<(String, String), AllocError> {
-    let mut scene = String::from_str(alloc, "scene 1\n")?;
-    let mut report = String::new(alloc);
+// A scene of so many boxes, flat and apart, and of these lines, and the report of the boxes for which there is room.
+fn put_crowd(
+    scene: &mut String,
+    report: &mut String,
+    boxes: u32,
+    later: (&str, &str),
+) -> Result<(), AllocError> {
+    scene.push_str("scene 1\n")?;
     for slot in 0..boxes {
         writeln!(scene, "add {slot} {slot} {slot} {slot} {slot} {slot}")?;
-        if slot < room {
+        if slot < SLOTS {
             writeln!(report, "add {slot}:0")?;
         }
     }
-    Ok((scene, report))
+    scene.push_str(later.0)?;
+    report.push_str(later.1)
+}
+
+// What is written of so many boxes, and then of these lines.
+fn crowd_written<R: Threads + Sync + Abort>(
+    rt: &R,
+    alloc: Global,
+    boxes: u32,
+    later: (&str, &str),
+    status: Status,
+) -> Result<(), Fail> {
+    let mut scene = String::new(alloc);
+    let mut report = String::new(alloc);
+    let made = put_crowd(&mut scene, &mut report, boxes, later);
+    let done = made_written(rt, alloc, made, scene.as_bytes(), report.as_bytes(), status);
+    drop(report);
+    drop(scene);
+    done
+}
+
+// What is written of a scene that was made, with memory enough.
+fn made_written<R: Threads + Sync + Abort>(
+    rt: &R,
+    alloc: Global,
+    made: Result<(), AllocError>,
+    scene: &[u8],
+    report: &[u8],
+    status: Status,
+) -> Result<(), Fail> {
+    made?;
+    written_by_all(rt, alloc, scene, report, status)
 }
 
 #[test]
 fn so_many_boxes_live_and_no_more(rt: HostRuntime) -> Result<(), Fail> {
-    let (scene, mut report) = crowd(rt.alloc(), 8193, 8192)?;
-    report.push_str("refused 8194 full\n")?;
     let status = refused(8194, Cause::Full);
-    written_by_all(&rt, rt.alloc(), scene.as_bytes(), report.as_bytes(), status)
+    crowd_written(&rt, rt.alloc(), 8193, ("", "refused 8194 full\n"), status)
 }
 
 #[test]
 fn a_slot_that_is_free_again_takes_the_next_box(rt: HostRuntime) -> Result<(), Fail> {
-    let (mut scene, mut report) = crowd(rt.alloc(), 8192, 8192)?;
-    scene.push_str("remove 5:0\nadd 8192 8192 8192 8192 8192 8192\n")?;
-    report.push_str("add 5:1\nend 8195 0 8192\n")?;
-    written_by_all(
-        &rt,
-        rt.alloc(),
-        scene.as_bytes(),
-        report.as_bytes(),
-        Status::Done,
-    )
+    let later = (
+        "remove 5:0\nadd 8192 8192 8192 8192 8192 8192\n",
+        "add 5:1\nend 8195 0 8192\n",
+    );
+    crowd_written(&rt, rt.alloc(), 8192, later, Status::Done)
 }
 
 // A level with a floor, two crates and a player, and what is reported of it.
@@ -617,15 +707,6 @@ const LEVEL: &[u8] =
     add 2.5 1 2.5 3.5 2 3.5 2 7\nadd 10 0.5 10 10.8 2.3 10.8 4 3\nframe\nmove 3:0 3 0.5 3 3.8 2.3 3.8\n\
     ray 0 1.5 3 1 0 0 4\nframe\nremove 2:0\nframe\n";
 
-// The command line of a play over a structure.
-fn play_with(alloc: Global, structure: &str) -> Result<Vec<String>, AllocError> {
-    let mut list = Vec::new(alloc);
-    for word in ["play", "--with", structure] {
-        list.push(String::from_str(alloc, word)?)?;
-    }
-    Ok(list)
-}
-
 // What is written of a scene that is read to its end.
 fn report_of<R: Threads + Sync + Abort>(
     rt: &R,
@@ -633,12 +714,27 @@ fn report_of<R: Threads + Sync + Abort>(
     structure: &str,
     scene: &[u8],
 ) -> Result<Vec<u8>, Fail> {
-    let list = play_with(alloc, structure)?;
+    let list = list_of(alloc, &["play", "--with", structure])?;
+    let report = report_for(rt, alloc, &list, scene);
+    drop(list);
+    report
+}
+
+fn report_for<R: Threads + Sync + Abort>(
+    rt: &R,
+    alloc: Global,
+    words: &[String],
+    scene: &[u8],
+) -> Result<Vec<u8>, Fail> {
     let mut source = HonestSource::new(alloc, scene, 1024)?;
     let mut sink = HonestSink::new(alloc, 1024);
-    let answer = broadplay(rt, alloc, &list, &mut source, &mut sink);
-    assert!(rt; matches!(answer, Status::Done | Status::Refused { .. }));
+    let answer = broadplay(rt, alloc, words, &mut source, &mut sink);
+    came_to_an_end(rt, answer);
     Ok(Vec::from_slice(alloc, sink.bytes())?)
+}
+
+fn came_to_an_end(rt: &impl Abort, status: Status) {
+    assert!(rt; matches!(status, Status::Done | Status::Refused { .. }));
 }
 
 // The bytes up to the last line feed but so many, with it.
@@ -658,70 +754,109 @@ fn lines_before(bytes: &[u8], but: usize) -> &[u8] {
 }
 
 // The level where the read of such a number fails. A play knows no structure, so that one stands for all.
-fn read_fails<R: Threads + Sync + Abort>(rt: &R, alloc: Global, k: u32) -> Result<(), Fail> {
-    let list = play_with(alloc, "tree")?;
+fn read_fails<R: Threads + Sync + Abort>(
+    rt: &R,
+    alloc: Global,
+    words: &[String],
+    k: u32,
+) -> Result<(), Fail> {
+    let taken = LEVEL.split_at((k as usize).min(LEVEL.len())).0;
+    let report = report_for(rt, alloc, words, lines_before(taken, 0))?;
+    let done = read_fails_after(rt, alloc, words, k, lines_before(&report, 1));
+    drop(report);
+    done
+}
+
+fn read_fails_after<R: Threads + Sync + Abort>(
+    rt: &R,
+    alloc: Global,
+    words: &[String],
+    k: u32,
+    report: &[u8],
+) -> Result<(), Fail> {
     let mut source = MemSource::new(alloc, LEVEL, 1, &[k])?;
     let mut sink = MemSink::new(alloc, 1024, &[])?;
-    let answer = broadplay(rt, alloc, &list, &mut source, &mut sink);
-    let taken = LEVEL.split_at((k as usize).min(LEVEL.len())).0;
-    let report = report_of(rt, alloc, "tree", lines_before(taken, 0))?;
-    assert_eq!(rt; answer, Status::ReadFault);
-    assert_eq!(rt; sink.bytes(), lines_before(&report, 1));
-    assert_eq!(rt; source.calls(), u64::from(k) + 1);
+    let answer = broadplay(rt, alloc, words, &mut source, &mut sink);
+    same_status(rt, answer, Status::ReadFault);
+    same_bytes(rt, sink.bytes(), report);
+    same_number(rt, source.calls(), u64::from(k) + 1);
+    Ok(())
+}
+
+fn each_read_fails<R: Threads + Sync + Abort>(
+    rt: &R,
+    alloc: Global,
+    words: &[String],
+) -> Result<(), Fail> {
+    for k in 0..LEVEL.len() + 1 {
+        read_fails(rt, alloc, words, k as u32)?;
+    }
     Ok(())
 }
 
 #[test]
 fn each_read_that_fails_ends_a_play(rt: HostRuntime) -> Result<(), Fail> {
-    for k in 0..LEVEL.len() + 1 {
-        read_fails(&rt, rt.alloc(), k as u32)?;
-    }
-    Ok(())
+    let list = list_of(rt.alloc(), &["play", "--with", "tree"])?;
+    let done = each_read_fails(&rt, rt.alloc(), &list);
+    drop(list);
+    done
 }
 
 // The level where the call of the sink of such a number fails, and whether the play came to its end.
 fn write_fails<R: Threads + Sync + Abort>(
     rt: &R,
     alloc: Global,
+    words: &[String],
     report: &[u8],
     k: u32,
 ) -> Result<bool, Fail> {
-    let list = play_with(alloc, "tree")?;
     let mut source = HonestSource::new(alloc, LEVEL, 1024)?;
     let mut sink = MemSink::new(alloc, 1, &[k])?;
-    let answer = broadplay(rt, alloc, &list, &mut source, &mut sink);
+    let answer = broadplay(rt, alloc, words, &mut source, &mut sink);
     let written = (k as usize).min(report.len());
-    assert_eq!(rt; sink.bytes(), report.split_at(written).0);
-    if answer == Status::Done {
-        return Ok(true);
+    same_bytes(rt, sink.bytes(), report.split_at(written).0);
+    let done = answer == Status::Done;
+    if !done {
+        same_status(rt, answer, Status::WriteFault);
+        same_number(rt, sink.calls(), u64::from(k) + 1);
     }
-    assert_eq!(rt; answer, Status::WriteFault);
-    assert_eq!(rt; sink.calls(), u64::from(k) + 1);
-    Ok(false)
+    Ok(done)
 }
 
-// The number of calls of the sink in a play without a fault.
+// The number of calls of the sink in a play without a fault is that of the report's bytes and one.
 fn each_write_fails<R: Threads + Sync + Abort>(
     rt: &R,
     alloc: Global,
+    words: &[String],
     report: &[u8],
-) -> Result<usize, Fail> {
+) -> Result<(), Fail> {
     // The report is shorter than so many bytes, each of which is a write of its own before the flush.
     for k in 0..1_000 {
-        if write_fails(rt, alloc, report, k)? {
-            return Ok(k as usize);
+        if write_fails(rt, alloc, words, report, k)? {
+            assert_eq!(rt; k as usize, report.len() + 1);
+            return Ok(());
         }
     }
     Err("a play without a fault".into())
 }
 
+fn each_write_fails_in_turn<R: Threads + Sync + Abort>(
+    rt: &R,
+    alloc: Global,
+    words: &[String],
+) -> Result<(), Fail> {
+    let report = report_for(rt, alloc, words, LEVEL)?;
+    let done = each_write_fails(rt, alloc, words, &report);
+    drop(report);
+    done
+}
+
 #[test]
 fn each_write_that_fails_ends_a_play(rt: HostRuntime) -> Result<(), Fail> {
-    let alloc = rt.alloc();
-    let report = report_of(&rt, alloc, "tree", LEVEL)?;
-    let calls = each_write_fails(&rt, alloc, &report)?;
-    assert_eq!(rt; calls, report.len() + 1);
-    Ok(())
+    let list = list_of(rt.alloc(), &["play", "--with", "tree"])?;
+    let done = each_write_fails_in_turn(&rt, rt.alloc(), &list);
+    drop(list);
+    done
 }
 
 // A read fails while answers are owed, and the sink fails on them.
@@ -744,34 +879,50 @@ fn a_read_fault_stays_the_answer(rt: HostRuntime) -> Result<(), Fail> {
     Ok(())
 }
 
-#[test]
-fn many_lines_pass_through_short_reads(rt: HostRuntime) -> Result<(), Fail> {
-    let alloc = rt.alloc();
-    let mut list = Vec::new(alloc);
-    list.push(String::from_str(alloc, "play")?)?;
-    let mut scene = String::from_str(alloc, "scene 1\n")?;
-    for _ in 0..200_000 {
+fn put_frames(scene: &mut String, frames: u32) -> Result<(), AllocError> {
+    scene.push_str("scene 1\n")?;
+    for _ in 0..frames {
         scene.push_str("frame\n")?;
     }
+    Ok(())
+}
+
+// The text goes out in pieces while the scene is played.
+fn many_lines_pass<R: Threads + Sync + Abort>(
+    rt: &R,
+    alloc: Global,
+    words: &[String],
+    scene: &mut String,
+) -> Result<(), Fail> {
+    put_frames(scene, 200_000)?;
     let mut source = HonestSource::new(alloc, scene.as_bytes(), 3)?;
     let mut sink = MemSink::new(alloc, u32::MAX, &[])?;
-    let answer = broadplay(&rt, alloc, &list, &mut source, &mut sink);
-    assert_eq!(rt; answer, Status::Done);
-    assert!(rt;
-        sink.bytes()
-            .ends_with(b"frame 200000 0\nend 200001 200000 0\n")
-    );
-    // The text goes out in pieces while the scene is played.
+    let answer = broadplay(rt, alloc, words, &mut source, &mut sink);
+    same_status(rt, answer, Status::Done);
+    ends_with(rt, sink.bytes(), b"frame 200000 0\nend 200001 200000 0\n");
     assert!(rt; sink.calls() > 30);
     Ok(())
 }
 
-// More queries than are answered together, with a blank line and a move among them.
+fn ends_with(rt: &impl Abort, bytes: &[u8], end: &[u8]) {
+    assert!(rt; bytes.ends_with(end));
+}
+
 #[test]
-fn a_long_run_of_queries_is_answered_whole(rt: HostRuntime) -> Result<(), Fail> {
+fn many_lines_pass_through_short_reads(rt: HostRuntime) -> Result<(), Fail> {
     let alloc = rt.alloc();
-    let mut scene = String::from_str(alloc, "scene 1\nadd 0 0 0 1 1 1\n")?;
-    let mut report = String::from_str(alloc, "add 0:0\n")?;
+    let list = list_of(alloc, &["play"])?;
+    let mut scene = String::new(alloc);
+    let done = many_lines_pass(&rt, alloc, &list, &mut scene);
+    drop(scene);
+    drop(list);
+    done
+}
+
+// More queries than are answered together, with a blank line and a move among them.
+fn put_queries(scene: &mut String, report: &mut String) -> Result<(), AllocError> {
+    scene.push_str("scene 1\nadd 0 0 0 1 1 1\n")?;
+    report.push_str("add 0:0\n")?;
     for n in 0..600 {
         match n {
             300 => scene.push_str("\n# still here\n")?,
@@ -785,47 +936,37 @@ fn a_long_run_of_queries_is_answered_whole(rt: HostRuntime) -> Result<(), Fail> 
             "point 0\n"
         })?;
     }
-    report.push_str("end 605 0 1\n")?;
+    report.push_str("end 605 0 1\n")
+}
+
+fn written_by_some<R: Threads + Sync + Abort>(
+    rt: &R,
+    alloc: Global,
+    scene: &mut String,
+    report: &mut String,
+) -> Result<(), Fail> {
+    put_queries(scene, report)?;
     let words: [&[&str]; 3] = [
         &["play"],
         &["play", "--workers", "3"],
         &["play", "--workers", "16"],
     ];
     for list in words {
-        let text = report.as_bytes();
-        written(&rt, alloc, list, scene.as_bytes(), text, Status::Done)?;
+        let (scene, report) = (scene.as_bytes(), report.as_bytes());
+        written(rt, alloc, list, scene, report, Status::Done)?;
     }
     Ok(())
 }
 
-// A gate whose two pieces each look for the other.
-#[derive(Drop)]
-struct Meeting {
-    entered: [AtomicBool; 2],
-    met: AtomicU32,
-}
-
-impl Meeting {
-    // Nobody has met yet.
-    fn new() -> Meeting {
-        Meeting {
-            entered: [AtomicBool::new(false), AtomicBool::new(false)],
-            met: AtomicU32::new(0),
-        }
-    }
-}
-
-impl Gate for Meeting {
-    fn enter(&self, piece: u32) {
-        let here = (piece & 1) as usize;
-        self.entered[here].store(true, Ordering::SeqCst);
-        for _ in 0..1_000_000_000u64 {
-            if self.entered[1 - here].load(Ordering::SeqCst) {
-                self.met.fetch_add(1, Ordering::SeqCst);
-                return;
-            }
-        }
-    }
+#[test]
+fn a_long_run_of_queries_is_answered_whole(rt: HostRuntime) -> Result<(), Fail> {
+    let alloc = rt.alloc();
+    let mut scene = String::new(alloc);
+    let mut report = String::new(alloc);
+    let done = written_by_some(&rt, alloc, &mut scene, &mut report);
+    drop(report);
+    drop(scene);
+    done
 }
 
 // Blank lines and comments end no run of queries.
@@ -837,7 +978,7 @@ fn two_threads_answer_two_queries(rt: HostRuntime) -> Result<(), Fail> {
     let report = b"add 0:0\npoint 1 0:0\npoint 0\nend 6 0 1\n";
     let done = Status::Done;
     played_over(&rt, rt.alloc(), index, 2, 9, &gate, scene, report, done)?;
-    assert_eq!(rt; gate.met.load(Ordering::SeqCst), 2);
+    assert_eq!(rt; gate.met(), 2);
     Ok(())
 }
 
@@ -849,53 +990,65 @@ fn two_threads_seek_the_pairs_of_a_frame(rt: HostRuntime) -> Result<(), Fail> {
     let report = b"add 0:0\nadd 1:0\nframe 1 1\nbegin 0:0 1:0\nend 4 1 2\n";
     let done = Status::Done;
     played_over(&rt, rt.alloc(), index, 2, 9, &gate, scene, report, done)?;
-    assert_eq!(rt; gate.met.load(Ordering::SeqCst), 2);
+    assert_eq!(rt; gate.met(), 2);
     Ok(())
 }
 
-// A gate that counts the pieces.
-#[derive(Drop)]
-struct Counting {
-    pieces: AtomicU32,
-}
-
-impl Gate for Counting {
-    fn enter(&self, _piece: u32) {
-        self.pieces.fetch_add(1, Ordering::SeqCst);
+fn put_like_queries(scene: &mut String, report: &mut String) -> Result<(), AllocError> {
+    scene.push_str("scene 1\n")?;
+    for _ in 0..257 {
+        scene.push_str("point 0 0 0\n")?;
+        report.push_str("point 0\n")?;
     }
+    report.push_str("end 258 0 0\n")
 }
 
 // A run of 257 queries is answered as 256 in a piece for each worker, and one.
 #[test]
 fn at_most_256_queries_are_a_run(rt: HostRuntime) -> Result<(), Fail> {
     let alloc = rt.alloc();
-    let mut scene = String::from_str(alloc, "scene 1\n")?;
+    let mut scene = String::new(alloc);
     let mut report = String::new(alloc);
-    for _ in 0..257 {
-        scene.push_str("point 0 0 0\n")?;
-        report.push_str("point 0\n")?;
-    }
-    report.push_str("end 258 0 0\n")?;
-    let gate = Counting {
-        pieces: AtomicU32::new(0),
-    };
+    let done = entered_by_runs(&rt, alloc, &mut scene, &mut report);
+    drop(report);
+    drop(scene);
+    done
+}
+
+fn entered_by_runs<R: Threads + Sync + Abort>(
+    rt: &R,
+    alloc: Global,
+    scene: &mut String,
+    report: &mut String,
+) -> Result<(), Fail> {
+    put_like_queries(scene, report)?;
+    let gate = Entries::new();
     let index = PlainIndex::new(alloc)?;
     let (scene, report) = (scene.as_bytes(), report.as_bytes());
     let done = Status::Done;
-    played_over(&rt, alloc, index, 16, 999, &gate, scene, report, done)?;
-    assert_eq!(rt; gate.pieces.load(Ordering::SeqCst), 17);
+    played_over(rt, alloc, index, 16, 999, &gate, scene, report, done)?;
+    assert_eq!(rt; gate.counts(), [2, 1, 14]);
     Ok(())
 }
 
 // One read takes all that there is room for, and another finds the end.
-#[test]
-fn a_short_scene_is_read_at_once(rt: HostRuntime) -> Result<(), Fail> {
-    let alloc = rt.alloc();
-    let list = play_with(alloc, "plain")?;
+fn read_at_once<R: Threads + Sync + Abort>(
+    rt: &R,
+    alloc: Global,
+    words: &[String],
+) -> Result<(), Fail> {
     let mut source = MemSource::new(alloc, LEVEL, u32::MAX, &[])?;
     let mut sink = HonestSink::new(alloc, 1024);
-    let answer = broadplay(&rt, alloc, &list, &mut source, &mut sink);
-    assert_eq!(rt; answer, Status::Done);
-    assert_eq!(rt; source.calls(), 2);
+    let answer = broadplay(rt, alloc, words, &mut source, &mut sink);
+    same_status(rt, answer, Status::Done);
+    same_number(rt, source.calls(), 2);
     Ok(())
+}
+
+#[test]
+fn a_short_scene_is_read_at_once(rt: HostRuntime) -> Result<(), Fail> {
+    let list = list_of(rt.alloc(), &["play", "--with", "plain"])?;
+    let done = read_at_once(&rt, rt.alloc(), &list);
+    drop(list);
+    done
 }

@@ -12,15 +12,35 @@ fn drilled<R: Threads + Sync + Abort>(
     alloc: Global,
     words: &[&str],
 ) -> Result<(Vec<u8>, Status), Fail> {
-    let mut list = Vec::new(alloc);
-    for word in words {
-        list.push(String::from_str(alloc, word)?)?;
-    }
+    let list = list_of(alloc, words)?;
+    let done = drilled_for(rt, alloc, &list);
+    drop(list);
+    done
+}
+
+fn drilled_for<R: Threads + Sync + Abort>(
+    rt: &R,
+    alloc: Global,
+    words: &[String],
+) -> Result<(Vec<u8>, Status), Fail> {
     let mut source = MemSource::new(alloc, b"scene 1\nframe\n", 7, &[])?;
     let mut sink = HonestSink::new(alloc, 7);
-    let answer = broadplay(rt, alloc, &list, &mut source, &mut sink);
-    assert_eq!(rt; source.calls(), 0);
+    let answer = broadplay(rt, alloc, words, &mut source, &mut sink);
+    same_number(rt, source.calls(), 0);
     Ok((Vec::from_slice(alloc, sink.bytes())?, answer))
+}
+
+// What a drill writes.
+fn drill_written<R: Threads + Sync + Abort>(
+    rt: &R,
+    alloc: Global,
+    words: &[&str],
+    text: &[u8],
+) -> Result<(), Fail> {
+    let (summary, status) = drilled(rt, alloc, words)?;
+    same_status(rt, status, Status::Done);
+    same_bytes(rt, &summary, text);
+    Ok(())
 }
 
 #[test]
@@ -62,18 +82,17 @@ fn one_box_meets_each_query_at_it(rt: HostRuntime) -> Result<(), Fail> {
         (&["drill", "18446744073709551615", "1", "1"], counts),
     ];
     for (words, text) in rows {
-        let (summary, status) = drilled(&rt, rt.alloc(), words)?;
-        assert_eq!(rt; status, Status::Done);
-        assert_eq!(rt; summary.as_slice(), text);
+        drill_written(&rt, rt.alloc(), words, text)?;
     }
     Ok(())
 }
 
-#[test]
-fn each_structure_has_the_same_summary(rt: HostRuntime) -> Result<(), Fail> {
-    let alloc = rt.alloc();
-    let (plain, _) = drilled(&rt, alloc, &["drill", "7", "2000", "50", "--with", "plain"])?;
-    assert!(rt; plain.starts_with(b"boxes 2000\nframes 50\nadds 2050\npairs "));
+fn each_structure_writes<R: Threads + Sync + Abort>(
+    rt: &R,
+    alloc: Global,
+    summary: &[u8],
+) -> Result<(), Fail> {
+    assert!(rt; summary.starts_with(b"boxes 2000\nframes 50\nadds 2050\npairs "));
     let rows = [
         ("sap", "1"),
         ("plain", "4"),
@@ -92,11 +111,18 @@ fn each_structure_has_the_same_summary(rt: HostRuntime) -> Result<(), Fail> {
             "--workers",
             workers,
         ];
-        let (summary, status) = drilled(&rt, alloc, &words)?;
-        assert_eq!(rt; status, Status::Done);
-        assert_eq!(rt; summary.as_slice(), plain.as_slice());
+        drill_written(rt, alloc, &words, summary)?;
     }
     Ok(())
+}
+
+#[test]
+fn each_structure_has_the_same_summary(rt: HostRuntime) -> Result<(), Fail> {
+    let alloc = rt.alloc();
+    let (plain, _) = drilled(&rt, alloc, &["drill", "7", "2000", "50", "--with", "plain"])?;
+    let done = each_structure_writes(&rt, alloc, &plain);
+    drop(plain);
+    done
 }
 
 // What a drill's scene gives over each structure that is shared, and over the plain list whose queries are, where each piece
@@ -125,58 +151,105 @@ fn played_by_threads<R: Threads + Sync + Abort>(
     )
 }
 
+// What threads write of a scene is what one writes.
+fn threads_report<R: Threads + Sync + Abort>(
+    rt: &R,
+    alloc: Global,
+    scene: &mut Vec<u8>,
+) -> Result<(), Fail> {
+    drill_scene(alloc, 7, 2000, 50, scene)?;
+    let report = report_of(rt, alloc, "sap", scene)?;
+    let done = played_by_some(rt, alloc, scene, &report);
+    drop(report);
+    done
+}
+
+fn played_by_some<R: Threads + Sync + Abort>(
+    rt: &R,
+    alloc: Global,
+    scene: &[u8],
+    report: &[u8],
+) -> Result<(), Fail> {
+    played_by_threads(rt, alloc, 4, scene, report)?;
+    played_by_threads(rt, alloc, 16, scene, report)
+}
+
 #[test]
 fn threads_give_a_drill_its_report(rt: HostRuntime) -> Result<(), Fail> {
     let alloc = rt.alloc();
     let mut scene = Vec::new(alloc);
-    drill_scene(alloc, 7, 2000, 50, &mut scene)?;
-    let report = report_of(&rt, alloc, "sap", &scene)?;
-    played_by_threads(&rt, alloc, 4, &scene, &report)?;
-    played_by_threads(&rt, alloc, 16, &scene, &report)
+    let done = threads_report(&rt, alloc, &mut scene);
+    drop(scene);
+    done
 }
 
-#[test]
-fn a_drill_is_the_play_of_its_scene(rt: HostRuntime) -> Result<(), Fail> {
-    let alloc = rt.alloc();
-    let mut scene = Vec::new(alloc);
-    drill_scene(alloc, 42, 1, 1, &mut scene)?;
+fn one_box_is_played<R: Threads + Sync + Abort>(
+    rt: &R,
+    alloc: Global,
+    scene: &mut Vec<u8>,
+) -> Result<(), Fail> {
+    drill_scene(alloc, 42, 1, 1, scene)?;
     assert!(rt;
         scene.starts_with(
             b"scene 1\nadd 161.35941 123.28107 186.11406 169.25003 135.62482 196.95781 8 f\n\
             move 0:0 161.15433 123.25177 186.25664 169.04495 135.59552 197.10039\nremove 0:0\n"
         )
     );
-    let report = report_of(&rt, alloc, "sap", &scene)?;
-    assert_eq!(rt;
-        report.as_slice(),
-        b"add 0:0\nadd 0:1\nbox 1 0:1\npoint 1 0:1\nray 1 0:1\nseg 1 0:1\nframe 1 0\nend 10 1 1\n".as_slice()
+    let report = report_of(rt, alloc, "sap", scene)?;
+    same_bytes(
+        rt,
+        &report,
+        b"add 0:0\nadd 0:1\nbox 1 0:1\npoint 1 0:1\nray 1 0:1\nseg 1 0:1\nframe 1 0\nend 10 1 1\n",
     );
     Ok(())
 }
 
-// Faults and short writes of the sink, with what is written of a summary.
 #[test]
-fn a_sink_that_fails_has_a_part_of_the_summary(rt: HostRuntime) -> Result<(), Fail> {
+fn a_drill_is_the_play_of_its_scene(rt: HostRuntime) -> Result<(), Fail> {
     let alloc = rt.alloc();
-    let mut list = Vec::new(alloc);
-    for word in ["drill", "42", "1", "1"] {
-        list.push(String::from_str(alloc, word)?)?;
-    }
+    let mut scene = Vec::new(alloc);
+    let done = one_box_is_played(&rt, alloc, &mut scene);
+    drop(scene);
+    done
+}
+
+// A call of the sink fails, and what is written of a summary, eight bytes a write.
+fn summary_fails<R: Threads + Sync + Abort>(
+    rt: &R,
+    alloc: Global,
+    words: &[String],
+    call: u32,
+) -> Result<(), Fail> {
     let whole = b"boxes 1\nframes 1\nadds 2\npairs 0\nbegin 0\nstay 0\nover 0\nhits 4\n";
-    // Eight bytes a write, and a flush.
+    let mut source = MemSource::new(alloc, b"", 7, &[])?;
+    let mut sink = MemSink::new(alloc, 8, &[call])?;
+    let answer = broadplay(rt, alloc, words, &mut source, &mut sink);
+    same_status(rt, answer, Status::WriteFault);
+    let written = (8 * call as usize).min(whole.len());
+    same_bytes(rt, sink.bytes(), whole.split_at(written).0);
+    same_number(rt, sink.calls(), u64::from(call) + 1);
+    same_number(rt, source.calls(), 0);
+    Ok(())
+}
+
+// Eight writes, and a flush.
+fn summary_fails_in_turn<R: Threads + Sync + Abort>(
+    rt: &R,
+    alloc: Global,
+    words: &[String],
+) -> Result<(), Fail> {
     for call in 0..9 {
-        let mut source = MemSource::new(alloc, b"", 7, &[])?;
-        let mut sink = MemSink::new(alloc, 8, &[call])?;
-        let answer = broadplay(&rt, alloc, &list, &mut source, &mut sink);
-        assert_eq!(rt; answer, Status::WriteFault);
-        assert_eq!(rt;
-            sink.bytes(),
-            whole.split_at((8 * call as usize).min(whole.len())).0
-        );
-        assert_eq!(rt; sink.calls(), u64::from(call) + 1);
-        assert_eq!(rt; source.calls(), 0);
+        summary_fails(rt, alloc, words, call)?;
     }
     Ok(())
+}
+
+#[test]
+fn a_sink_that_fails_has_a_part_of_the_summary(rt: HostRuntime) -> Result<(), Fail> {
+    let list = list_of(rt.alloc(), &["drill", "42", "1", "1"])?;
+    let done = summary_fails_in_turn(&rt, rt.alloc(), &list);
+    drop(list);
+    done
 }
 
 // The four queries of a drill's frame and its two touched boxes are each two pieces.
@@ -197,7 +270,7 @@ fn two_threads_play_a_drill(rt: HostRuntime) -> Result<(), Fail> {
     let mut sink = HonestSink::new(alloc, 7);
     let answer = drill(&rt, alloc, index, load, options, &gate, &mut sink);
     assert_eq!(rt; answer, Status::Done);
-    assert_eq!(rt; gate.met.load(Ordering::SeqCst), 4);
+    assert_eq!(rt; gate.met(), 4);
     Ok(())
 }
 
@@ -330,11 +403,21 @@ fn compares_few<R: Threads + Sync + Abort>(
     Ok(())
 }
 
+fn compares_few_with_some<R: Threads + Sync + Abort>(
+    rt: &R,
+    alloc: Global,
+    scene: &mut Vec<u8>,
+) -> Result<(), Fail> {
+    drill_scene(alloc, 7, 2_000, 50, scene)?;
+    compares_few(rt, alloc, 1, scene)?;
+    compares_few(rt, alloc, 2, scene)
+}
+
 #[test]
 fn the_grid_compares_few_boxes_of_a_drill(rt: HostRuntime) -> Result<(), Fail> {
     let alloc = rt.alloc();
     let mut scene = Vec::new(alloc);
-    drill_scene(alloc, 7, 2_000, 50, &mut scene)?;
-    compares_few(&rt, alloc, 1, &scene)?;
-    compares_few(&rt, alloc, 2, &scene)
+    let done = compares_few_with_some(&rt, alloc, &mut scene);
+    drop(scene);
+    done
 }

@@ -1,8 +1,8 @@
 ghost use Rattle.std.specs.Prelude.{◌≡◌, IfOk, refl};
 ghost use Rattle.broad_index.specs.Fresh.{IsFresh};
-ghost use Rattle.broadplay.specs.JobWords.{counts};
-ghost use Rattle.broadplay.specs.declared.job.Structure.{Structure};
-ghost use Rattle.broadplay.specs.declared.job.Structure.TheVariants.{Plain, Sap as SapNamed, Tree, Grid};
+ghost use Rattle.job_words.specs.JobWords.{counts};
+ghost use Rattle.job_words.specs.declared.job.Structure.{Structure};
+ghost use Rattle.job_words.specs.declared.job.Structure.TheVariants.{Plain, Sap as SapNamed, Tree, Grid};
 
 use box_tree::BoxTree;
 use broad_index::{BroadPhase, PlainIndex};

@@ -1,8 +1,8 @@
 -- One word or two are one option, and the rest is read with it chosen.
 use Rattle.std.proofs.Common.{rules, ◌≡◌, ◌∙◌, ◌∷◌, Some, true, false, ap, sym, map, string_bytes, bytes_eq, codes}
-use Rattle.broadplay.specs.JobWords.{choices_of, choose, choose_exchanges}
-use Rattle.broadplay.proofs.OptionWords.{exchanges_next, option_next, value_missing}
-use Rattle.broadplay.proofs.job.read_options.Goals as goal
+use Rattle.job_words.specs.JobWords.{choices_of, choose, choose_exchanges}
+use Rattle.job_words.proofs.OptionWords.{exchanges_next, option_next, value_missing}
+use Rattle.job_words.proofs.job.read_options.Goals as goal
 
 pub options-preserved-then-eq : goal.options-preserved-then-eq
 options-preserved-then-eq c =

@@ -1,6 +1,6 @@
 use Rattle.std.proofs.Common.{◌≡◌, ◌≤◌, length, map, string_bytes, IfSome}
-use Rattle.broadplay.specs.JobWords.{choices_of, no_choices}
-use Rattle.broadplay.proofs.job.read_options.Given as goal
+use Rattle.job_words.specs.JobWords.{choices_of, no_choices}
+use Rattle.job_words.proofs.job.read_options.Given as goal
 
 -- the choices so far, and those of the words that are left
 abbrev pub invariant-options : goal.invariant-options

@@ -1,7 +1,7 @@
 -- The options of a command line, one after another.
 use Rattle.std.proofs.Common.{◌≡◌, ℕ, true, false, List, [], ◌∷◌, length, map, arith, codes, bytes_eq, None, Some, refl}
-use Rattle.broadplay.specs.declared.job.Choices.{Choices}
-use Rattle.broadplay.specs.JobWords.{choices_of, choose, choose_exchanges}
+use Rattle.job_words.specs.declared.job.Choices.{Choices}
+use Rattle.job_words.specs.JobWords.{choices_of, choose, choose_exchanges}
 
 pub exchanges_next : (choices next : Choices) (word : List ℕ) (more : List (List ℕ)) → bytes_eq word (codes "--exchanges") ≡ true
     → choose_exchanges choices ≡ Some next → choices_of choices (word ∷ more) ≡ choices_of next more

@@ -1,7 +1,7 @@
 ghost use Rattle.std.specs.Prelude.{◌≡◌, ◌≤◌, true, map, string_bytes, IfSome};
 ghost use Rattle.work_pieces.specs.declared.TheConstants.{MOST_WORKERS};
-ghost use Rattle.broadplay.specs.JobWords.{job, drill_job, drill_of, with_options, job_of, IsLoad};
-ghost use Rattle.broadplay.specs.JobWords.{choices_of, choose, choose_exchanges, no_choices, structure_of, workers_of, number_within, counts};
+ghost use Rattle.job_words.specs.JobWords.{job, drill_job, drill_of, with_options, job_of, IsLoad};
+ghost use Rattle.job_words.specs.JobWords.{choices_of, choose, choose_exchanges, no_choices, structure_of, workers_of, number_within, counts};
 
 use fixed_box::SLOTS;
 use frame_player::Options;

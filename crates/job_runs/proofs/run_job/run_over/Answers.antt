@@ -1,8 +1,8 @@
 -- Where there was no memory for the structure, nothing was read and nothing written. A drill calls the sink alone.
 use Rattle.std.proofs.Common.{refl}
 use Rattle.frame_player.specs.Outcome.{ends}
-use Rattle.broadplay.proofs.TaskOutcomes.{uncalled_task}
-use Rattle.broadplay.proofs.run_job.run_over.Goals as goal
+use Rattle.job_runs.proofs.TaskOutcomes.{uncalled_task}
+use Rattle.job_runs.proofs.run_job.run_over.Goals as goal
 
 pub returns-in_default-clause-outcome : goal.returns-in_default-clause-outcome
 returns-in_default-clause-outcome g c =

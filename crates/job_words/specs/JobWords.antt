@@ -3,12 +3,12 @@ use Rattle.std.specs.Prelude.{ℕ, ◌≤◌, Bool, true, false, not, ◌&&◌, 
 use Rattle.std.specs.Prelude.{is_some, unwrap_or, option_map, Option, Some, None}
 use Rattle.std.specs.Str.Parse.{digits_value}
 use Rattle.scene_words.specs.Values.{is_numeral}
-use Rattle.broadplay.specs.declared.job.Choices.{Choices}
-use Rattle.broadplay.specs.declared.job.Job.{Job}
-use Rattle.broadplay.specs.declared.job.Structure.{Structure}
-use Rattle.broadplay.specs.declared.job.Structure.TheVariants.{Plain, Sap, Tree, Grid}
-use Rattle.broadplay.specs.declared.job.Task.{Task}
-use Rattle.broadplay.specs.declared.job.Task.TheVariants.{Play, Drill}
+use Rattle.job_words.specs.declared.job.Choices.{Choices}
+use Rattle.job_words.specs.declared.job.Job.{Job}
+use Rattle.job_words.specs.declared.job.Structure.{Structure}
+use Rattle.job_words.specs.declared.job.Structure.TheVariants.{Plain, Sap, Tree, Grid}
+use Rattle.job_words.specs.declared.job.Task.{Task}
+use Rattle.job_words.specs.declared.job.Task.TheVariants.{Play, Drill}
 
 -- a structure by its word
 abbrev pub structure_of : List ℕ → Option Structure

@@ -7,9 +7,9 @@ use Rattle.frame_player.specs.Outcome.{Ends, IsOutcome}
 use Rattle.frame_player.specs.Play.{played}
 use Rattle.scene_drill.specs.declared.load.Load.{Load}
 use Rattle.scene_drill.specs.Drill.{Output, output, drill_text, IsDrilled}
-use Rattle.broadplay.specs.declared.job.Job.{Job}
-use Rattle.broadplay.specs.declared.job.Task.{Task}
-use Rattle.broadplay.specs.declared.job.Task.TheVariants.{Play, Drill}
+use Rattle.job_words.specs.declared.job.Job.{Job}
+use Rattle.job_words.specs.declared.job.Task.{Task}
+use Rattle.job_words.specs.declared.job.Task.TheVariants.{Play, Drill}
 
 -- the sink's end alone
 abbrev pub sink_end : Ends → Output

@@ -6,9 +6,9 @@ use Rattle.frame_player.specs.Outcome.{Ends, IsBegun}
 use Rattle.frame_player.specs.OutcomeLaws.{append_known-nil, uncalled_ends}
 use Rattle.frame_player.specs.Play.{played}
 use Rattle.scene_lines.specs.declared.TheConstants.{MOST_LINES}
-use Rattle.broadplay.specs.declared.job.Task.{Task}
-use Rattle.broadplay.specs.declared.job.Task.TheVariants.{Play, Drill}
-use Rattle.broadplay.specs.JobOutcome.{IsTaskDone}
+use Rattle.job_words.specs.declared.job.Task.{Task}
+use Rattle.job_words.specs.declared.job.Task.TheVariants.{Play, Drill}
+use Rattle.job_runs.specs.JobOutcome.{IsTaskDone}
 
 pub uncalled_task : (task : Task) (shows : Bool) (here : Ends) → IsTaskDone task shows here here NoMemory
 uncalled_task Play shows here = uncalled_ends (played shows MOST_LINES) here
