@@ -1,12 +1,10 @@
 pub mod AllowedScene
 pub mod Ending
 pub mod FrameText
-pub mod InHandles
 pub mod Outcome
 pub mod OutcomeLaws
 pub mod Outlet
 pub mod Owed
-pub mod Pairs
 pub mod Play
 pub mod Player
 pub mod Reached

@@ -9,7 +9,7 @@ use Rattle.scene_words.specs.declared.command.Command.{Command}
 use Rattle.scene_words.specs.declared.command.Command.TheVariants.{BoxQ, PointQ, RayQ, SegQ}
 use Rattle.frame_player.specs.declared.query_run.QueryRun.{QueryRun}
 use Rattle.frame_player.specs.declared.query_run.TheConstants.{LONGEST_RUN}
-use Rattle.frame_player.specs.Pairs.{hits_of}
+use Rattle.live_queries.specs.Pairs.{hits_of}
 
 -- what a query asks, with the mask of the groups that it lists
 abbrev pub query_of : Command → Option (Query × ℕ)

@@ -23,7 +23,7 @@ use Rattle.scene_words.specs.declared.command.Command.TheVariants.{Blank, Header
 use Rattle.scene_words.specs.declared.line_fault.LineFault.{LineFault}
 use Rattle.scene_words.specs.declared.line_fault.LineFault.TheVariants as fault
 use Rattle.scene_words.specs.SceneWords.{command}
-use Rattle.frame_player.specs.Pairs.{pairs_of, hits_of}
+use Rattle.live_queries.specs.Pairs.{pairs_of, hits_of}
 
 -- Whether a header was read, the live boxes with how often each slot was given, the pairs of the last frame, the number of frames,
 -- and the exchanges since the last frame.

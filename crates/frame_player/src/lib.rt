@@ -3,7 +3,6 @@
 
 mod allowed;
 mod frame_text;
-mod handle_lists;
 mod last;
 mod obeying;
 mod player;

@@ -4,9 +4,9 @@ ghost use Rattle.work_pieces.specs.declared.TheConstants.{MOST_WORKERS};
 use crate::Options;
 use crate::allowed::{allow_first, allow_later};
 use crate::frame_text::send_frame;
-use crate::handle_lists::push_pairs;
 use broad_index::{BroadPhase, Gate, Pair, exchange_laws};
 use fixed_box::{FBox, NoMemory, SLOTS};
+use live_queries::{pairs_law, push_pairs};
 use live_table::{Full, Group, Handle, LiveTable, Masks, Stale};
 use pair_events::{PairTable, Told};
 use pair_report::{Cause, put_add, put_stale};
@@ -35,7 +35,7 @@ impl<B: BroadPhase + Drop> Player<B> {
     ghost use Rattle.pair_events.specs.PairEvents.{events};
     ghost use Rattle.frame_player.specs.FrameText.{shown_number};
     ghost use Rattle.frame_player.specs.Outlet.{outlet, IsSent};
-    ghost use Rattle.frame_player.specs.Pairs.{pairs_of};
+    ghost use Rattle.live_queries.specs.Pairs.{pairs_of};
     ghost use Rattle.frame_player.specs.Player.{world_in, IsPlaying, HasRoom, IsObeyed, IsChange};
     ghost use Rattle.frame_player.specs.World.{opening, allowed, reply, shown};
 
@@ -220,6 +220,7 @@ impl<B: BroadPhase + Drop> Player<B> {
         ensures exchanges { OnOk result (B.exchanges self.new.index ≡ B.exchanges self.old.index) }
         ensures same { OnOk result ((self.new.table ≡ self.old.table) × (self.new.header ≡ self.old.header) × (self.new.frames ≡ self.old.frames)) }
     {
+        pairs_law();
         self.pairs.clear();
         self.index.pairs_with(rt, workers, gate, &mut self.pairs)?;
         let mut now = Vec::new(self.alloc);

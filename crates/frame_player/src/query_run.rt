@@ -7,11 +7,11 @@ ghost use Rattle.frame_player.specs.Owed.{answer_line, answers, owed, IsRun};
 ghost use Rattle.frame_player.specs.Player.{IsPlaying};
 ghost use Rattle.work_pieces.specs.declared.TheConstants.{MOST_WORKERS};
 
-use crate::handle_lists::push_hits;
 use crate::player::Player;
 use crate::writing::hand_on;
 use broad_index::{BroadPhase, Gate, Query};
 use fixed_box::NoMemory;
+use live_queries::push_hits;
 use live_table::{Handle, LiveTable};
 use pair_report::put_hits;
 use par_phase::hits_many;

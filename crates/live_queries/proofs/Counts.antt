@@ -4,7 +4,7 @@ use Rattle.std.proofs.lemmas.List.{length-append, length-map}
 use Rattle.live_table.specs.declared.live.Live.{Live}
 use Rattle.pair_events.specs.declared.hpair.HPair.{HPair}
 use Rattle.fixed_box.specs.declared.TheConstants.{SLOTS}
-use Rattle.frame_player.specs.Pairs.{may_touch, partners, pairs_of}
+use Rattle.live_queries.specs.Pairs.{may_touch, partners, pairs_of}
 
 kept_le : {A : Type 0} (p : A → Bool) (xs : List A) → length (filter p xs) ≤ length xs
 kept_le p [] = omega arith

@@ -6,7 +6,7 @@ use Rattle.live_table.specs.Entries.{live_at}
 use Rattle.live_table.specs.Pairing.{may}
 use Rattle.broad_index.specs.declared.pair.Pair.{Pair}
 use Rattle.pair_events.specs.declared.hpair.HPair.{HPair}
-use Rattle.frame_player.specs.Pairs.{is_asked_for}
+use Rattle.live_queries.specs.Pairs.{is_asked_for}
 
 -- two live boxes as a pair, where they may pair
 abbrev pub pair_of : Option Live → Option Live → Option HPair

@@ -12,11 +12,11 @@ use Rattle.broad_index.specs.declared.pair.Pair.{Pair}
 use Rattle.broad_index.specs.declared.query.Query.{Query}
 use Rattle.broad_index.specs.Near.{near_of, partners as slot_partners}
 use Rattle.broad_index.specs.Found.{found_of, query_meets}
-use Rattle.frame_player.specs.Pairs.{may_touch, partners, pairs_of, is_asked_for, hits_of}
+use Rattle.live_queries.specs.Pairs.{may_touch, partners, pairs_of, is_asked_for, hits_of}
 use Rattle.broad_index.specs.Near.{near}
 use Rattle.broad_index.specs.Found.{found}
 use Rattle.live_table.specs.Bodies.{bodies_of, slots_with_bodies}
-use Rattle.frame_player.specs.InHandles.{touching, listed, listed_of, pair_of}
+use Rattle.live_queries.specs.InHandles.{touching, listed, listed_of, pair_of}
 
 filter_map-append : {A B : Type 0} (f : A → Option B) (xs ys : List A) → filter_map f (xs ++ ys) ≡ filter_map f xs ++ filter_map f ys
 filter_map-append f [] ys = refl

@@ -9,7 +9,7 @@ use Rattle.live_table.specs.declared.live.Live.{Live}
 use Rattle.live_table.specs.Entries.{slot_of, rises as slots_rise}
 use Rattle.pair_events.specs.declared.hpair.HPair.{HPair}
 use Rattle.pair_events.specs.PairEvents.{precedes, rises, is_in_order}
-use Rattle.frame_player.specs.Pairs.{may_touch, partners, pairs_of}
+use Rattle.live_queries.specs.Pairs.{may_touch, partners, pairs_of}
 
 -- the slots of boxes are above one
 abbrev above : ℕ → List Live → Bool

@@ -1,0 +1,2 @@
+pub mod InHandles
+pub mod Pairs

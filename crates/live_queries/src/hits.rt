@@ -1,0 +1,68 @@
+ghost use Rattle.std.specs.Prelude.{◌≡◌, ◌++◌, take, vec_len, OnOk, OnErr};
+ghost use Rattle.std.specs.List.{filter_map};
+ghost use Rattle.live_table.specs.Bodies.{bodies_of};
+ghost use Rattle.live_table.specs.Table.{IsTable};
+ghost use Rattle.broad_index.specs.Found.{found};
+ghost use Rattle.live_queries.specs.InHandles.{listed};
+ghost use Rattle.live_queries.specs.Pairs.{hits_of};
+
+use broad_index::Query;
+use fixed_box::NoMemory;
+use live_table::{Handle, LiveTable};
+
+/// Appends the handles of the live boxes that meet a query and are in one of the groups that `mask` has, by their slots, of
+/// the slots that an index of the live boxes has found for it. After an `Err` `out` is as before.
+///
+/// It looks a box up for each slot, and takes memory for the handles alone.
+pub fn push_hits(
+    table: &LiveTable,
+    query: &Query,
+    mask: u32,
+    slots: &[u32],
+    out: &mut Vec<Handle>,
+) -> Result<(), NoMemory>
+    requires table { IsTable table.now }
+    requires found { slots.now ≡ found (bodies_of table.now.entries) query.now }
+    ensures ok { OnOk result (out.new.items ≡ out.old.items ++ hits_of table.now.entries query.now mask) }
+    ensures err { OnErr result (out.new.items ≡ out.old.items) }
+{
+    let before = out.len();
+    let pushed = push_listed(table, mask, slots, out);
+    if pushed.is_err() {
+        out.truncate(before);
+    }
+    pushed
+}
+
+// Appends the handles of the slots whose boxes are in one of the groups that are asked for. What was there stays, after an
+// `Err` too.
+fn push_listed(
+    table: &LiveTable,
+    mask: u32,
+    slots: &[u32],
+    out: &mut Vec<Handle>,
+) -> Result<(), NoMemory>
+    ensures ok { OnOk result (out.new.items ≡ out.old.items ++ filter_map (listed table.now.entries mask) slots.now) }
+    ensures kept { take (vec_len out.old) out.new.items ≡ out.old.items }
+{
+    let mut rest = slots;
+    'slots: while let Some((slot, more)) = rest.split_first() {
+        if let Some(handle) = listed(table, mask, *slot) {
+            out.push(handle)?;
+        }
+        rest = more;
+    }
+    Ok(())
+}
+
+// The handle of a slot's box, where that is in one of the groups that are asked for.
+fn listed(table: &LiveTable, mask: u32, slot: u32) -> Option<Handle>
+    ensures { result ≡ listed table.now.entries mask slot }
+{
+    let live = table.at(slot)?;
+    if live.masks.is & mask != 0 {
+        Some(live.handle)
+    } else {
+        None
+    }
+}
