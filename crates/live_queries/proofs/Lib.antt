@@ -1,3 +1,9 @@
+pub mod Asked
+pub mod BesideLaws
 pub mod Counts
+pub mod FoundSlots
+pub mod HitOf
 pub mod InOrder
+pub mod MetOnWay
+pub mod NearestHandles
 pub mod Touches

@@ -26,7 +26,7 @@ filter_map-append f (x ∷ xs) ys = elim (f x) as (λ o. cons_option o (filter_m
 ]
 
 -- each of some entries is found by its slot
-abbrev AreFound : List Live → List Live → Type 0
+abbrev pub AreFound : List Live → List Live → Type 0
 AreFound all [] = Unit {0}
 AreFound all (e ∷ es) = (live_at (slot_of e) all ≡ Some e) × AreFound all es
 
@@ -40,7 +40,7 @@ later_found e all (x ∷ es) above found =
 same_slot : (n : ℕ) → nat_eq n n ≡ true
 same_slot n = grind (arith, nat_tests)
 
-all_found : (es : List Live) → rises es ≡ true → AreFound es es
+pub all_found : (es : List Live) → rises es ≡ true → AreFound es es
 all_found [] r = tt
 all_found (e ∷ es) r = (rw (same_slot (slot_of e)) refl, later_found e es es (first_so _ _ r) (all_found es (second_so _ _ r)))
 

@@ -1,2 +1,4 @@
+pub mod Beside
 pub mod InHandles
 pub mod Pairs
+pub mod Queries

@@ -4,11 +4,11 @@ ghost use Rattle.live_table.specs.Bodies.{bodies_of};
 ghost use Rattle.live_table.specs.Table.{IsTable};
 ghost use Rattle.broad_index.specs.Found.{found};
 ghost use Rattle.live_queries.specs.InHandles.{listed};
-ghost use Rattle.live_queries.specs.Pairs.{hits_of};
+ghost use Rattle.live_queries.specs.Pairs.{hits_of, is_asked_for};
 
 use broad_index::Query;
 use fixed_box::NoMemory;
-use live_table::{Handle, LiveTable};
+use live_table::{Handle, Live, LiveTable};
 
 /// Appends the handles of the live boxes that meet a query and are in one of the groups that `mask` has, by their slots, of
 /// the slots that an index of the live boxes has found for it. After an `Err` `out` is as before.
@@ -60,9 +60,16 @@ fn listed(table: &LiveTable, mask: u32, slot: u32) -> Option<Handle>
     ensures { result ≡ listed table.now.entries mask slot }
 {
     let live = table.at(slot)?;
-    if live.masks.is & mask != 0 {
+    if is_asked_for(mask, &live) {
         Some(live.handle)
     } else {
         None
     }
+}
+
+// Whether a box is in one of the groups that are asked for.
+pub(crate) fn is_asked_for(mask: u32, live: &Live) -> bool
+    ensures { result ≡ is_asked_for mask live.now }
+{
+    live.masks.is & mask != 0
 }

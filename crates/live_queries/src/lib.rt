@@ -1,11 +1,18 @@
 //! The pairs and the queries of live boxes, told in handles: what an index of slots has found, of the boxes that may pair or
-//! are asked for.
+//! are asked for, and in the order that is asked for.
 #![tactic(auto)]
 
+mod handles;
+mod hit;
 mod hits;
 mod laws;
+mod met;
+mod nearest;
 mod pairs;
+mod probe;
 
 pub use hits::push_hits;
 pub use laws::pairs_law;
+pub use met::{push_cast, push_entered};
+pub use nearest::{NearQuery, push_nearest};
 pub use pairs::push_pairs;

@@ -1,0 +1,130 @@
+-- The live boxes of some groups, as a map from slot to box.
+use Rattle.std.proofs.Common.{◌≡◌, ◌≢◌, ℕ, suc, ◌<◌, Bool, true, false, cond, ◌==◌, nat_lt, List, [], ◌∷◌, length, map, filter, Option, None, Some, refl, sym, ap, ◌∙◌, subst, arith, inl, inr}
+use Rattle.std.specs.Prelude.{T, option_map}
+use Rattle.std.specs.List.{All, list_all}
+use Rattle.std.specs.Ordering.{nat_cmp, is_lt, eq_by_cmp}
+use Rattle.std.specs.declared.cmp.Ordering.TheVariants.{Less, Equal, Greater}
+use Rattle.std.specs.Cmp.{first_so, second_so}
+use Rattle.std.specs.Cmp.Derive.{both_true}
+use Rattle.std.specs.FinMap.{FinMap, entries, find, get, is_sorted, from_sorted, get-from_sorted, entries-from_sorted}
+use Rattle.std.specs.FinMap.Entries.{below_all}
+use Rattle.std.proofs.lemmas.Bool.{eq-eqb, eqb-true, cases_Bool, false≢true, ltb-true}
+use Rattle.fixed_box.specs.Bounds.{Bounds, meets}
+use Rattle.slot_lists.specs.SlotMapLaws.{tie_same, tie_other}
+use Rattle.fixed_box.specs.Space.{space}
+use Rattle.live_table.specs.declared.live.Live.{Live}
+use Rattle.live_table.specs.Entries.{slot_of, live_at, rises}
+use Rattle.live_table.specs.Table.{Table, IsTable}
+use Rattle.near_boxes.specs.Bodies.{AreInSpace, AreAmong}
+use Rattle.live_table.specs.Bodies.{slots_with_bodies, bodies_of}
+use Rattle.live_queries.specs.Pairs.{is_asked_for}
+use Rattle.live_queries.specs.Queries.{asked_for}
+
+-- a box, where there is one that passes a test
+abbrev pub picked : (Live → Bool) → Option Live → Option Bounds
+picked p None = None
+picked p (Some e) = cond (p e) (Some e.body) None
+
+above : ℕ → List Live → Bool
+above k es = list_all (λ o. nat_lt k (slot_of o)) es
+
+module _ (p : Live → Bool) where
+  below_of : (k : ℕ) (es : List Live) → list_all (λ o. nat_lt k (slot_of o)) es ≡ true → below_all nat_cmp k (slots_with_bodies (filter p es)) ≡ true
+  below_of k [] h = refl
+  below_of k (e ∷ es) h =
+      let rest = below_of k es (second_so _ _ h) in
+      elim (p e) as (λ b. below_all nat_cmp k (slots_with_bodies (cond b (e ∷ filter p es) (filter p es))) ≡ true) [
+        | true ↦ both_true (ap (λ b. is_lt (cond b Less (cond (k == slot_of e) Equal Greater))) (first_so _ _ h)) rest
+        | false ↦ rest
+      ]
+
+  sorted_of : (es : List Live) → rises es ≡ true → is_sorted nat_cmp (slots_with_bodies (filter p es)) ≡ true
+  sorted_of [] h = refl
+  sorted_of (e ∷ es) h =
+      let rest = sorted_of es (second_so _ _ h) in
+      elim (p e) as (λ b. is_sorted nat_cmp (slots_with_bodies (cond b (e ∷ filter p es) (filter p es))) ≡ true) [
+        | true ↦ both_true (below_of (slot_of e) es (first_so _ _ h)) rest
+        | false ↦ rest
+      ]
+
+  find_cons : (k : ℕ) (e : Live) (b : Bool) (es : List Live) → eq_by_cmp nat_cmp k (slot_of e) ≡ false
+      → find nat_cmp k (slots_with_bodies (cond b (e ∷ es) es)) ≡ find nat_cmp k (slots_with_bodies es)
+  find_cons k e true es h = ap (λ t. cond t (Some e.body) (find nat_cmp k (slots_with_bodies es))) h
+  find_cons k e false es h = refl
+
+  none_above : (k : ℕ) (es : List Live) → list_all (λ o. nat_lt k (slot_of o)) es ≡ true → find nat_cmp k (slots_with_bodies (filter p es)) ≡ None
+  none_above k [] h = refl
+  none_above k (e ∷ es) h =
+      let lt : k < slot_of e = ltb-true k (slot_of e) (first_so _ _ h) in
+      find_cons k e (p e) (filter p es) (tie_other k (slot_of e) (λ g. absurd (omega arith))) ∙ none_above k es (second_so _ _ h)
+
+  pub found_live : (k : ℕ) (es : List Live) → rises es ≡ true → find nat_cmp k (slots_with_bodies (filter p es)) ≡ picked p (live_at k es)
+  found_live k [] h = refl
+  found_live k (e ∷ es) h = elim (cases_Bool (slot_of e == k)) as (λ _. find nat_cmp k (slots_with_bodies (filter p (e ∷ es))) ≡ picked p (live_at k (e ∷ es))) [
+    | inl t ↦
+        let same : slot_of e ≡ k = eqb-true (slot_of e) k t in
+        let none : find nat_cmp k (slots_with_bodies (filter p es)) ≡ None =
+        none_above k es (subst (λ n. list_all (λ o. nat_lt n (slot_of o)) es ≡ true) same (first_so _ _ h)) in
+        here k e (p e) (filter p es) (tie_same k (slot_of e) (sym same)) none ∙ sym (ap (λ b. picked p (cond b (Some e) (live_at k es))) t)
+    | inr f ↦
+        find_cons k e (p e) (filter p es) (tie_other k (slot_of e) (λ g. absurd (false≢true (sym f ∙ eq-eqb (slot_of e) k (sym g)))))
+        ∙ found_live k es (second_so _ _ h) ∙ sym (ap (λ b. picked p (cond b (Some e) (live_at k es))) f)
+  ]
+    where
+      here : (k : ℕ) (e : Live) (b : Bool) (es : List Live) → eq_by_cmp nat_cmp k (slot_of e) ≡ true → find nat_cmp k (slots_with_bodies es) ≡ None
+          → find nat_cmp k (slots_with_bodies (cond b (e ∷ es) es)) ≡ cond b (Some e.body) None
+      here k e true es h n = ap (λ t. cond t (Some e.body) (find nat_cmp k (slots_with_bodies es))) h
+      here k e false es h n = n
+
+truly : (b : Bool) → b ≡ true → T b
+truly b h = subst T (sym h) tt
+
+-- what a slot has among the boxes of some groups
+pub get_asked : (mask : ℕ) (t : Table) → IsTable t → (k : ℕ) → get (bodies_of (asked_for t.entries mask)) k ≡ picked (is_asked_for mask) (live_at k t.entries)
+get_asked mask t table k =
+    get-from_sorted nat_cmp (slots_with_bodies (asked_for t.entries mask)) k (truly _ (sorted_of (is_asked_for mask) t.entries table.rising))
+    ∙ found_live (is_asked_for mask) k t.entries table.rising
+
+-- and their entries
+pub entries_asked : (mask : ℕ) (t : Table) → IsTable t → entries (bodies_of (asked_for t.entries mask)) ≡ slots_with_bodies (asked_for t.entries mask)
+entries_asked mask t table =
+    entries-from_sorted nat_cmp (slots_with_bodies (asked_for t.entries mask)) (truly _ (sorted_of (is_asked_for mask) t.entries table.rising))
+
+all_pass : (es : List Live) → filter (λ _. true) es ≡ es
+all_pass [] = refl
+all_pass (e ∷ es) = ap (λ rest. e ∷ rest) (all_pass es)
+
+-- what a slot has among all boxes
+get_all : (t : Table) → IsTable t → (k : ℕ) → get (bodies_of t.entries) k ≡ picked (λ _. true) (live_at k t.entries)
+get_all t table k =
+    ap (λ es. get (bodies_of es) k) (sym (all_pass t.entries))
+    ∙ get-from_sorted nat_cmp (slots_with_bodies (filter (λ _. true) t.entries)) k (truly _ (sorted_of (λ _. true) t.entries table.rising))
+    ∙ found_live (λ _. true) k t.entries table.rising
+
+live_holds : (P : Live → Type 0) (k : ℕ) (es : List Live) → All P es → (e : Live) → live_at k es ≡ Some e → P e
+live_holds P k [] h e is = absurd (cc)
+live_holds P k (x ∷ es) h e is = elim (cases_Bool (slot_of x == k)) as (λ _. P e) [
+  | inl t ↦
+      let first : P x = h 0 x (omega arith) in
+      let found : Some x ≡ Some e = sym (ap (λ b. cond b (Some x) (live_at k es)) t) ∙ is in
+      let one : x ≡ e = cc in subst P one first
+  | inr f ↦ live_holds P k es (λ j d l. h (suc j) d (omega arith)) e (sym (ap (λ b. cond b (Some x) (live_at k es)) f) ∙ is)
+]
+
+picked_is : (p : Live → Bool) (o : Option Live) (b : Bounds) → picked p o ≡ Some b → (e : Live) × (o ≡ Some e) × (e.body ≡ b)
+picked_is p None b h = absurd (cc)
+picked_is p (Some e) b h = by_test (p e) h
+  where
+    by_test : (t : Bool) → cond t (Some e.body) None ≡ Some b → (x : Live) × (Some e ≡ Some x) × (x.body ≡ b)
+    by_test true h = (e, refl, (let s : e.body ≡ b = cc in s))
+    by_test false h = absurd (cc)
+
+pub space_asked : (mask : ℕ) (t : Table) → IsTable t → AreInSpace (bodies_of (asked_for t.entries mask))
+space_asked mask t table k b h =
+    let p = picked_is (is_asked_for mask) (live_at k t.entries) b (sym (get_asked mask t table k) ∙ h) in
+    ap (meets space) (sym p.2) ∙ live_holds (λ e. meets space e.body ≡ true) k t.entries table.in_space p.0 p.1
+
+pub among_asked : (mask : ℕ) (t : Table) → IsTable t → AreAmong (bodies_of (asked_for t.entries mask)) (bodies_of t.entries)
+among_asked mask t table k b h =
+    let p = picked_is (is_asked_for mask) (live_at k t.entries) b (sym (get_asked mask t table k) ∙ h) in
+    get_all t table k ∙ ap (picked (λ _. true)) p.1 ∙ ap (λ x. Some x) p.2

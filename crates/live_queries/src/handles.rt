@@ -1,0 +1,75 @@
+ghost use Rattle.std.specs.Prelude.{◌≡◌, ◌++◌, ℕ, take, vec_len, OnOk, OnErr};
+ghost use Rattle.std.specs.List.{filter_map};
+ghost use Rattle.live_queries.specs.Beside.{handle_at};
+
+use crate::hit::Hit;
+use fixed_box::NoMemory;
+use live_table::{Handle, LiveTable};
+use near_boxes::Near;
+
+// What was found under a slot.
+pub(crate) trait AtSlot {
+    ghost slot: { Self → ℕ };
+
+    fn slot(&self) -> u32
+        ensures { result ≡ slot self.now };
+}
+
+impl AtSlot for Hit {
+    ghost slot = { λ hit. hit.slot };
+
+    fn slot(&self) -> u32 {
+        self.slot
+    }
+}
+
+impl AtSlot for Near {
+    ghost slot = { λ near. near.slot };
+
+    fn slot(&self) -> u32 {
+        self.slot
+    }
+}
+
+// Appends the handles of the live boxes that were found, in their order. After an `Err` `out` is as before.
+pub(crate) fn push_handles<T: AtSlot>(
+    table: &LiveTable,
+    found: &[T],
+    out: &mut Vec<Handle>,
+) -> Result<(), NoMemory>
+    ensures ok { OnOk result (out.new.items ≡ out.old.items ++ filter_map (λ at. handle_at table.now.entries (T.slot at)) found.now) }
+    ensures err { OnErr result (out.new.items ≡ out.old.items) }
+{
+    let before = out.len();
+    let pushed = push_each(table, found, out);
+    if pushed.is_err() {
+        out.truncate(before);
+    }
+    pushed
+}
+
+// Does what `push_handles` does. What was there stays, after an `Err` too.
+fn push_each<T: AtSlot>(
+    table: &LiveTable,
+    found: &[T],
+    out: &mut Vec<Handle>,
+) -> Result<(), NoMemory>
+    ensures ok { OnOk result (out.new.items ≡ out.old.items ++ filter_map (λ at. handle_at table.now.entries (T.slot at)) found.now) }
+    ensures kept { take (vec_len out.old) out.new.items ≡ out.old.items }
+{
+    let mut rest = found;
+    'found: while let Some((at, more)) = rest.split_first() {
+        if let Some(handle) = handle_at(table, at.slot()) {
+            out.push(handle)?;
+        }
+        rest = more;
+    }
+    Ok(())
+}
+
+fn handle_at(table: &LiveTable, slot: u32) -> Option<Handle>
+    ensures { result ≡ handle_at table.now.entries slot }
+{
+    let live = table.at(slot)?;
+    Some(live.handle)
+}
