@@ -1,12 +1,12 @@
 -- The live boxes of some groups, as a map from slot to box.
-use Rattle.std.proofs.Common.{◌≡◌, ◌≢◌, ℕ, suc, ◌<◌, Bool, true, false, cond, ◌==◌, nat_lt, List, [], ◌∷◌, length, map, filter, Option, None, Some, refl, sym, ap, ◌∙◌, subst, arith, inl, inr}
-use Rattle.std.specs.Prelude.{T, option_map}
+use Rattle.std.proofs.Common.{◌≡◌, ℕ, suc, ◌<◌, Bool, true, false, cond, ◌==◌, nat_lt, List, [], ◌∷◌, filter, Option, None, Some, refl, sym, ap, ◌∙◌, subst, arith, inl, inr}
+use Rattle.std.specs.Prelude.{T}
 use Rattle.std.specs.List.{All, list_all}
 use Rattle.std.specs.Ordering.{nat_cmp, is_lt, eq_by_cmp}
 use Rattle.std.specs.declared.cmp.Ordering.TheVariants.{Less, Equal, Greater}
 use Rattle.std.specs.Cmp.{first_so, second_so}
 use Rattle.std.specs.Cmp.Derive.{both_true}
-use Rattle.std.specs.FinMap.{FinMap, entries, find, get, is_sorted, from_sorted, get-from_sorted, entries-from_sorted}
+use Rattle.std.specs.FinMap.{entries, find, get, is_sorted, get-from_sorted, entries-from_sorted}
 use Rattle.std.specs.FinMap.Entries.{below_all}
 use Rattle.std.proofs.lemmas.Bool.{eq-eqb, eqb-true, cases_Bool, false≢true, ltb-true}
 use Rattle.fixed_box.specs.Bounds.{Bounds, meets}
@@ -60,16 +60,17 @@ module _ (p : Live → Bool) where
 
   pub found_live : (k : ℕ) (es : List Live) → rises es ≡ true → find nat_cmp k (slots_with_bodies (filter p es)) ≡ picked p (live_at k es)
   found_live k [] h = refl
-  found_live k (e ∷ es) h = elim (cases_Bool (slot_of e == k)) as (λ _. find nat_cmp k (slots_with_bodies (filter p (e ∷ es))) ≡ picked p (live_at k (e ∷ es))) [
-    | inl t ↦
-        let same : slot_of e ≡ k = eqb-true (slot_of e) k t in
-        let none : find nat_cmp k (slots_with_bodies (filter p es)) ≡ None =
-        none_above k es (subst (λ n. list_all (λ o. nat_lt n (slot_of o)) es ≡ true) same (first_so _ _ h)) in
-        here k e (p e) (filter p es) (tie_same k (slot_of e) (sym same)) none ∙ sym (ap (λ b. picked p (cond b (Some e) (live_at k es))) t)
-    | inr f ↦
-        find_cons k e (p e) (filter p es) (tie_other k (slot_of e) (λ g. absurd (false≢true (sym f ∙ eq-eqb (slot_of e) k (sym g)))))
-        ∙ found_live k es (second_so _ _ h) ∙ sym (ap (λ b. picked p (cond b (Some e) (live_at k es))) f)
-  ]
+  found_live k (e ∷ es) h =
+      elim (cases_Bool (slot_of e == k)) as (λ _. find nat_cmp k (slots_with_bodies (filter p (e ∷ es))) ≡ picked p (live_at k (e ∷ es))) [
+        | inl t ↦
+            let same : slot_of e ≡ k = eqb-true (slot_of e) k t in
+            let none : find nat_cmp k (slots_with_bodies (filter p es)) ≡ None =
+            none_above k es (subst (λ n. list_all (λ o. nat_lt n (slot_of o)) es ≡ true) same (first_so _ _ h)) in
+            here k e (p e) (filter p es) (tie_same k (slot_of e) (sym same)) none ∙ sym (ap (λ b. picked p (cond b (Some e) (live_at k es))) t)
+        | inr f ↦
+            find_cons k e (p e) (filter p es) (tie_other k (slot_of e) (λ g. absurd (false≢true (sym f ∙ eq-eqb (slot_of e) k (sym g)))))
+            ∙ found_live k es (second_so _ _ h) ∙ sym (ap (λ b. picked p (cond b (Some e) (live_at k es))) f)
+      ]
     where
       here : (k : ℕ) (e : Live) (b : Bool) (es : List Live) → eq_by_cmp nat_cmp k (slot_of e) ≡ true → find nat_cmp k (slots_with_bodies es) ≡ None
           → find nat_cmp k (slots_with_bodies (cond b (e ∷ es) es)) ≡ cond b (Some e.body) None

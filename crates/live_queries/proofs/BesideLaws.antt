@@ -1,5 +1,5 @@
 -- Two lists side by side: put in orders that agree on what stands side by side, cut, and looked up by their slots.
-use Rattle.std.proofs.Common.{◌≡◌, refl, sym, ap, ◌∙◌, subst, ℕ, zero, suc, true, false, cond, List, [], ◌∷◌, ◌++◌, map, filter, take, length, Option, Some, append-nil}
+use Rattle.std.proofs.Common.{◌≡◌, refl, ap, ◌∙◌, subst, ℕ, zero, suc, true, false, cond, List, [], ◌∷◌, ◌++◌, take, length, Some, append-nil}
 use Rattle.std.specs.List.{filter_map, cons_option}
 use Rattle.std.specs.declared.cmp.Ordering.{Ordering}
 use Rattle.std.specs.Ordering.{is_lt}

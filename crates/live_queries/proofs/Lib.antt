@@ -6,4 +6,5 @@ pub mod HitOf
 pub mod InOrder
 pub mod MetOnWay
 pub mod NearestHandles
+pub mod QueryLaws
 pub mod Touches

@@ -2,3 +2,4 @@ pub mod Beside
 pub mod InHandles
 pub mod Pairs
 pub mod Queries
+pub mod Rows

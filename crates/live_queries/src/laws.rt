@@ -1,10 +1,25 @@
-ghost use Rattle.std.specs.Prelude.{◌≡◌, ◌*◌, ◌≤◌, true, length};
+ghost use Rattle.std.specs.Prelude.{◌≡◌, ◌*◌, ◌≤◌, ℕ, true, ◌&&◌, List, Option, map, filter, length};
+ghost use Rattle.std.specs.List.Sorted.{IsPermutation, IsSorted};
 ghost use Rattle.fixed_box.specs.declared.TheConstants.{SLOTS};
+ghost use Rattle.fixed_box.specs.declared.point.Point.{Point};
+ghost use Rattle.fixed_box.specs.Bounds.{Bounds};
+ghost use Rattle.ray_slabs.specs.declared.ray.Ray.{Ray};
+ghost use Rattle.ray_slabs.specs.Crossing.{Fraction};
+ghost use Rattle.box_cast.specs.declared.cast.Cast.{Cast};
+ghost use Rattle.box_cast.specs.Cast.{in_cast};
+ghost use Rattle.near_boxes.specs.Nearest.{nearest};
+ghost use Rattle.live_table.specs.declared.live.Live.{Live};
+ghost use Rattle.live_table.specs.Bodies.{bodies_of};
 ghost use Rattle.live_table.specs.Table.{Table, IsTable};
+ghost use Rattle.broad_index.specs.declared.query.Query.TheVariants.{Along};
 ghost use Rattle.pair_events.specs.PairEvents.{is_in_order};
-ghost use Rattle.live_queries.specs.Pairs.{pairs_of};
+ghost use Rattle.live_queries.specs.Pairs.{pairs_of, hits_of, is_asked_for};
+ghost use Rattle.live_queries.specs.Queries.{handles, by_place, met_in_order, entered_of, cast_of, asked_for, nearest_to};
 
+use box_cast::cast_law;
 use fixed_box::SLOTS;
+use live_table::Live;
+use ordered_lists::order_laws;
 
 /// Laws of the pairs of a table, for proofs, with nothing to run: they rise by their slots, each with its lower slot first,
 /// as `PairTable::turn` asks for, and so that their number fits 32 bits there are at most `SLOTS` times `SLOTS`.
@@ -12,3 +27,20 @@ pub fn pairs_law()
     ensures order { (t : Table) → IsTable t → is_in_order (pairs_of t.entries) ≡ true }
     ensures few { (t : Table) → IsTable t → length (pairs_of t.entries) ≤ SLOTS * SLOTS }
 {}
+
+/// Laws of the queries in an order of their own, for proofs, with nothing to run. A ray by entry has the handles of the ray
+/// by slots, each as often, and a cast those of the boxes that it meets; both rise by place and slot. The nearest have the
+/// slots of the nearest in the map of the boxes that are asked for, of which `nearest_law` of `near_boxes` speaks.
+pub fn queries_law()
+    ensures entered { (es : List Live) (ray : Ray) (mask : ℕ) → IsPermutation (hits_of es (Along ray) mask) (entered_of es ray mask) }
+    ensures cast { (es : List Live) (cast : Cast) (mask : ℕ) →
+        IsPermutation (handles (filter (λ e. in_cast cast.body cast.by e.body && is_asked_for mask e) es)) (cast_of es cast mask) }
+    ensures rising { (place : Bounds → Option Fraction) (es : List Live) (mask : ℕ) →
+        IsSorted (by_place place) (met_in_order place es mask) }
+    ensures nearest { (t : Table) (at : Point) (want mask : ℕ) → IsTable t →
+        map (λ handle. handle.slot) (nearest_to t.entries at want mask)
+        ≡ map (λ near. near.slot) (nearest (bodies_of (asked_for t.entries mask)) at want) }
+{
+    cast_law();
+    order_laws::<Live>();
+}

@@ -2,6 +2,7 @@
 //! are asked for, and in the order that is asked for.
 #![tactic(auto)]
 
+mod examples;
 mod handles;
 mod hit;
 mod hits;
@@ -12,7 +13,7 @@ mod pairs;
 mod probe;
 
 pub use hits::push_hits;
-pub use laws::pairs_law;
+pub use laws::{pairs_law, queries_law};
 pub use met::{push_cast, push_entered};
 pub use nearest::{NearQuery, push_nearest};
 pub use pairs::push_pairs;

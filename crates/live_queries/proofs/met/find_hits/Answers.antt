@@ -1,5 +1,5 @@
 -- At the end no slot is left, and no hit is wanted for it.
-use Rattle.std.proofs.Common.{◌≡◌, ℕ, List, [], length, sym, subst}
+use Rattle.std.proofs.Common.{ℕ, List, [], sym, subst}
 use Rattle.std.specs.List.{filter_map}
 use Rattle.live_queries.specs.Beside.{AreBeside, IsHit, met_at}
 use Rattle.live_queries.proofs.BesideLaws.{all_beside, none_left}

@@ -7,7 +7,9 @@ use Rattle.live_queries.proofs.met.find_hits.Given as goal
 
 abbrev pub invariant-slots : goal.invariant-slots
 invariant-slots g l =
-    (more : List Hit) → AreBeside (IsHit (g.P.Probe.place l.probe) l.table.entries) more (filter_map (met_at (g.P.Probe.place l.probe) l.mask l.table.entries) l.rest)
+    (more : List Hit)
+    → AreBeside (IsHit (g.P.Probe.place l.probe) l.table.entries) more
+    (filter_map (met_at (g.P.Probe.place l.probe) l.mask l.table.entries) l.rest)
     → AreBeside (IsHit (g.P.Probe.place l.probe) l.table.entries) (l.hits.items ++ more)
     (filter_map (met_at (g.P.Probe.place l.probe) l.mask l.table.entries) l.slots)
 

@@ -1,5 +1,5 @@
 -- The map of the boxes of some groups has a slot's box where that is in one of them.
-use Rattle.std.proofs.Common.{◌≡◌, cond, Some, None, sym, ap, ◌∙◌}
+use Rattle.std.proofs.Common.{cond, Some, None, sym, ap, ◌∙◌}
 use Rattle.live_queries.specs.Pairs.{is_asked_for}
 use Rattle.live_queries.proofs.Asked.{picked, get_asked, space_asked}
 use Rattle.live_queries.proofs.nearest.body_at.Goals as goal

@@ -1,5 +1,5 @@
 -- The boxes that are asked for are among those of the index, and the nearest of them are told in handles.
-use Rattle.std.proofs.Common.{◌++◌, ap, ◌∙◌}
+use Rattle.std.proofs.Common.{◌≡◌, ◌++◌, ap, ◌∙◌}
 use Rattle.std.specs.FinMap.{get}
 use Rattle.std.proofs.lemmas.Result.{on_ok_weaker}
 use Rattle.live_table.specs.Bodies.{bodies_of}
@@ -16,8 +16,9 @@ nearest-requires-clause-among g c κs within k b h =
 pub returns-clause-ok : goal.returns-clause-ok
 returns-clause-ok g c =
     let query = c.args.query.now in
+    let bodies = bodies_of (asked_for c.args.table.now.entries query.mask) in
+    let told : c.deref.result.now ≡ nearest bodies query.at query.want =
+    c.deref.ensures.value ∙ c.in_ok-nearest.ensures.ok ∙ ap (λ ns. ns ++ nearest bodies query.at query.want) c.new-nears.ensures.items in
     on_ok_weaker c.push_handles.result (λ is. is
-    ∙ ap (λ hs. c.args.out.now.items ++ hs) (nearest_handles c.args.table.now query.at query.want query.mask c.deref.result.now c.requires.table
-    (c.deref.ensures.value ∙ c.in_ok-nearest.ensures.ok
-    ∙ ap (λ ns. ns ++ nearest (bodies_of (asked_for c.args.table.now.entries query.mask)) query.at query.want) c.new-nears.ensures.items)))
+    ∙ ap (λ hs. c.args.out.now.items ++ hs) (nearest_handles c.args.table.now query.at query.want query.mask c.deref.result.now c.requires.table told))
     c.push_handles.ensures.ok

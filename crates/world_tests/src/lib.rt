@@ -1,0 +1,7 @@
+//! Shows what live boxes are asked, with memory enough, where no clause says that it succeeds.
+//!
+//! It has tests alone. They stand apart, since a crate with tests is proved twice.
+#![tactic(auto)]
+
+#[cfg(test)]
+mod queries;
