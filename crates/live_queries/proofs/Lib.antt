@@ -6,5 +6,6 @@ pub mod HitOf
 pub mod InOrder
 pub mod MetOnWay
 pub mod NearestHandles
+pub mod PairMembers
 pub mod QueryLaws
 pub mod Touches

@@ -1,4 +1,5 @@
-ghost use Rattle.std.specs.Prelude.{◌≡◌, ◌*◌, ◌≤◌, ℕ, true, ◌&&◌, List, Option, map, filter, length};
+ghost use Rattle.std.specs.Prelude.{◌≡◌, ◌↔◌, ◌*◌, ◌≤◌, ℕ, true, ◌&&◌, List, Option, map, filter, length};
+ghost use Rattle.std.specs.List.{Contains};
 ghost use Rattle.std.specs.List.Sorted.{IsPermutation, IsSorted};
 ghost use Rattle.fixed_box.specs.declared.TheConstants.{SLOTS};
 ghost use Rattle.fixed_box.specs.declared.point.Point.{Point};
@@ -12,7 +13,9 @@ ghost use Rattle.live_table.specs.declared.live.Live.{Live};
 ghost use Rattle.live_table.specs.Bodies.{bodies_of};
 ghost use Rattle.live_table.specs.Table.{Table, IsTable};
 ghost use Rattle.broad_index.specs.declared.query.Query.TheVariants.{Along};
+ghost use Rattle.pair_events.specs.declared.hpair.HPair.{HPair};
 ghost use Rattle.pair_events.specs.PairEvents.{is_in_order};
+ghost use Rattle.live_queries.specs.PairLaw.{IsPairOf};
 ghost use Rattle.live_queries.specs.Pairs.{pairs_of, hits_of, is_asked_for};
 ghost use Rattle.live_queries.specs.Queries.{handles, by_place, met_in_order, entered_of, cast_of, asked_for, nearest_to};
 
@@ -21,9 +24,11 @@ use fixed_box::SLOTS;
 use live_table::Live;
 use ordered_lists::order_laws;
 
-/// Laws of the pairs of a table, for proofs, with nothing to run: they rise by their slots, each with its lower slot first,
-/// as `PairTable::turn` asks for, and so that their number fits 32 bits there are at most `SLOTS` times `SLOTS`.
+/// Laws of the pairs of a table, for proofs, with nothing to run: exactly those of two live boxes that meet and may pair are
+/// listed. They rise by their slots, each with its lower slot first, as `PairTable::turn` asks for, so that each is listed
+/// once; and there are at most `SLOTS` times `SLOTS`, so that their number fits 32 bits.
 pub fn pairs_law()
+    ensures members { (t : Table) (pair : HPair) → IsTable t → Contains (pairs_of t.entries) pair ↔ IsPairOf t.entries pair }
     ensures order { (t : Table) → IsTable t → is_in_order (pairs_of t.entries) ≡ true }
     ensures few { (t : Table) → IsTable t → length (pairs_of t.entries) ≤ SLOTS * SLOTS }
 {}
