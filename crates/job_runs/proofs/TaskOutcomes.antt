@@ -1,8 +1,7 @@
 -- How a task ends that touched neither end.
-use Rattle.std.proofs.Common.{◌≡◌, Bool, List, [], Option, refl}
-use Rattle.std.specs.Io.KnownBytes.{append_known}
+use Rattle.std.proofs.Common.{Bool, [], refl}
 use Rattle.frame_player.specs.declared.status.Status.TheVariants.{NoMemory}
-use Rattle.frame_player.specs.Outcome.{Ends, IsBegun}
+use Rattle.frame_player.specs.Outcome.{Ends}
 use Rattle.frame_player.specs.OutcomeLaws.{append_known-nil, uncalled_ends}
 use Rattle.frame_player.specs.Play.{played}
 use Rattle.scene_lines.specs.declared.TheConstants.{MOST_LINES}
