@@ -1,7 +1,8 @@
 -- Worlds that are the same but for exchanges that aren't shown have the same play.
 use Rattle.std.proofs.Common.{◌≡◌, ℕ, ◌+◌, Bool, true, false, List, [], ◌∷◌, Ok, Err, refl, ap, ◌∙◌}
 use Rattle.scene_words.specs.declared.command.Command.{Command}
-use Rattle.scene_words.specs.declared.command.Command.TheVariants.{Blank, Header, Add, Move, Mask, Remove, Frame, BoxQ, PointQ, RayQ, SegQ}
+use Rattle.scene_words.specs.declared.command.Command.TheVariants.{Blank, Header, Add, Move, Mask, Remove, Frame, BoxQ, PointQ, RayQ, SegQ, Cast, Near, Mark}
+use Rattle.scene_words.specs.declared.command.Command.TheVariants.{Back}
 use Rattle.frame_player.specs.Play.{reply_first, step, play_from}
 use Rattle.frame_player.specs.Player.{IsAlike}
 use Rattle.frame_player.specs.World.{World, after, reply, asked, shown, exchanges_of_add, exchanges_of_move}
@@ -27,8 +28,8 @@ module _ (shows : Bool) (limit : ℕ) where
       ≡ reply_first (reply shows w c) (play_from shows limit (after w c) n more)
   step_alike more rest w x n same Blank = ap (reply_first []) (rest w x n same)
   step_alike more rest w x n same (Header version) = ap (reply_first []) (rest (after w (Header version)) x n same)
-  step_alike more rest w x n same (Add body masks) =
-      ap (reply_first (reply shows w (Add body masks))) (rest (after w (Add body masks)) (x + exchanges_of_add w body) n
+  step_alike more rest w x n same (Add body masks group) =
+      ap (reply_first (reply shows w (Add body masks group))) (rest (after w (Add body masks group)) (x + exchanges_of_add w body) n
       (λ s. ap (λ y. y + exchanges_of_add w body) (same s)))
   step_alike more rest w x n same (Move handle body) =
       ap (reply_first (reply shows w (Move handle body))) (rest (after w (Move handle body)) (x + exchanges_of_move w handle body) n
@@ -40,8 +41,12 @@ module _ (shows : Bool) (limit : ℕ) where
       ap (λ t. reply_first t (play_from shows limit (after w Frame) n more)) here
   step_alike more rest w x n same (BoxQ body mask) = ap (reply_first (reply shows w (BoxQ body mask))) (rest w x n same)
   step_alike more rest w x n same (PointQ at mask) = ap (reply_first (reply shows w (PointQ at mask))) (rest w x n same)
-  step_alike more rest w x n same (RayQ ray mask) = ap (reply_first (reply shows w (RayQ ray mask))) (rest w x n same)
+  step_alike more rest w x n same (RayQ ray mask entry) = ap (reply_first (reply shows w (RayQ ray mask entry))) (rest w x n same)
   step_alike more rest w x n same (SegQ seg mask) = ap (reply_first (reply shows w (SegQ seg mask))) (rest w x n same)
+  step_alike more rest w x n same (Cast cast mask) = ap (reply_first []) (rest w x n same)
+  step_alike more rest w x n same (Near at want mask) = ap (reply_first []) (rest w x n same)
+  step_alike more rest w x n same Mark = ap (reply_first []) (rest w x n same)
+  step_alike more rest w x n same Back = ap (reply_first []) (rest w x n same)
 
   with_exchanges : (lines : List (List ℕ)) → IsPlayAlike lines
   with_exchanges [] w x n same = refl
@@ -60,7 +65,8 @@ module _ (shows : Bool) (limit : ℕ) where
       ∙ ap (λ l. record v { header = w.header; table = w.table; last = l }) alike.last
       ∙ ap (λ f. record { header = w.header; table = w.table; last = w.last; frames = f; exchanges = v.exchanges }) alike.frames
 
-  pub play_alike : (v w : World) (n : ℕ) (lines : List (List ℕ)) → IsAlike shows v w → play_from shows limit v n lines ≡ play_from shows limit w n lines
+  pub play_alike : (v w : World) (n : ℕ) (lines : List (List ℕ)) → IsAlike shows v w
+      → play_from shows limit v n lines ≡ play_from shows limit w n lines
   play_alike v w n lines alike = ap (λ u. play_from shows limit u n lines) (alike_world v w alike) ∙ with_exchanges lines w v.exchanges n alike.exchanges
 
 -- exchanges that are counted are alike where they are shown

@@ -15,7 +15,7 @@ use Rattle.live_queries.specs.Pairs.{hits_of}
 abbrev pub query_of : Command → Option (Query × ℕ)
 query_of (BoxQ body mask) = Some (Region body, mask)
 query_of (PointQ at mask) = Some (Spot at, mask)
-query_of (RayQ ray mask) = Some (Along ray, mask)
+query_of (RayQ ray mask entry) = Some (Along ray, mask)
 query_of (SegQ seg mask) = Some (Between seg, mask)
 query_of _ = None
 

@@ -7,7 +7,7 @@ use Rattle.fixed_box.specs.declared.TheConstants.{SLOTS}
 use Rattle.live_table.specs.Bodies.{bodies_of}
 use Rattle.live_table.specs.Table.{IsTable}
 use Rattle.scene_words.specs.declared.command.Command.{Command}
-use Rattle.scene_words.specs.declared.command.Command.TheVariants.{Blank, Frame, BoxQ, PointQ, RayQ, SegQ}
+use Rattle.scene_words.specs.declared.command.Command.TheVariants.{Blank, Frame, BoxQ, PointQ, RayQ, SegQ, Cast, Near, Mark, Back}
 use Rattle.frame_player.specs.declared.player.Player.{Player}
 use Rattle.frame_player.specs.World.{World, opening, after}
 
@@ -58,6 +58,10 @@ IsChange Blank = ⊥
 IsChange Frame = ⊥
 IsChange (BoxQ body mask) = ⊥
 IsChange (PointQ at mask) = ⊥
-IsChange (RayQ ray mask) = ⊥
+IsChange (RayQ ray mask entry) = ⊥
 IsChange (SegQ seg mask) = ⊥
+IsChange (Cast cast mask) = ⊥
+IsChange (Near at want mask) = ⊥
+IsChange Mark = ⊥
+IsChange Back = ⊥
 IsChange other = Unit {0}

@@ -2,7 +2,6 @@
 use Rattle.std.specs.Prelude.{ℕ, ◌+◌, Bool, true, false, nat_lt, List, [], ◌++◌, length, flat_map, if◌then◌else◌, is_some, Result, Ok, Err}
 use Rattle.fixed_box.specs.Bounds.{Bounds}
 use Rattle.fixed_box.specs.declared.TheConstants.{SLOTS}
-use Rattle.live_table.specs.declared.group.Group.{Group}
 use Rattle.live_table.specs.declared.handle.Handle.{Handle}
 use Rattle.live_table.specs.Bodies.{slots_with_bodies, body_of}
 use Rattle.live_table.specs.Entries.{entry_at, least_free}
@@ -49,14 +48,11 @@ exchanges_of_add w body = passed_from_above (slots_with_bodies w.table.entries) 
 abbrev pub exchanges_of_move : World → Handle → Bounds → ℕ
 exchanges_of_move w handle body = passed_from (body_of handle w.table.entries) (slots_with_bodies w.table.entries) handle.slot body
 
--- a box that nobody owns and that isn't fixed
-abbrev pub nobodys : Group
-nobodys = record { owner = 0; fixed = false }
-
--- The world after a command. A handle that no live box has changes nothing, nor do blank lines and queries.
+-- The world after a command. A handle that no live box has changes nothing, nor do blank lines and queries. Scenes are of
+-- version 1, which has no cast, no nearest boxes, no mark and no way back to one: these change nothing and have no reply.
 abbrev pub after : World → Command → World
 after w (Header version) = record w { header = true }
-after w (Add body masks) = record w { table = after_give w.table body masks nobodys; exchanges = w.exchanges + exchanges_of_add w body }
+after w (Add body masks group) = record w { table = after_give w.table body masks group; exchanges = w.exchanges + exchanges_of_add w body }
 after w (Move handle body) = record w { table = after_set_box w.table handle body; exchanges = w.exchanges + exchanges_of_move w handle body }
 after w (Mask handle masks) = record w { table = after_set_masks w.table handle masks }
 after w (Remove handle) = record w { table = after_take w.table handle }
@@ -77,14 +73,14 @@ shown shows number = if shows then exchanges_line number else []
 
 -- What is reported of a command, in the world before it. Frames end with their exchanges where `shows` asks for it.
 abbrev pub reply : Bool → World → Command → List ℕ
-reply shows w (Add body masks) = add_line (next_handle w.table)
+reply shows w (Add body masks group) = add_line (next_handle w.table)
 reply shows w (Move handle body) = unless_live w handle
 reply shows w (Mask handle masks) = unless_live w handle
 reply shows w (Remove handle) = unless_live w handle
 reply shows w Frame = frame_line (w.frames + 1) (length (pairs w)) ++ (flat_map told_line (events w.last (pairs w)) ++ shown shows w.exchanges)
 reply shows w (BoxQ body mask) = answer w (Region body) mask
 reply shows w (PointQ at mask) = answer w (Spot at) mask
-reply shows w (RayQ ray mask) = answer w (Along ray) mask
+reply shows w (RayQ ray mask entry) = answer w (Along ray) mask
 reply shows w (SegQ seg mask) = answer w (Between seg) mask
 reply shows w _ = []
 
@@ -97,19 +93,20 @@ cause_of fault.Handle = cause.Handle
 cause_of fault.Number = cause.Number
 cause_of fault.Range = cause.Range
 cause_of fault.Mask = cause.Mask
+cause_of fault.Owner = cause.Owner
 cause_of fault.Inverted = cause.Inverted
 
--- before a header only that and blank lines pass
+-- Before a header only that and blank lines pass. The header is that of version 1, since no scene of version 2 is played.
 abbrev pub allowed_first : Result Command LineFault → Result Command Cause
 allowed_first (Ok Blank) = Ok Blank
-allowed_first (Ok (Header version)) = Ok (Header version)
+allowed_first (Ok (Header One)) = Ok (Header One)
 allowed_first _ = Err cause.Header
 
 -- later no second header passes, and no box for which there is no slot
 abbrev pub allowed_later : World → Result Command LineFault → Result Command Cause
 allowed_later w (Err f) = Err (cause_of f)
 allowed_later w (Ok (Header version)) = Err cause.Header
-allowed_later w (Ok (Add body masks)) = if nat_lt (length w.table.entries) SLOTS then Ok (Add body masks) else Err cause.Full
+allowed_later w (Ok (Add body masks group)) = if nat_lt (length w.table.entries) SLOTS then Ok (Add body masks group) else Err cause.Full
 allowed_later w (Ok other) = Ok other
 
 abbrev pub allowed : World → Result Command LineFault → Result Command Cause

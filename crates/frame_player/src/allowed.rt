@@ -3,7 +3,7 @@ ghost use Rattle.frame_player.specs.World.{World, allowed_later, allowed_first, 
 
 use fixed_box::SLOTS;
 use pair_report::Cause;
-use scene_words::{Command, LineFault};
+use scene_words::{Command, LineFault, Version};
 
 // What a line asks for once a header was read.
 pub(crate) fn allow_later(live: u32, said: Result<Command, LineFault>) -> Result<Command, Cause>
@@ -18,14 +18,20 @@ pub(crate) fn allow_later(live: u32, said: Result<Command, LineFault>) -> Result
     }
 }
 
-// Before a header only that and blank lines pass.
+// Before a header only that and blank lines pass. The header is that of version 1.
 pub(crate) fn allow_first(said: Result<Command, LineFault>) -> Result<Command, Cause>
     ensures allowed { result ≡ allowed_first said }
     ensures again { IfOk result (λ asked. allowed_first (Ok asked) ≡ Ok asked) }
 {
     match said {
         Ok(Command::Blank) => Ok(Command::Blank),
-        Ok(Command::Header { version }) => Ok(Command::Header { version }),
+        Ok(
+            Command::Header {
+                version: Version::One,
+            },
+        ) => Ok(Command::Header {
+            version: Version::One,
+        }),
         _ => Err(Cause::Header),
     }
 }
@@ -42,6 +48,7 @@ fn cause_of(fault: LineFault) -> Cause
         LineFault::Number => Cause::Number,
         LineFault::Range => Cause::Range,
         LineFault::Mask => Cause::Mask,
+        LineFault::Owner => Cause::Owner,
         LineFault::Inverted => Cause::Inverted,
     }
 }

@@ -43,7 +43,12 @@ pub(crate) fn obey<R: Threads + Sync, B: BroadPhase + Sync + Drop, G: Gate + Syn
         return gather(rt, workers, gate, player, run, query, mask, sink, text);
     }
     match command {
-        Command::Blank => Ok(()),
+        // Version 1 has none of the last four.
+        Command::Blank
+        | Command::Cast { .. }
+        | Command::Near { .. }
+        | Command::Mark
+        | Command::Back => Ok(()),
         Command::Frame => {
             settle(rt, workers, gate, player, run, sink, text)?;
             player.end_frame(rt, options, gate, sink, text)
@@ -62,7 +67,7 @@ fn query_of(command: &Command) -> Option<(Query, u32)>
     match command {
         Command::BoxQ { body, mask } => Some((Query::Region(*body), *mask)),
         Command::PointQ { at, mask } => Some((Query::Spot(*at), *mask)),
-        Command::RayQ { ray, mask } => Some((Query::Along(*ray), *mask)),
+        Command::RayQ { ray, mask, .. } => Some((Query::Along(*ray), *mask)),
         Command::SegQ { seg, mask } => Some((Query::Between(*seg), *mask)),
         _ => None,
     }

@@ -87,7 +87,7 @@ impl<B: BroadPhase + Drop> Player<B> {
                 self.header = true;
                 Ok(())
             }
-            Command::Add { body, masks } => self.add(*body, *masks, out),
+            Command::Add { body, masks, group } => self.add(*body, *masks, *group, out),
             Command::Move { handle, body } => self.shift(*handle, *body, out),
             Command::Mask { handle, masks } => self.mask(*handle, *masks, out),
             Command::Remove { handle } => self.remove(*handle, out),
@@ -96,20 +96,22 @@ impl<B: BroadPhase + Drop> Player<B> {
     }
 
     // A new box under the least free slot.
-    fn add(&mut self, body: FBox, masks: Masks, out: &mut Vec<u8>) -> Result<(), NoMemory>
+    fn add(
+        &mut self,
+        body: FBox,
+        masks: Masks,
+        group: Group,
+        out: &mut Vec<u8>,
+    ) -> Result<(), NoMemory>
         requires playing { IsPlaying B.bodies B.spent self.old }
         requires free { length self.old.table.entries < SLOTS }
         requires room { HasRoom B.COUNTS B.exchanges self.old }
-        ensures obeyed { OnOk result (IsObeyed B.bodies B.spent B.COUNTS B.exchanges (Command.Add body masks) self.old self.new) }
-        ensures text { OnOk result (out.new.items ≡ out.old.items ++ reply false (world_in B.exchanges self.old) (Command.Add body masks)) }
+        ensures obeyed { OnOk result (IsObeyed B.bodies B.spent B.COUNTS B.exchanges (Command.Add body masks group) self.old self.new) }
+        ensures text { OnOk result (out.new.items ≡ out.old.items ++ reply false (world_in B.exchanges self.old) (Command.Add body masks group)) }
         ensures err { OnErr result (out.new.items ≡ out.old.items) }
     {
         exchange_laws();
-        let nobodys = Group {
-            owner: 0,
-            fixed: false,
-        };
-        match self.table.give(body, masks, nobodys) {
+        match self.table.give(body, masks, group) {
             Ok(handle) => {
                 self.index.add(handle.slot, body)?;
                 put_add(handle, out)

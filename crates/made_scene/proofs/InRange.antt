@@ -1,5 +1,6 @@
--- The commands of a made scene: each within its range, and how many there are.
-use Rattle.std.proofs.Common.{◌≡◌, ℕ, zero, suc, ◌+◌, ◌*◌, ◌^◌, ◌<◌, ◌≤◌, ◌≤ℤ◌, ℤ, pos, neg_ℤ, [], ◌∷◌, ◌++◌, length, refl, ap, ◌∙◌, arith, length-append}
+-- The commands of a made scene: each within its range and of version 1, and how many there are.
+use Rattle.std.proofs.Common.{true, false, ◌≡◌, ℕ, zero, suc, ◌+◌, ◌*◌, ◌^◌, ◌<◌, ◌≤◌, ◌≤ℤ◌, ℤ, pos, neg_ℤ, []}
+use Rattle.std.proofs.Common.{◌∷◌, ◌++◌, length, refl, ap, ◌∙◌, arith, length-append}
 use Rattle.std.specs.List.{All}
 use Rattle.std.proofs.Math.Nat.{mod-le}
 use Rattle.std.proofs.lemmas.Int.{ints}
@@ -11,6 +12,7 @@ use Rattle.ray_slabs.specs.Vector.{widened}
 use Rattle.scene_words.specs.declared.command.Command.{Command}
 use Rattle.scene_words.specs.declared.command.Command.TheVariants.{Header, Remove, Frame, BoxQ, PointQ, RayQ, SegQ}
 use Rattle.scene_words.specs.declared.version.Version.TheVariants.{One}
+use Rattle.scene_words.specs.Printed.{is_of_one}
 use Rattle.scene_words.specs.Ranges.{IsRaw, IsRawVector, IsRawBox, IsInRange}
 use Rattle.made_scene.specs.MadeScene.{Stage, start, made_scene, adds, moves, questions, frames, one_frame, add_command, move_command}
 use Rattle.made_scene.specs.MadeScene.{with_new, with_moved, with_replaced, past_choice, chosen, next_slot, next_bounds, moved, word}
@@ -20,7 +22,8 @@ use Rattle.made_scene.proofs.Corners.{moved_near}
 use Rattle.made_scene.proofs.Words.{word_below, next_near, masks_in_range}
 use Rattle.made_scene.proofs.Stages.{start_after, adds_after, adds_count, begins_moving, goes_moving, moves_moving, replaced_after, frame_after, frame_count}
 
-part_raw : (times : ℕ) (part : ℤ) → times ≤ 100 → neg_ℤ (pos (32640 * times)) ≤ℤ part → part ≤ℤ pos (17626111 + 32640 * times) → IsRaw part
+part_raw : (times : ℕ) (part : ℤ) → times ≤ 100 → neg_ℤ (pos (32640 * times)) ≤ℤ part → part ≤ℤ pos (17626111 + 32640 * times)
+    → IsRaw part
 part_raw times part few low high = (omega (arith, ints), omega (arith, ints))
 
 point_raw : (times : ℕ) (p : Point) → times ≤ 100 → IsNearPoint times p → IsRawVector (widened p)
@@ -41,7 +44,7 @@ origin_raw = record {
 }
 
 add_in_range : (s : Stage) → IsInRange (add_command s)
-add_in_range s = (box_raw 0 (next_bounds s.generator) (omega arith) (next_near s.generator), masks_in_range s.generator)
+add_in_range s = (box_raw 0 (next_bounds s.generator) (omega arith) (next_near s.generator), masks_in_range s.generator, omega arith)
 
 adds_in_range : (n : ℕ) (s : Stage) → All IsInRange (adds n s).commands
 adds_in_range zero s = All-nil IsInRange
@@ -64,7 +67,7 @@ remove_in_range : (times slots slot : ℕ) (s : Stage) → times ≤ 99 → slot
 remove_in_range times slots slot s few low h = record { slot = low; generation = omega (arith, h.young slot, few) }
 
 abbrev ray_at : Stage → ℕ → Command
-ray_at s slot = RayQ (record { from = origin; dir = widened (corner s slot) }) everyone
+ray_at s slot = RayQ (record { from = origin; dir = widened (corner s slot) }) everyone false
 
 abbrev seg_at : Stage → ℕ → Command
 seg_at s slot = SegQ (record { a = widened (corner s slot); b = widened (corner s (next_slot s slot)) }) everyone
@@ -111,6 +114,47 @@ scene_in_range seed boxes count few short =
     (All-append IsInRange (adds boxes (start seed)).commands (frames count s).commands (adds_in_range boxes (start seed))
     (frames_in_range count 0 s (omega (arith, short)) (adds_after boxes (start seed) (omega (arith, few)) (start_after seed))))
 
+-- each is one that version 1 has
+abbrev IsOfOne : Command → Type 0
+IsOfOne c = is_of_one c ≡ true
+
+adds_of_one : (n : ℕ) (s : Stage) → All IsOfOne (adds n s).commands
+adds_of_one zero s = All-nil IsOfOne
+adds_of_one (suc n) s = All-cons IsOfOne (add_command s) (adds n (with_new s)).commands refl (adds_of_one n (with_new s))
+
+moves_of_one : (n slot : ℕ) (s : Stage) → All IsOfOne (moves n slot s).commands
+moves_of_one zero slot s = All-nil IsOfOne
+moves_of_one (suc n) slot s =
+    All-cons IsOfOne (move_command s slot) (moves n (slot + 1) (with_moved s slot)).commands refl (moves_of_one n (slot + 1) (with_moved s slot))
+
+questions_of_one : (slot : ℕ) (s : Stage) → All IsOfOne (questions slot s).commands
+questions_of_one slot s =
+    All-cons IsOfOne (BoxQ (body_at s slot) everyone) (PointQ (corner s slot) everyone ∷ ray_at s slot ∷ seg_at s slot ∷ Frame ∷ []) refl
+    (All-cons IsOfOne (PointQ (corner s slot) everyone) (ray_at s slot ∷ seg_at s slot ∷ Frame ∷ []) refl
+    (All-cons IsOfOne (ray_at s slot) (seg_at s slot ∷ Frame ∷ []) refl
+    (All-cons IsOfOne (seg_at s slot) (Frame ∷ []) refl (All-cons IsOfOne Frame [] refl (All-nil IsOfOne)))))
+
+frame_of_one : (s : Stage) → All IsOfOne (one_frame s).commands
+frame_of_one s =
+    let m = (moves (length s.bodies) 0 s).after in
+    let slot = chosen m in
+    let end = with_replaced (past_choice m) slot in
+    All-append IsOfOne (moves (length s.bodies) 0 s).commands (Remove (handle_at m slot) ∷ add_command (past_choice m) ∷ (questions slot end).commands)
+    (moves_of_one (length s.bodies) 0 s)
+    (All-cons IsOfOne (Remove (handle_at m slot)) (add_command (past_choice m) ∷ (questions slot end).commands) refl
+    (All-cons IsOfOne (add_command (past_choice m)) (questions slot end).commands refl (questions_of_one slot end)))
+
+frames_of_one : (n : ℕ) (s : Stage) → All IsOfOne (frames n s).commands
+frames_of_one zero s = All-nil IsOfOne
+frames_of_one (suc n) s =
+    All-append IsOfOne (one_frame s).commands (frames n (one_frame s).after).commands (frame_of_one s) (frames_of_one n (one_frame s).after)
+
+pub scene_of_one : (seed boxes count : ℕ) → All IsOfOne (made_scene seed boxes count)
+scene_of_one seed boxes count =
+    let s = (adds boxes (start seed)).after in
+    All-cons IsOfOne (Header One) ((adds boxes (start seed)).commands ++ (frames count s).commands) refl
+    (All-append IsOfOne (adds boxes (start seed)).commands (frames count s).commands (adds_of_one boxes (start seed)) (frames_of_one count s))
+
 adds_length : (n : ℕ) (s : Stage) → length (adds n s).commands ≡ n
 adds_length zero s = refl
 adds_length (suc n) s = ap suc (adds_length n (with_new s))
@@ -135,7 +179,8 @@ frames_length zero s = omega arith
 frames_length (suc n) s =
     let rest : length (frames n (one_frame s).after).commands ≡ n * (length s.bodies + 7) =
     frames_length n (one_frame s).after ∙ ap (λ k. n * (k + 7)) (frame_count s) in
-    length-append (one_frame s).commands (frames n (one_frame s).after).commands ∙ ap (λ k. k + length (frames n (one_frame s).after).commands) (frame_length s)
+    length-append (one_frame s).commands (frames n (one_frame s).after).commands
+    ∙ ap (λ k. k + length (frames n (one_frame s).after).commands) (frame_length s)
     ∙ ap (λ k. length s.bodies + 7 + k) rest ∙ one_more n (length s.bodies + 7)
 
 pub scene_length : (seed boxes count : ℕ) → length (made_scene seed boxes count) ≡ 1 + boxes + count * (boxes + 7)

@@ -1,7 +1,9 @@
 -- A made scene: boxes that are added, then move in each frame, where one of them is replaced and asked about.
-use Rattle.std.specs.Prelude.{ℕ, zero, suc, ◌+◌, ◌*◌, ◌-◌, ◌/◌, ◌%◌, ◌^◌, ◌==◌, pos, ◌+ℤ◌, ◌-ℤ◌, ℤ, List, [], ◌∷◌, ◌++◌, length, slice_index, slice_index_or, slice_set, if◌then◌else◌}
+use Rattle.std.specs.Prelude.{ℕ, false, zero, suc, ◌+◌, ◌*◌, ◌-◌, ◌/◌, ◌%◌, ◌^◌, ◌==◌, pos, ◌+ℤ◌, ◌-ℤ◌, ℤ, List, []}
+use Rattle.std.specs.Prelude.{◌∷◌, ◌++◌, length, slice_index, slice_index_or, slice_set, if◌then◌else◌}
 use Rattle.fixed_box.specs.Bounds.{Bounds}
 use Rattle.fixed_box.specs.declared.point.Point.{Point}
+use Rattle.live_table.specs.declared.group.Group.{Group}
 use Rattle.live_table.specs.declared.handle.Handle.{Handle}
 use Rattle.live_table.specs.declared.masks.Masks.{Masks}
 use Rattle.ray_slabs.specs.Vector.{Vector, widened}
@@ -89,9 +91,13 @@ infixl 10 ◌then◌
 abbrev pub ◌then◌ : Part → (Stage → Part) → Part
 part then rest = record { commands = part.commands ++ (rest part.after).commands; after = (rest part.after).after }
 
+-- a box that nobody owns and that isn't fixed, since made scenes are of version 1
+abbrev pub nobodys : Group
+nobodys = record { owner = 0; fixed = false }
+
 -- The next words are a box, and a line adds it.
 abbrev pub add_command : Stage → Command
-add_command s = Add (next_bounds s.generator) (next_masks s.generator)
+add_command s = Add (next_bounds s.generator) (next_masks s.generator) nobodys
 
 -- under the next slot
 abbrev pub with_new : Stage → Stage
@@ -150,7 +156,7 @@ questions slot s = record {
   commands =
       BoxQ (body_at s slot) everyone
       ∷ PointQ (corner s slot) everyone
-      ∷ RayQ (record { from = origin; dir = widened (corner s slot) }) everyone
+      ∷ RayQ (record { from = origin; dir = widened (corner s slot) }) everyone false
       ∷ SegQ (record { a = widened (corner s slot); b = widened (corner s (next_slot s slot)) }) everyone
       ∷ Frame
       ∷ [];

@@ -1,8 +1,8 @@
-ghost use Rattle.std.specs.Prelude.{◌≡◌, ◌++◌, ◌≤◌, ◌<◌, ◌%◌, length, slice_index, take, vec_len, OnOk, OnErr};
+ghost use Rattle.std.specs.Prelude.{Bool, ◌≡◌, ◌++◌, ◌≤◌, ◌<◌, ◌%◌, length, slice_index, take, vec_len, OnOk, OnErr};
 ghost use Rattle.fixed_box.specs.declared.TheConstants.{SLOTS};
 ghost use Rattle.made_scene.specs.declared.TheConstants.{MOST_FRAMES};
 ghost use Rattle.made_scene.specs.MadeScene.{start, adds, moves, replacement, questions, frames, one_frame};
-ghost use Rattle.made_scene.specs.MadeScene.{with_new, with_moved, add_command, move_command, body_at, next_slot, chosen, past_choice, everyone, origin};
+ghost use Rattle.made_scene.specs.MadeScene.{with_new, with_moved, add_command, move_command, body_at, next_slot, chosen, past_choice, everyone, origin, nobodys};
 ghost use Rattle.made_scene.specs.Ranges.{IsNear, IsAfter, IsMoving};
 ghost use Rattle.ray_slabs.specs.Vector.{widened};
 ghost use Rattle.scene_words.specs.declared.command.Command.TheVariants.{RayQ, SegQ};
@@ -11,7 +11,7 @@ ghost use Rattle.scene_words.specs.Ranges.{IsPrintable};
 
 use crate::made_box::{moved_box, next_box, next_word};
 use fixed_box::{FBox, NoMemory, Point};
-use live_table::Handle;
+use live_table::{Group, Handle};
 use rand_pcg::Lcg64Xsh32;
 use ray_slabs::{Ray, Seg, WPoint};
 use scene_words::{Command, print_command};
@@ -74,7 +74,14 @@ impl SceneMaker {
         let (body, masks) = next_box(&mut self.generator);
         self.bodies.push(body)?;
         self.generations.push(0)?;
-        put_line(&Command::Add { body, masks }, out)
+        put_line(
+            &Command::Add {
+                body,
+                masks,
+                group: nobodys(),
+            },
+            out,
+        )
     }
 
     /// Puts so many frames.
@@ -172,7 +179,14 @@ impl SceneMaker {
         let (body, masks) = next_box(&mut self.generator);
         self.bodies[slot] = body;
         self.generations[slot] += 1;
-        put_line(&Command::Add { body, masks }, out)
+        put_line(
+            &Command::Add {
+                body,
+                masks,
+                group: nobodys(),
+            },
+            out,
+        )
     }
 
     // Puts the queries at a slot, and the end of the frame.
@@ -188,7 +202,14 @@ impl SceneMaker {
         let seg = seg_between(at, self.body_at(self.next_slot(slot)).lo());
         put_line(&Command::BoxQ { body, mask }, out)?;
         put_line(&Command::PointQ { at, mask }, out)?;
-        put_line(&Command::RayQ { ray, mask }, out)?;
+        put_line(
+            &Command::RayQ {
+                ray,
+                mask,
+                entry: false,
+            },
+            out,
+        )?;
         put_line(&Command::SegQ { seg, mask }, out)?;
         put_line(&Command::Frame, out)
     }
@@ -222,10 +243,20 @@ pub(crate) fn put_line(command: &Command, out: &mut Vec<u8>) -> Result<(), NoMem
     print_command(command, out)
 }
 
+// A box that nobody owns and that isn't fixed.
+fn nobodys() -> Group
+    ensures { result ≡ nobodys }
+{
+    Group {
+        owner: 0,
+        fixed: false,
+    }
+}
+
 // The ray from the origin in the direction of a point.
 fn ray_to(at: Point) -> Ray
     ensures value { result ≡ record { from = origin; dir = widened at } }
-    ensures printable { IsPrintable (RayQ result everyone) }
+    ensures printable { (entry : Bool) → IsPrintable (RayQ result everyone entry) }
 {
     let origin = Point { x: 0, y: 0, z: 0 };
     Ray {

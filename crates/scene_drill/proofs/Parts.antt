@@ -1,18 +1,20 @@
 -- The commands of a made scene are allowed: its boxes keep their slots, so a removed box is live and a slot is free for each added one.
-use Rattle.std.proofs.Common.{◌≡◌, ℕ, zero, suc, ◌+◌, ◌<◌, ◌≤◌, true, nat_lt, List, [], ◌∷◌, ◌++◌, length, Ok, refl, sym, subst, ap, ◌∙◌, arith, get_or}
+use Rattle.std.proofs.Common.{◌≡◌, ℕ, zero, suc, ◌+◌, ◌<◌, ◌≤◌, true, nat_lt, List, [], ◌∷◌, ◌++◌, length, Ok, refl, sym, subst}
+use Rattle.std.proofs.Common.{ap, ◌∙◌, arith, get_or}
 use Rattle.std.proofs.lemmas.Bool.Decides.{nat_tests}
 use Rattle.std.proofs.lemmas.List.{length-append, length-set}
 use Rattle.std.proofs.lemmas.Nat.{mod_below}
 use Rattle.fixed_box.specs.Bounds.{Bounds}
 use Rattle.fixed_box.specs.declared.TheConstants.{SLOTS}
+use Rattle.live_table.specs.declared.group.Group.{Group}
 use Rattle.live_table.specs.declared.masks.Masks.{Masks}
 use Rattle.scene_words.specs.declared.command.Command.{Command}
 use Rattle.scene_words.specs.declared.command.Command.TheVariants.{Header, Add, Remove}
 use Rattle.scene_words.specs.declared.version.Version.TheVariants.{One}
 use Rattle.frame_player.specs.AllowedScene.{AreAllowed, after_all}
-use Rattle.frame_player.specs.World.{World, opening, after, allowed, nobodys}
+use Rattle.frame_player.specs.World.{World, opening, after, allowed}
 use Rattle.made_scene.specs.MadeScene.{Stage, Part, before, nothing, ◌then◌, adds, moves, replacement, questions, one_frame, frames, start, made_scene}
-use Rattle.made_scene.specs.MadeScene.{with_new, with_moved, add_command, move_command, handle_at, next_bounds, next_masks}
+use Rattle.made_scene.specs.MadeScene.{with_new, with_moved, add_command, move_command, handle_at, next_bounds, next_masks, nobodys}
 use Rattle.made_scene.specs.MadeScene.{moved, word, body_at, chosen, past_choice}
 use Rattle.scene_drill.specs.Allowed.{IsMade, IsAllowed}
 use Rattle.scene_drill.proofs.Slots.{many_follow, new_follows, moved_follows, fewer_follow, replaced_follows}
@@ -27,7 +29,8 @@ after_both w (c ∷ cs) ds = after_both (after w c) cs ds
 
 -- one part of a scene after another
 then_allowed : (few many : ℕ) (w : World) (part : Part) (rest : Stage → Part) → IsAllowed few w part
-    → (IsMade few part.after (after_all w part.commands) → IsAllowed many (after_all w part.commands) (rest part.after)) → IsAllowed many w (part then rest)
+    → (IsMade few part.after (after_all w part.commands) → IsAllowed many (after_all w part.commands) (rest part.after))
+    → IsAllowed many w (part then rest)
 then_allowed few many w part rest a b =
     let later = b a.made in
     record {
@@ -40,9 +43,9 @@ before_allowed : (boxes : ℕ) (w : World) (c : Command) (part : Part) → allow
 before_allowed boxes w c part ok a = record { allowed = (ok, a.allowed); made = a.made }
 
 -- where a slot is free
-add_allowed : (w : World) (body : Bounds) (masks : Masks) → w.header ≡ true → length w.table.entries < SLOTS
-    → allowed w (Ok (Add body masks)) ≡ Ok (Add body masks)
-add_allowed w body masks h low =
+add_allowed : (w : World) (body : Bounds) (masks : Masks) (group : Group) → w.header ≡ true → length w.table.entries < SLOTS
+    → allowed w (Ok (Add body masks group)) ≡ Ok (Add body masks group)
+add_allowed w body masks group h low =
     let free : nat_lt (length w.table.entries) SLOTS ≡ true = grind (arith, nat_tests) in
     rw (h, free) refl
 
@@ -61,7 +64,7 @@ adds_allowed (suc n) few s w room h =
     } in
     let rest : IsAllowed (few + 1 + n) (after w (add_command s)) (adds n (with_new s)) =
     adds_allowed n (few + 1) (with_new s) (after w (add_command s)) (omega (arith, room)) made in
-    before_allowed (few + suc n) w (add_command s) (adds n (with_new s)) (add_allowed w body masks h.header (omega (arith, many, count, room)))
+    before_allowed (few + suc n) w (add_command s) (adds n (with_new s)) (add_allowed w body masks nobodys h.header (omega (arith, many, count, room)))
     (subst (λ k. IsAllowed k (after w (add_command s)) (adds n (with_new s))) {x = few + 1 + n} {y = few + suc n} (omega arith) rest)
 
 moves_allowed : (n slot boxes : ℕ) (s : Stage) (w : World) → IsMade boxes s w → IsAllowed boxes w (moves n slot s)
@@ -76,7 +79,8 @@ moves_allowed (suc n) slot boxes s w h =
       table = moved_follows s.generations w.table (handle_at s slot) body h.table;
     }))
 
-replacement_allowed : (slot boxes : ℕ) (s : Stage) (w : World) → slot < boxes → boxes ≤ SLOTS → IsMade boxes s w → IsAllowed boxes w (replacement slot s)
+replacement_allowed : (slot boxes : ℕ) (s : Stage) (w : World) → slot < boxes → boxes ≤ SLOTS → IsMade boxes s w
+    → IsAllowed boxes w (replacement slot s)
 replacement_allowed slot boxes s w low few h =
     let body = next_bounds s.generator in
     let masks = next_masks s.generator in
@@ -85,7 +89,7 @@ replacement_allowed slot boxes s w low few h =
     let within : slot < length s.generations = omega (arith, count, low) in
     let many : length left.table.entries + 1 ≡ length s.generations = fewer_follow s.generations w.table slot h.table within in
     record {
-      allowed = (rw h.header refl, (add_allowed left body masks h.header (omega (arith, many, count, few)), tt));
+      allowed = (rw h.header refl, (add_allowed left body masks nobodys h.header (omega (arith, many, count, few)), tt));
       made = record {
         header = h.header;
         bodies = length-set s.bodies slot body ∙ h.bodies;

@@ -1,5 +1,5 @@
 use fixed_box::{FBox, Fix, Point};
-use live_table::{Handle, Masks};
+use live_table::{Group, Handle, Masks};
 use ray_slabs::{Ray, Seg, WPoint};
 use scene_words::{Command, LineFault, Version, print_command, read_command};
 use std::test::Fail;
@@ -15,6 +15,14 @@ fn at(x: Fix, y: Fix, z: Fix) -> Point {
 
 fn masks(is: u32, sees: u32) -> Masks {
     Masks { is, sees }
+}
+
+// A box that nobody owns and that isn't fixed.
+fn nobodys() -> Group {
+    Group {
+        owner: 0,
+        fixed: false,
+    }
 }
 
 fn ray(from: Point, dir: Point) -> Ray {
@@ -55,6 +63,7 @@ fn lines_read_as_commands(rt: HostRuntime) -> Result<(), Fail> {
             Ok(Command::Add {
                 body,
                 masks: masks(1, EVERY_GROUP),
+                group: nobodys(),
             }),
         ),
         (
@@ -62,6 +71,7 @@ fn lines_read_as_commands(rt: HostRuntime) -> Result<(), Fail> {
             Ok(Command::Add {
                 body,
                 masks: masks(2, EVERY_GROUP),
+                group: nobodys(),
             }),
         ),
         (
@@ -69,6 +79,7 @@ fn lines_read_as_commands(rt: HostRuntime) -> Result<(), Fail> {
             Ok(Command::Add {
                 body,
                 masks: masks(171, 171),
+                group: nobodys(),
             }),
         ),
         (
@@ -108,6 +119,7 @@ fn lines_read_as_commands(rt: HostRuntime) -> Result<(), Fail> {
             Ok(Command::Add {
                 body,
                 masks: masks(171, 171),
+                group: nobodys(),
             }),
         ),
         (
@@ -115,6 +127,7 @@ fn lines_read_as_commands(rt: HostRuntime) -> Result<(), Fail> {
             Ok(Command::Add {
                 body: FBox::new(at(-32768 * ONE, 0, 0), corner).ok_or("the corners are inverted")?,
                 masks: masks(2, EVERY_GROUP),
+                group: nobodys(),
             }),
         ),
         (b"remove  7:0 #1", Ok(Command::Remove { handle: first })),
@@ -171,6 +184,7 @@ fn lines_read_as_commands(rt: HostRuntime) -> Result<(), Fail> {
             Ok(Command::RayQ {
                 ray: ray(origin, corner),
                 mask: EVERY_GROUP,
+                entry: false,
             }),
         ),
         (
@@ -178,6 +192,7 @@ fn lines_read_as_commands(rt: HostRuntime) -> Result<(), Fail> {
             Ok(Command::RayQ {
                 ray: ray(origin, corner),
                 mask: 0,
+                entry: false,
             }),
         ),
         (
@@ -210,7 +225,7 @@ fn lines_read_as_commands(rt: HostRuntime) -> Result<(), Fail> {
 
 #[test]
 fn the_first_fault_is_answered(rt: HostRuntime) {
-    let cases: [(&[u8], LineFault); 53] = [
+    let cases: [(&[u8], LineFault); 57] = [
         (b"scene", LineFault::Header),
         (b"move 7:0 0.0 0.0 0.0 1.0 2.0 32768.0", LineFault::Range),
         (b"move 7:0 0.0 0.0 0.0 1.0 2.0 3.0.0", LineFault::Number),
@@ -222,11 +237,12 @@ fn the_first_fault_is_answered(rt: HostRuntime) {
             b"add 0.0 0.0 0.0 1.0 1.0 1.0 1 123456789 #1",
             LineFault::Mask,
         ),
-        (b"scene 2", LineFault::Header),
+        (b"scene 3", LineFault::Header),
         (b"scene 01", LineFault::Header),
         (b"scene 1 x", LineFault::Header),
         (b"mov 0:0", LineFault::Word),
         (b"Add 0 0 0 1 1 1", LineFault::Word),
+        (b"cast 0 0 0 1 1 1 0 0 0", LineFault::Word),
         (b"scene1", LineFault::Word),
         (b"frame 1", LineFault::Count),
         (b"add 1 0 0 0 1", LineFault::Count),
@@ -268,11 +284,43 @@ fn the_first_fault_is_answered(rt: HostRuntime) {
         (b"mask 0:0 g 1", LineFault::Mask),
         (b"mask 0:0 0x1 1", LineFault::Mask),
         (b"add 1 0 0 0 1 1 123456789", LineFault::Mask),
+        (b"add 0 0 0 1 1 1 fixed", LineFault::Mask),
+        (b"add 0 0 0 1 1 1 owner 5", LineFault::Mask),
+        (b"ray 0 0 0 1 0 0 entry", LineFault::Mask),
         (b"move 0:0 1 0 0 0 1 1", LineFault::Inverted),
         (b"box 0 0 1.00001 1 1 1", LineFault::Inverted),
     ];
     for (line, want) in cases {
         assert_eq!(rt; read_command(Version::One, line), Err(want));
+    }
+}
+
+#[test]
+fn the_first_fault_of_version_2_is_answered(rt: HostRuntime) {
+    let cases: [(&[u8], LineFault); 20] = [
+        (b"scene 02", LineFault::Header),
+        (b"add 0 0 0 1 1 1 owner x", LineFault::Owner),
+        (b"add 0 0 0 1 1 1 owner 4294967296", LineFault::Owner),
+        (b"add 0 0 0 1 1 1 owner 00000000001", LineFault::Owner),
+        (b"add 0 0 0 1 1 1 owner fixed fixed", LineFault::Owner),
+        (b"add 0 0 0 1 1 1 owner fixed", LineFault::Mask),
+        (b"add 0 0 0 1 1 1 fixed owner 5", LineFault::Mask),
+        (b"add 0 0 0 1 1 1 g owner x", LineFault::Mask),
+        (b"add 0 0 0 1 1 1 owner 5 fixed fixed", LineFault::Count),
+        (b"add 0 0 0 1 1 1 1 1 1 owner 5", LineFault::Count),
+        (b"add 1 0 0 0 1 1 owner x", LineFault::Owner),
+        (b"add 1 0 0 0 1 1 owner 5", LineFault::Inverted),
+        (b"ray 0 0 0 1 0 0 entry 1", LineFault::Count),
+        (b"ray 0 0 0 1 0 0 1 entry entry", LineFault::Count),
+        (b"cast 1 0 0 0 1 1 0 0 0", LineFault::Inverted),
+        (b"cast 0 0 0 1 1 1 0 0", LineFault::Count),
+        (b"near 0 0 0 0", LineFault::Range),
+        (b"near 0 0 0 8193 g", LineFault::Range),
+        (b"near 0 0 0 00001", LineFault::Number),
+        (b"mark 1", LineFault::Count),
+    ];
+    for (line, want) in cases {
+        assert_eq!(rt; read_command(Version::Two, line), Err(want));
     }
 }
 
@@ -294,6 +342,7 @@ fn numbers_of_a_box_are_read_to_the_nearest_raw_number(rt: HostRuntime) -> Resul
         let want = Ok(Command::Add {
             body,
             masks: masks(1, EVERY_GROUP),
+            group: nobodys(),
         });
         assert_eq!(rt; read_command(Version::One, line), want);
     }
@@ -307,6 +356,7 @@ fn commands_print_as_lines(rt: HostRuntime) -> Result<(), Fail> {
     let added = Command::Add {
         body,
         masks: masks(1, EVERY_GROUP),
+        group: nobodys(),
     };
     print_command(&added, &mut out)?;
     print_command(&Command::Blank, &mut out)?;
@@ -318,7 +368,7 @@ fn commands_print_as_lines(rt: HostRuntime) -> Result<(), Fail> {
 
 #[test]
 fn lines_are_printed_with_all_their_words(rt: HostRuntime) -> Result<(), Fail> {
-    let cases: [(&[u8], &[u8]); 14] = [
+    let cases: [(&[u8], &[u8]); 26] = [
         (b"", b"\n"),
         (b" \t # a comment", b"\n"),
         (b"scene\t1", b"scene 1\n"),
@@ -357,9 +407,48 @@ fn lines_are_printed_with_all_their_words(rt: HostRuntime) -> Result<(), Fail> {
             b"seg 1 2 3 0 0 0 80000000",
             b"seg 1.00000 2.00000 3.00000 0.00000 0.00000 0.00000 80000000\n",
         ),
+        (b"scene 2", b"scene 2\n"),
+        (
+            b"add 0 0 0 1 1 1 owner 005",
+            b"add 0.00000 0.00000 0.00000 1.00000 1.00000 1.00000 1 ffffffff owner 5\n",
+        ),
+        (
+            b"add 0 0 0 1 1 1 owner 0 fixed",
+            b"add 0.00000 0.00000 0.00000 1.00000 1.00000 1.00000 1 ffffffff fixed\n",
+        ),
+        (
+            b"add 0 0 0 1 1 1 2 fixed# 1",
+            b"add 0.00000 0.00000 0.00000 1.00000 1.00000 1.00000 2 ffffffff fixed\n",
+        ),
+        (
+            b"add 0 0 0 1 1 1 2 F owner 4294967295 \tfixed",
+            b"add 0.00000 0.00000 0.00000 1.00000 1.00000 1.00000 2 f owner 4294967295 fixed\n",
+        ),
+        (
+            b"ray 0 0 0 1 2 3 entry",
+            b"ray 0.00000 0.00000 0.00000 1.00000 2.00000 3.00000 ffffffff entry\n",
+        ),
+        (
+            b"ray 0 0 0 1 2 3 A entry",
+            b"ray 0.00000 0.00000 0.00000 1.00000 2.00000 3.00000 a entry\n",
+        ),
+        (
+            b"cast -32768 -32768 -32768 -32768 -32768 -32768 -32768 -32768 -32768",
+            b"cast -32768.00000 -32768.00000 -32768.00000 -32768.00000 -32768.00000 -32768.00000 -32768.00000 -32768.00000 -32768.00000 ffffffff\n",
+        ),
+        (
+            b"near 0.5 0.5 0.5 0003 2",
+            b"near 0.50000 0.50000 0.50000 3 2\n",
+        ),
+        (
+            b"near 0 0 0 8192",
+            b"near 0.00000 0.00000 0.00000 8192 ffffffff\n",
+        ),
+        (b"mark # 1", b"mark\n"),
+        (b"back", b"back\n"),
     ];
     for (line, printed) in cases {
-        let Ok(command) = read_command(Version::One, line) else {
+        let Ok(command) = read_command(Version::Two, line) else {
             return Err("the line is no command".into());
         };
         let mut out = Vec::new(rt.alloc());

@@ -1,5 +1,6 @@
 -- Masks and handles that are printed: each is read as what it was, and is a word.
-use Rattle.std.proofs.Common.{◌≡◌, ℕ, ◌<◌, ◌≤◌, ◌^◌, true, false, cond, ◌&&◌, nat_le, List, [], ◌∷◌, length, Some, None, Ok, Err, refl, ap, ◌∙◌, arith, decimal}
+use Rattle.std.proofs.Common.{◌≡◌, ℕ, ◌<◌, ◌≤◌, ◌^◌, true, false, cond, ◌&&◌, nat_le, List, [], ◌∷◌, length, Some, None, Ok}
+use Rattle.std.proofs.Common.{Err, refl, ap, ◌∙◌, arith, decimal}
 use Rattle.std.specs.List.{All, after_first, list_all}
 use Rattle.std.specs.Char.{is_digit, digit_value}
 use Rattle.std.specs.Fmt.{digits}
@@ -12,8 +13,10 @@ use Rattle.std.proofs.lemmas.List.Elements.{All-nil, All-cons, All-append}
 use Rattle.live_table.specs.declared.handle.Handle.{Handle}
 use Rattle.scene_words.specs.declared.line_fault.LineFault.TheVariants as fault
 use Rattle.scene_words.specs.Printed.{handle_text, mask_text}
-use Rattle.scene_words.specs.Ranges.{IsHandle}
-use Rattle.scene_words.specs.Values.{is_numeral, index_of_digits, is_colon, mask_of_word, handle_of_word, handle_from}
+use Rattle.fixed_box.specs.declared.TheConstants.{SLOTS}
+use Rattle.scene_words.specs.Ranges.{IsHandle, IsWanted}
+use Rattle.scene_words.specs.Values.{is_numeral, index_of_digits, index_or, is_colon, mask_of_word, handle_of_word, handle_from, owner_of_word, want_within}
+use Rattle.scene_words.specs.Values.{want_of_word}
 use Rattle.scene_words.proofs.FirstPlaces.{before_at, after_at}
 use Rattle.scene_words.proofs.Hexadecimal.{hex_length}
 use Rattle.scene_words.proofs.JoinedWords.{IsInk, IsInkWord}
@@ -59,16 +62,42 @@ mask_ink n small =
     record { some = d.0.0; ink = digits_ink 16 (digits 16 false n) (omega arith) d.0.1 }
 
 -- one number of a handle
-index_length : (n : ℕ) → n < 2 ^ 32 → length (decimal n) ≤ 10
+pub index_length : (n : ℕ) → n < 2 ^ 32 → length (decimal n) ≤ 10
 index_length n small = length-decimal-le 10 n (omega arith) (omega arith) (omega arith)
 
-index_read : (n : ℕ) → n < 2 ^ 32 → index_of_digits (decimal n) ≡ Some n
+pub index_read : (n : ℕ) → n < 2 ^ 32 → index_of_digits (decimal n) ≡ Some n
 index_read n small =
     let d = digits_read 10 n (omega arith) (omega arith) small in
     let fits : nat_le (digits_value 10 (decimal n)) 4294967295 ≡ true = (let value : digits_value 10 (decimal n) ≡ n = d.1 in grind (arith, nat_tests)) in
     ap (λ t. cond (t && nat_le (digits_value 10 (decimal n)) 4294967295) (Some (digits_value 10 (decimal n))) None)
     (numeral_is 10 10 (decimal n) d.0 (index_length n small))
     ∙ ap (λ t. cond t (Some (digits_value 10 (decimal n))) None) fits ∙ ap Some d.1
+
+-- an owner
+pub owner_read : (n : ℕ) → n < 2 ^ 32 → owner_of_word (decimal n) ≡ Ok n
+owner_read n small = ap (index_or fault.Owner) (index_read n small)
+
+pub decimal_ink : (n : ℕ) → n < 2 ^ 32 → IsInkWord (decimal n)
+decimal_ink n small =
+    let d = digits_read 10 n (omega arith) (omega arith) small in
+    record { some = d.0.0; ink = digits_ink 10 (decimal n) (omega arith) d.0.1 }
+
+-- a number of boxes
+within_read : (n : ℕ) → IsWanted n → want_within n ≡ Ok n
+within_read n h =
+    let low : nat_le 1 n ≡ true = (let some = h.some in grind (arith, nat_tests)) in
+    let high : nat_le n SLOTS ≡ true = (let few = h.few in grind (arith, nat_tests)) in
+    ap (λ t. cond (t && nat_le n SLOTS) (Ok n) (Err fault.Range)) low ∙ ap (λ t. cond t (Ok n) (Err fault.Range)) high
+
+pub want_small : (n : ℕ) → IsWanted n → n < 2 ^ 32
+want_small n h = omega (arith, h.few)
+
+pub want_read : (n : ℕ) → IsWanted n → want_of_word (decimal n) ≡ Ok n
+want_read n h =
+    let d = digits_read 10 n (omega arith) (omega arith) (want_small n h) in
+    let short : length (decimal n) ≤ 4 = length-decimal-le 4 n (omega arith) (omega (arith, h.few)) (omega arith) in
+    ap (λ t. cond t (want_within (digits_value 10 (decimal n))) (Err fault.Number)) (numeral_is 10 4 (decimal n) d.0 short)
+    ∙ ap want_within d.1 ∙ within_read n h
 
 abbrev NoColon : ℕ → Type 0
 NoColon b = is_colon b ≡ false

@@ -1,5 +1,6 @@
 -- Words at the front of a line, by their bytes.
-use Rattle.std.proofs.Common.{◌≡◌, ℕ, zero, suc, ◌+◌, ◌-◌, ◌<◌, ◌≤◌, true, false, cond, ◌&&◌, nat_le, List, [], ◌∷◌, ◌++◌, length, take, drop}
+use Rattle.std.proofs.Common.{◌≡◌, ℕ, zero, suc, ◌+◌, ◌-◌, ◌<◌, ◌≤◌, true, false, cond, ◌&&◌, nat_le, List, [], ◌∷◌}
+use Rattle.std.proofs.Common.{◌++◌, length, take, drop}
 use Rattle.std.proofs.Common.{get_or, Option, Some, None, Result, Ok, Err, refl, sym, ap, subst, ◌∙◌, arith, length-take, length-drop}
 use Rattle.std.proofs.Common.{IfSome, ℤ}
 use Rattle.std.specs.List.{All, prefix_len, before_first, after_first, list_all}
@@ -18,8 +19,9 @@ use Rattle.scene_words.specs.declared.verb.Verb.{Verb}
 use Rattle.scene_words.specs.declared.version.Version.{Version}
 use Rattle.fixed_box.specs.Fix.{fix}
 use Rattle.scene_words.specs.Values.{line_number, number_of_word, index_of_digits, is_colon, handle_from, handle_of_word, mask_of_word}
-use Rattle.scene_words.specs.Verbs.{verb_of, allows}
-use Rattle.scene_words.specs.SceneWords.{words, first_as, number_at, handle_at, ◌>>=◌, by_verb, further_of, command, command_of}
+use Rattle.scene_words.specs.Tails.{counted}
+use Rattle.scene_words.specs.Verbs.{verb_of, since, reaches, allows}
+use Rattle.scene_words.specs.SceneWords.{words, first_as, number_at, handle_at, ◌>>=◌, by_verb, by_count, further_of, command, command_of}
 use Rattle.scene_words.specs.Fronts.{in_word, Leads}
 use Rattle.scene_words.proofs.FirstPlaces.{before_at, after_at}
 use Rattle.scene_words.proofs.WordSplits.{words_ahead}
@@ -31,7 +33,8 @@ IsHigh b = 36 ≤ b
 high_in_word : (b : ℕ) → 36 ≤ b → in_word b ≡ true
 high_in_word b h = grind (arith, nat_tests)
 
-high_run : (n : ℕ) (line : List ℕ) → n ≤ length line → All IsHigh (take n line) → prefix_len in_word (drop n line) ≡ 0 → prefix_len in_word line ≡ n
+high_run : (n : ℕ) (line : List ℕ) → n ≤ length line → All IsHigh (take n line) → prefix_len in_word (drop n line) ≡ 0
+    → prefix_len in_word line ≡ n
 high_run zero line inside high ends = ends
 high_run (suc n) [] inside high ends = absurd (omega arith)
 high_run (suc n) (b ∷ bs) inside high ends =
@@ -43,7 +46,8 @@ pub first_word : (line behind rest : List ℕ) (n : ℕ) → 0 < n → n ≤ len
     → prefix_len in_word behind ≡ 0 → words rest ≡ words behind → words line ≡ take n line ∷ words rest
 first_word line behind rest n some inside high e ends same =
     let len = high_run n line inside high (ap (prefix_len in_word) (sym e) ∙ ends) in
-    words_ahead line (omega (arith, len)) ∙ ap (λ k. take k line ∷ words (drop k line)) len ∙ ap (λ more. take n line ∷ more) (ap words (sym e) ∙ sym same)
+    words_ahead line (omega (arith, len)) ∙ ap (λ k. take k line ∷ words (drop k line)) len
+    ∙ ap (λ more. take n line ∷ more) (ap words (sym e) ∙ sym same)
 
 -- the value of the first word
 pub first_value : {X : Type 0} (value : List ℕ → Result X LineFault) (line behind rest : List ℕ) (n : ℕ) (x : X) → 0 < n → n ≤ length line
@@ -81,7 +85,8 @@ high_hex (d ∷ ds) all =
     let parts = and_parts (is_digit d 16) (list_all (λ b. is_digit b 16) ds) all in
     All-cons IsHigh d ds (hex_high d parts.0) (high_hex ds parts.1)
 
-pub mask_value : (ds : List ℕ) → 0 < length ds → length ds ≤ 8 → list_all (λ b. is_digit b 16) ds ≡ true → mask_of_word ds ≡ Ok (digits_value 16 ds)
+pub mask_value : (ds : List ℕ) → 0 < length ds → length ds ≤ 8 → list_all (λ b. is_digit b 16) ds ≡ true
+    → mask_of_word ds ≡ Ok (digits_value 16 ds)
 mask_value ds some few all =
     let low : nat_le 1 (length ds) ≡ true = grind (arith, nat_tests) in
     let high : nat_le (length ds) 8 ≡ true = grind (arith, nat_tests) in
@@ -137,7 +142,8 @@ index_value text n len h =
     ∙ ap (λ t. cond t (Some (digits_value 10 ds)) None) fits ∙ ap Some (sym h.value)
 
 -- two such numbers with a colon between them
-pub handle_front : (line colon digits behind rest : List ℕ) (w f slot generation : ℕ) → colon ≡ drop w line → 1 ≤ length colon → get_or colon 0 0 ≡ 58
+pub handle_front : (line colon digits behind rest : List ℕ) (w f slot generation : ℕ) → colon ≡ drop w line → 1 ≤ length colon
+    → get_or colon 0 0 ≡ 58
     → digits ≡ take (length colon - 1) (drop 1 colon) → IsIndexFront line slot w → IsIndexFront digits generation f
     → behind ≡ drop f digits → prefix_len in_word behind ≡ 0 → words rest ≡ words behind
     → Leads handle_at 1 line (record { slot = slot; generation = generation }) rest
@@ -173,7 +179,8 @@ abbrev pub bytes_at : List ℕ → ℕ → List ℕ → Type 0
 bytes_at text n [] = Unit {0}
 bytes_at text n (b ∷ bs) = (get_or text n 0 ≡ b) × bytes_at text (suc n) bs
 
-bytes_cut : (text name : List ℕ) (n : ℕ) → n + length name ≤ length text → bytes_at text n name → drop n text ≡ name ++ drop (n + length name) text
+bytes_cut : (text name : List ℕ) (n : ℕ) → n + length name ≤ length text → bytes_at text n name
+    → drop n text ≡ name ++ drop (n + length name) text
 bytes_cut text [] n inside h = ap (λ k. drop k text) (let same : n ≡ n + 0 = omega arith in same)
 bytes_cut text (b ∷ bs) n inside h =
     drop-cons text n 0 (omega arith) ∙ ap (λ x. x ∷ drop (suc n) text) h.0 ∙ ap (λ xs. b ∷ xs) (bytes_cut text bs (suc n) (omega arith) h.1)
@@ -204,13 +211,17 @@ verb_words line rest name some high inside bytes is ends =
     first_word line rest rest (length name) some inside (subst P (sym front) (high_name name high)) (sym left) ends refl
     ∙ ap (λ w. w ∷ words rest) front
 
-pub verb_line : (line rest name : List ℕ) (v : Verb) (read : List (List ℕ) → Result Command LineFault) (o : Option Command) → 0 < length name
-    → list_all (nat_le 36) name ≡ true → length name ≤ length line → bytes_at line 0 name → rest ≡ take (length line - length name) (drop (length name) line)
-    → verb_of name ≡ Some v → ((version : Version) (ws : List (List ℕ)) → further_of version v ws ≡ read ws)
-    → IfSome o (λ _. prefix_len in_word rest ≡ 0) → IfSome o (λ _. allows v (length (words rest)) ≡ true) → IfSome o (λ found. read (words rest) ≡ Ok found)
-    → IfSome o (λ found. (version : Version) → command version line ≡ Ok found)
+pub verb_line : (version : Version) (line rest name : List ℕ) (v : Verb) (read : List (List ℕ) → Result Command LineFault) (o : Option Command)
+    → 0 < length name
+    → list_all (nat_le 36) name ≡ true → length name ≤ length line → bytes_at line 0 name
+    → rest ≡ take (length line - length name) (drop (length name) line)
+    → verb_of name ≡ Some v → reaches (since v) version ≡ true → ((ws : List (List ℕ)) → further_of version v ws ≡ read ws)
+    → IfSome o (λ _. prefix_len in_word rest ≡ 0) → IfSome o (λ _. allows v (counted v version (words rest)) ≡ true)
+    → IfSome o (λ found. read (words rest) ≡ Ok found)
+    → IfSome o (λ found. command version line ≡ Ok found)
 unfolding command_of
-verb_line line rest name v read None some high inside bytes is named says ends allowed value = tt
-verb_line line rest name v read (Some found) some high inside bytes is named says ends allowed value = λ version.
+verb_line version line rest name v read None some high inside bytes is named has says ends allowed value = tt
+verb_line version line rest name v read (Some found) some high inside bytes is named has says ends allowed value =
     ap (command_of version) (verb_words line rest name some high inside bytes is ends) ∙ ap (λ o. by_verb version o (words rest)) named
-    ∙ ap (λ t. cond t (further_of version v (words rest)) (Err fault.Count)) allowed ∙ says version (words rest) ∙ value
+    ∙ ap (λ t. cond t (by_count version v (words rest)) (Err fault.Word)) has
+    ∙ ap (λ t. cond t (further_of version v (words rest)) (Err fault.Count)) allowed ∙ says (words rest) ∙ value

@@ -1,7 +1,8 @@
 -- Serves proofs alone: parts of a printed command, as the code puts them one after another.
-use Rattle.std.specs.Prelude.{ℕ, List, ◌∷◌, ◌++◌}
+use Rattle.std.specs.Prelude.{ℕ, ◌==◌, Bool, List, [], ◌∷◌, ◌++◌, codes, decimal, if◌then◌else◌}
 use Rattle.fixed_box.specs.Bounds.{Bounds}
 use Rattle.fixed_box.specs.Fix.{show}
+use Rattle.live_table.specs.declared.group.Group.{Group}
 use Rattle.live_table.specs.declared.masks.Masks.{Masks}
 use Rattle.ray_slabs.specs.Vector.{Vector, widened}
 use Rattle.scene_words.specs.Printed.{mask_text}
@@ -17,3 +18,15 @@ box_text b = point_text (widened b.lo) ++ point_text (widened b.hi)
 -- both masks, each after a space
 abbrev pub masks_text : Masks → List ℕ
 masks_text masks = 32 ∷ (mask_text masks.is ++ (32 ∷ mask_text masks.sees))
+
+-- a word after its space, where it is asked for
+abbrev pub flag_text : Bool → List ℕ → List ℕ
+flag_text flagged word = if flagged then word else []
+
+-- whose a box is, where somebody owns it
+abbrev pub owner_text : ℕ → List ℕ
+owner_text owner = if owner == 0 then [] else codes " owner" ++ 32 ∷ decimal owner
+
+-- that, and whether it is fixed
+abbrev pub group_text : Group → List ℕ
+group_text group = owner_text group.owner ++ flag_text group.fixed (codes " fixed")

@@ -1,14 +1,20 @@
-ghost use Rattle.std.specs.Prelude.{◌≡◌, ◌+◌, ◌≤◌, ◌<◌, ◌^◌, [], true, length, take, Ok, IfSome};
+ghost use Rattle.std.specs.Prelude.{◌≡◌, ◌+◌, ◌≤◌, ◌<◌, ◌^◌, [], true, length, take, Ok, Some, IfSome};
 ghost use Rattle.std.specs.Char.{is_digit};
 ghost use Rattle.std.specs.List.{prefix_len, list_all};
 ghost use Rattle.std.specs.Str.Parse.{digits_value};
-ghost use Rattle.scene_words.specs.Fronts.{Leads, in_word};
-ghost use Rattle.scene_words.specs.SceneWords.{words, number_at, point_at, handle_at, mask_at, mask_or};
+ghost use Rattle.scene_words.specs.Fronts.{Leads, in_word, label_said, group_said, owner_said, flag_said, entry_said};
+ghost use Rattle.scene_words.specs.SceneWords.{words, number_at, point_at, handle_at, mask_at, mask_or, want_at, labels_of, listing_of};
+ghost use Rattle.scene_words.specs.Ranges.{IsWanted};
+ghost use Rattle.scene_words.specs.Tails.{tail_of};
+ghost use Rattle.scene_words.specs.declared.verb.Verb.TheVariants as verb;
+ghost use Rattle.scene_words.specs.declared.version.Version.TheVariants.{Two};
 
+use crate::Version;
+use crate::line_commands::{EVERY_GROUP, FIRST_GROUP};
 use crate::line_words::{after_blanks, next_word};
-use crate::values::number_of_word;
+use crate::values::{mask_of_word, number_of_word, owner_of_word, want_of_word};
 use fixed_box::{Fix, Point};
-use live_table::Handle;
+use live_table::{Group, Handle, Masks};
 use number_front::{digits_ahead, fix_ahead, printed_fix_ahead};
 
 // The most digits of a mask.
@@ -120,6 +126,144 @@ pub(crate) fn mask_ahead(line: &[u8]) -> Option<(u32, &[u8])>
     }
     let rest = past_word(line.split_at(len).1)?;
     Some((mask, rest))
+}
+
+// How many boxes are wanted, and the line from the next word on.
+pub(crate) fn want_ahead(line: &[u8]) -> Option<(u32, &[u8])>
+    ensures want { IfSome result (λ found. Leads want_at 1 line.now found.0 found.1.now) }
+    ensures within { IfSome result (λ found. IsWanted found.0) }
+{
+    let (word, rest) = next_word(line)?;
+    match want_of_word(word) {
+        Ok(want) => Some((want, after_blanks(rest))),
+        Err(_) => None,
+    }
+}
+
+// A mask that may be left out before a word that is no mask, as well as at the end of a line.
+#[inline(always)]
+#[tactic(auto, using(crate::proofs::TailWords::label_read))]
+fn label_ahead(default: u32, line: &[u8]) -> Option<(u32, &[u8])>
+    ensures { IfSome result (λ found. label_said default (words line.now) ≡ (found.0, words found.1.now)) }
+{
+    if is_done(line) {
+        return Some((default, line));
+    }
+    let line = past_blanks(line);
+    match mask_ahead(line) {
+        Some(found) => Some(found),
+        None => left_out(default, line),
+    }
+}
+
+// The same of a mask that isn't there. The word stays.
+#[inline(never)]
+fn left_out(default: u32, line: &[u8]) -> Option<(u32, &[u8])>
+    ensures { IfSome result (λ found. label_said default (words line.now) ≡ (found.0, words found.1.now)) }
+{
+    let (word, _) = next_word(line)?;
+    match mask_of_word(word) {
+        Ok(_) => None,
+        Err(_) => Some((default, line)),
+    }
+}
+
+// The masks and the group of a new box, behind which the line ends.
+#[inline(always)]
+pub(crate) fn labels_ahead(version: Version, line: &[u8]) -> Option<(Masks, Group)>
+    ensures labels { IfSome result (λ found. labels_of (tail_of verb.Add version (words line.now)) ≡ Ok found) }
+    ensures few { IfSome result (λ _. length (tail_of verb.Add version (words line.now)).plain ≤ 2) }
+{
+    let (is, line) = label_ahead(FIRST_GROUP, line)?;
+    let (sees, line) = label_ahead(EVERY_GROUP, line)?;
+    let group = group_ahead(version, line)?;
+    Some((Masks { is, sees }, group))
+}
+
+// The group of a new box, behind which the line ends.
+#[inline(always)]
+fn group_ahead(version: Version, line: &[u8]) -> Option<Group>
+    ensures { IfSome result (λ group. group_said version (words line.now) ≡ Some group) }
+{
+    if is_done(line) {
+        return Some(Group {
+            owner: 0,
+            fixed: false,
+        });
+    }
+    match version {
+        Version::One => None,
+        Version::Two => named_group(line),
+    }
+}
+
+// The same where the line goes on.
+#[inline(never)]
+fn named_group(line: &[u8]) -> Option<Group>
+    ensures { IfSome result (λ group. group_said Two (words line.now) ≡ Some group) }
+{
+    let (word, rest) = next_word(line)?;
+    if word == b"fixed".as_slice() && is_done(rest) {
+        return Some(Group {
+            owner: 0,
+            fixed: true,
+        });
+    }
+    if word == b"owner".as_slice() {
+        return owner_ahead(rest);
+    }
+    None
+}
+
+// What stands behind `owner`.
+fn owner_ahead(line: &[u8]) -> Option<Group>
+    ensures { IfSome result (λ group. owner_said (words line.now) ≡ Some group) }
+{
+    let (word, rest) = next_word(line)?;
+    let Ok(owner) = owner_of_word(word) else {
+        return None;
+    };
+    let fixed = ends_with(b"fixed".as_slice(), rest)?;
+    Some(Group { owner, fixed })
+}
+
+// Whether a word is all that is left on a line. `None` comes where something else is left.
+fn ends_with(flag: &[u8], line: &[u8]) -> Option<bool>
+    ensures { IfSome result (λ flagged. flag_said flag.now (words line.now) ≡ Some flagged) }
+{
+    let Some((word, rest)) = next_word(line) else {
+        return Some(false);
+    };
+    if word == flag && is_done(rest) {
+        Some(true)
+    } else {
+        None
+    }
+}
+
+// The groups that a ray asks for, and whether it lists them by entry. Behind that the line ends.
+#[inline(always)]
+pub(crate) fn listing_ahead(version: Version, line: &[u8]) -> Option<(u32, bool)>
+    ensures listing { IfSome result (λ found. listing_of (tail_of verb.Ray version (words line.now)) ≡ Ok found) }
+    ensures few { IfSome result (λ _. length (tail_of verb.Ray version (words line.now)).plain ≤ 1) }
+{
+    let (mask, line) = label_ahead(EVERY_GROUP, line)?;
+    let entry = entry_ahead(version, line)?;
+    Some((mask, entry))
+}
+
+// Whether a ray lists by entry, behind which the line ends.
+#[inline(always)]
+fn entry_ahead(version: Version, line: &[u8]) -> Option<bool>
+    ensures { IfSome result (λ entry. entry_said version (words line.now) ≡ Some entry) }
+{
+    if is_done(line) {
+        return Some(false);
+    }
+    match version {
+        Version::One => None,
+        Version::Two => ends_with(b"entry".as_slice(), line),
+    }
 }
 
 // A mask that may be left out.

@@ -19,4 +19,5 @@ returns-clause-done c shows seed boxes count some few frames =
     let many = c.made_scene_laws.ensures.count seed boxes count in
     let product : count * (boxes + 7) ≤ 100 * 8199 = mul-le count (boxes + 7) 100 8199 frames (omega (arith, few)) in
     let short : length scene ≤ MOST_LINES = omega (arith, many, product, few) in
-    c.printed_scene_ends.ensures shows MOST_LINES scene short (c.made_scene_laws.ensures.in_range seed boxes count few frames) ok.0 ok.1
+    c.printed_scene_ends.ensures shows MOST_LINES scene short (c.made_scene_laws.ensures.in_range seed boxes count few frames)
+    (c.made_scene_laws.ensures.of_one seed boxes count) ok.0 ok.1
