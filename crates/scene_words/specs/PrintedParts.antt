@@ -1,11 +1,23 @@
 -- Serves proofs alone: parts of a printed command, as the code puts them one after another.
-use Rattle.std.specs.Prelude.{ℕ, ◌==◌, Bool, List, [], ◌∷◌, ◌++◌, codes, decimal, if◌then◌else◌}
+use Rattle.std.specs.Prelude.{ℕ, ◌==◌, Bool, true, false, List, [], ◌∷◌, ◌++◌, codes, decimal, if◌then◌else◌}
 use Rattle.fixed_box.specs.Bounds.{Bounds}
 use Rattle.fixed_box.specs.Fix.{show}
 use Rattle.live_table.specs.declared.group.Group.{Group}
 use Rattle.live_table.specs.declared.masks.Masks.{Masks}
 use Rattle.ray_slabs.specs.Vector.{Vector, widened}
+use Rattle.scene_words.specs.declared.command.Command.{Command}
+use Rattle.scene_words.specs.declared.command.Command.TheVariants.{BoxQ, PointQ, RayQ, SegQ, Cast, Near}
 use Rattle.scene_words.specs.Printed.{mask_text}
+
+-- whether a command asks for boxes
+abbrev pub asks : Command → Bool
+asks (BoxQ body mask) = true
+asks (PointQ at mask) = true
+asks (RayQ ray mask entry) = true
+asks (SegQ seg mask) = true
+asks (Cast cast mask) = true
+asks (Near at want mask) = true
+asks other = false
 
 -- three numbers, each after a space
 abbrev pub point_text : Vector → List ℕ

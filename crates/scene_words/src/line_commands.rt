@@ -25,7 +25,9 @@ pub(crate) const EVERY_GROUP: u32 = u32::MAX;
 // The group of a new box, where a line names none.
 pub(crate) const FIRST_GROUP: u32 = 1;
 
-/// Reads one line of a scene, without its end. Words are parted by spaces and tabs, and `#` begins a comment.
+/// Reads one line of a scene of a version, without its end. Words are parted by spaces and tabs, and `#` begins a comment.
+/// The headers of both versions are read under either. Version 2 has all commands; under it an `add` may end with `owner`
+/// and a number, then with `fixed`, and a `ray` with `entry`. These are taken off from the end before words are counted.
 ///
 /// The fault is the first one: `Header` of a line that begins with `scene`, then `Word`, then `Count`, then that of
 /// the first bad word from left to right, then `Inverted`. Masks that are left out name every group, but a new box
@@ -48,7 +50,8 @@ pub fn read_command(version: Version, line: &[u8]) -> Result<Command, LineFault>
     read_other(version, line)
 }
 
-// Reads any other line. It stands apart, so that the answer to those lines takes no detour by memory.
+// Reads any other line. It stands apart, since a move or an add is then answered from its parts, and no command is copied on
+// the way.
 #[inline(never)]
 fn read_other(version: Version, line: &[u8]) -> Result<Command, LineFault>
     ensures command { result ≡ command version line.now }

@@ -6,7 +6,7 @@ ghost use Rattle.scene_words.specs.declared.command.Command.{Command};
 ghost use Rattle.scene_words.specs.declared.version.Version.TheVariants.{One, Two};
 ghost use Rattle.scene_words.specs.SceneWords as scene;
 ghost use Rattle.scene_words.specs.Printed.{IsWord, printed, handle_text, mask_text, is_of_one};
-ghost use Rattle.scene_words.specs.PrintedParts.{point_text, box_text, masks_text, group_text, flag_text};
+ghost use Rattle.scene_words.specs.PrintedParts.{asks, point_text, box_text, masks_text, group_text, flag_text};
 ghost use Rattle.scene_words.specs.Ranges.{IsRaw, IsRawVector, IsRawBox, IsHandle, IsMasks, IsInRange, IsPrintable};
 ghost use Rattle.text_line.specs.declared.TheConstants.{ROOM};
 
@@ -89,6 +89,22 @@ fn put_words(command: &Command, line: &mut TextLine)
             put_handle(*handle, line);
         }
         Command::Frame => line.text(b"frame"),
+        Command::Mark => line.text(b"mark"),
+        Command::Back => line.text(b"back"),
+        _ => put_question(command, line),
+    }
+}
+
+// Puts the words of a command that asks for boxes.
+fn put_question(command: &Command, line: &mut TextLine)
+    requires start { line.old ≡ [] }
+    requires printable { IsPrintable command.now }
+    requires asks { asks command.now ≡ true }
+    ensures text { line.new ≡ printed command.now }
+    ensures length { length line.new < ROOM }
+    ensures in_range { IsInRange command.now }
+{
+    match command {
         Command::BoxQ { body, mask } => {
             line.text(b"box");
             put_box(body, line);
@@ -124,8 +140,7 @@ fn put_words(command: &Command, line: &mut TextLine)
             put_index(*want, line);
             put_mask(*mask, line);
         }
-        Command::Mark => line.text(b"mark"),
-        Command::Back => line.text(b"back"),
+        _ => unreachable!(),
     }
 }
 
