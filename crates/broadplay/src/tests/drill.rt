@@ -332,7 +332,7 @@ impl Applied {
     // Does what a command says.
     fn apply(&mut self, command: &Command) -> Result<(), NoMemory> {
         match command {
-            Command::Add { body, masks: _ } => self.add(body),
+            Command::Add { body, .. } => self.add(body),
             Command::Move { handle, body } => self.shift(handle.slot, body),
             Command::Remove { handle } => {
                 self.leave(handle.slot);
