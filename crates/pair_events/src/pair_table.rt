@@ -38,6 +38,13 @@ impl PairTable {
         }
     }
 
+    /// The pairs of the last frame.
+    pub fn last(&self) -> &[HPair]
+        ensures { result.now ≡ self.now }
+    {
+        &self.last
+    }
+
     /// Appends what the present pairs change, and keeps them: first each present pair, as it begins or stays, and then
     /// each former one that is over. The present pairs rise by their slots, each with its lower slot first. After an `Err`
     /// the table and `out` are as before, and `now` is dropped. It takes a step for each pair of both lists.

@@ -1,15 +1,15 @@
 ghost use Rattle.std.specs.Prelude.{◌≡◌, ◌+◌, ◌*◌, ◌<◌, ◌≤◌, ◌^◌, [], true, false, vec_len, OnOk, OnErr};
-ghost use Rattle.fixed_box.specs.declared.TheConstants.{SLOTS};
 ghost use Rattle.live_table.specs.Bodies.{bodies_of};
 ghost use Rattle.live_table.specs.Table.{IsTable, IsVacated, after_ungive, after_set_box, after_put_back};
 ghost use Rattle.world_marks.specs.Undone.{after_undo, IsLive, CanUndo, AreUndoable, IsOnTheWay};
 
 use crate::Undo;
-use broad_index::{BroadPhase, exchange_laws};
+use broad_index::BroadPhase;
 use fixed_box::{FBox, NoMemory};
 use live_table::{Handle, Live, LiveTable, Stale};
 
-// Undoes each change, the latest first. After an `Err` the index is spent, and the changes that remain are left.
+// Undoes each change, the latest first. After an `Err` the index is spent, and the changes that remain are left. Exchanges are
+// counted from 0 on at each step, so that however many steps there are, their number fits.
 pub(crate) fn undo_all<B: BroadPhase>(
     undos: &mut Vec<Undo>,
     index: &mut B,
@@ -18,8 +18,6 @@ pub(crate) fn undo_all<B: BroadPhase>(
     requires sound { B.spent index.old ≡ false }
     requires boxes { B.bodies index.old ≡ bodies_of table.old.entries }
     requires undoable { AreUndoable undos.old.items table.old }
-    requires few { vec_len undos.old < 2 ^ 28 }
-    requires countable { B.COUNTS ≡ true → B.exchanges index.old ≤ 2 ^ 62 }
     ensures all { OnOk result (undos.new.items ≡ []) }
     ensures way { IsOnTheWay undos.old.items undos.new.items table.old table.new }
     ensures table { IsTable table.new }
@@ -29,6 +27,7 @@ pub(crate) fn undo_all<B: BroadPhase>(
 {
     let _live = table.len();
     'undone: while let Some(undo) = undos.pop() {
+        index.clear_exchanges();
         undo_one(&undo, index, table)?;
     }
     Ok(())
@@ -44,12 +43,11 @@ fn undo_one<B: BroadPhase>(
     requires boxes { B.bodies index.old ≡ bodies_of table.old.entries }
     requires table { IsTable table.old }
     requires can { CanUndo undo.now table.old }
-    requires countable { B.COUNTS ≡ true → B.exchanges index.old ≤ 2 ^ 63 }
+    requires countable { B.exchanges index.old ≡ 0 }
     ensures after { table.new ≡ after_undo table.old undo.now }
     ensures table { IsTable table.new }
     ensures sound { OnOk result (B.spent index.new ≡ false) }
     ensures boxes { OnOk result (B.bodies index.new ≡ bodies_of table.new.entries) }
-    ensures counted { B.COUNTS ≡ true → OnOk result (B.exchanges index.new ≤ B.exchanges index.old + 12 * SLOTS) }
     ensures err { OnErr result (B.spent index.new ≡ true) }
 {
     match undo {
@@ -75,7 +73,6 @@ fn undo_give<B: BroadPhase>(handle: Handle, index: &mut B, table: &mut LiveTable
     ensures table { IsTable table.new }
     ensures sound { B.spent index.new ≡ false }
     ensures boxes { B.bodies index.new ≡ bodies_of table.new.entries }
-    ensures exchanges { B.exchanges index.new ≡ B.exchanges index.old }
 {
     table.ungive(handle);
     index.leave(handle.slot);
@@ -92,15 +89,13 @@ fn undo_move<B: BroadPhase>(
     requires boxes { B.bodies index.old ≡ bodies_of table.old.entries }
     requires table { IsTable table.old }
     requires live { IsLive handle table.old }
-    requires countable { B.COUNTS ≡ true → B.exchanges index.old ≤ 2 ^ 63 }
+    requires countable { B.exchanges index.old ≡ 0 }
     ensures after { table.new ≡ after_set_box table.old handle body }
     ensures table { IsTable table.new }
     ensures sound { OnOk result (B.spent index.new ≡ false) }
     ensures boxes { OnOk result (B.bodies index.new ≡ bodies_of table.new.entries) }
-    ensures counted { B.COUNTS ≡ true → OnOk result (B.exchanges index.new ≤ B.exchanges index.old + 12 * SLOTS) }
     ensures err { OnErr result (B.spent index.new ≡ true) }
 {
-    exchange_laws();
     let Ok(()) = table.set_box(handle, body) else {
         unreachable!()
     };
@@ -117,15 +112,13 @@ fn undo_take<B: BroadPhase>(
     requires boxes { B.bodies index.old ≡ bodies_of table.old.entries }
     requires table { IsTable table.old }
     requires vacated { IsVacated live.now table.old }
-    requires countable { B.COUNTS ≡ true → B.exchanges index.old ≤ 2 ^ 63 }
+    requires countable { B.exchanges index.old ≡ 0 }
     ensures after { table.new ≡ after_put_back table.old live.now }
     ensures table { IsTable table.new }
     ensures sound { OnOk result (B.spent index.new ≡ false) }
     ensures boxes { OnOk result (B.bodies index.new ≡ bodies_of table.new.entries) }
-    ensures counted { B.COUNTS ≡ true → OnOk result (B.exchanges index.new ≤ B.exchanges index.old + 12 * SLOTS) }
     ensures err { OnErr result (B.spent index.new ≡ true) }
 {
-    exchange_laws();
     table.put_back(*live);
     index.add(live.handle.slot, live.body)
 }

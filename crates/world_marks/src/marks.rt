@@ -133,6 +133,7 @@ impl Marks {
 
     /// Goes back to the newest mark, which is no longer held then. `None` comes where no mark is held.
     ///
+    /// The index counts its exchanges anew on the way, so that nothing is said of their number afterwards.
     /// After an `Err` the index is spent, the latest changes are undone in the table, and the newest mark has those that
     /// remain.
     pub fn back<B: BroadPhase>(
@@ -144,8 +145,6 @@ impl Marks {
         requires sound { B.spent index.old ≡ false }
         requires boxes { B.bodies index.old ≡ bodies_of table.old.entries }
         requires newest { (older : List Mark) (mark : Mark) → self.old.marks ≡ older ++ mark ∷ [] → IsReturn mark table.old }
-        requires few { (older : List Mark) (mark : Mark) → self.old.marks ≡ older ++ mark ∷ [] → length mark.undos < 2 ^ 28 }
-        requires countable { B.COUNTS ≡ true → B.exchanges index.old ≤ 2 ^ 62 }
         ensures none { (result ≡ Ok None) ↔ (self.old.marks ≡ []) }
         ensures same { result ≡ Ok None → (self.new ≡ self.old) × (index.new ≡ index.old) × (table.new ≡ table.old) × (pairs.new ≡ pairs.old) }
         ensures gone_back { (older : List Mark) (mark : Mark) → self.old.marks ≡ older ++ mark ∷ [] → IfOk result (λ restored. IsBack older mark restored self.new.marks table.old table.new pairs.old pairs.new) }
