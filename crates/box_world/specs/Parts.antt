@@ -1,0 +1,70 @@
+-- Serves proofs alone: the parts that a world keeps, as the world and the marked worlds that they stand for.
+use Rattle.std.specs.Prelude.{◌≡◌, ℕ, ◌+◌, ◌^◌, ◌<◌, Bool, true, false, List, [], ◌∷◌, reverse, Option, None, Some, is_some}
+use Rattle.std.specs.Ordering.{nat_cmp}
+use Rattle.std.specs.FinMap.{FinMap}
+use Rattle.fixed_box.specs.Bounds.{Bounds}
+use Rattle.live_table.specs.declared.live.Live.{Live}
+use Rattle.live_table.specs.Bodies.{bodies_of}
+use Rattle.live_table.specs.Table.{Table, IsTable}
+use Rattle.world_marks.specs.Marks.{Mark, IsReturn, or_kept}
+use Rattle.world_marks.specs.Undone.{undone}
+use Rattle.box_world.specs.declared.parts.Parts.{Parts}
+use Rattle.box_world.specs.declared.refusal.Refusal.{Refusal}
+use Rattle.box_world.specs.declared.refusal.Refusal.TheVariants.{Stale, Full, Exhausted, NoMemory}
+use Rattle.box_world.specs.World.{World, Timeline}
+use Rattle.box_world.specs.Answers.{State}
+
+-- the world that a mark leads back to from this one
+abbrev pub marked_world : World → Mark → World
+marked_world w m = record { table = undone m.undos w.table; last = or_kept m.kept w.last; frames = m.frames; exchanges = m.exchanges }
+
+-- the worlds of marks, the newest first: each mark leads to its own from that of the next newer one
+abbrev pub worlds_back : World → List Mark → List World
+worlds_back w [] = []
+worlds_back w (m ∷ older) = marked_world w m ∷ worlds_back (marked_world w m) older
+
+-- each mark, the newest first, can be gone back to from the table of the next newer one
+abbrev pub CanReturn : Table → List Mark → Type 0
+CanReturn t [] = Unit {0}
+CanReturn t (m ∷ older) = IsReturn m t × CanReturn (undone m.undos t) older
+
+-- the world and its marks, which are kept the newest last
+abbrev pub timeline : World → List Mark → Timeline
+timeline w marks = record { now = w; marks = worlds_back w (reverse marks) }
+
+-- the exchanges are those of the index and those before it was last cleared on a way back
+abbrev pub world_in : {B : Type 0} → (B → ℕ) → Parts B → World
+world_in exchanges p = record { table = p.table; last = p.pair_table; frames = p.frames; exchanges = p.earlier + exchanges p.index }
+
+abbrev pub timeline_in : {B : Type 0} → (B → ℕ) → Parts B → Timeline
+timeline_in exchanges p = timeline (world_in exchanges p) p.marks.marks
+
+abbrev pub state_in : {B : Type 0} → (B → ℕ) → Bool → Parts B → State
+state_in exchanges spent p = record { time = timeline_in exchanges p; told = p.events.items; spent = spent }
+
+-- What holds while memory hasn't run out in a change: the index has the live boxes, there is a way back to each mark, and the
+-- exchanges fit 64 bits.
+pub record IsSound {B : Type 0} (bodies : B → FinMap nat_cmp Bounds) (spent : B → Bool) (exchanges : B → ℕ) (p : Parts B) : Type 0 where
+  pub sound : spent p.index ≡ false
+  pub boxes : bodies p.index ≡ bodies_of p.table.entries
+  pub table : IsTable p.table
+  pub returns : CanReturn p.table (reverse p.marks.marks)
+  pub counted : p.earlier + exchanges p.index < 2 ^ 64
+
+-- The parts stand for this world, with the same marks and events.
+pub record IsChanged {B : Type 0} (bodies : B → FinMap nat_cmp Bounds) (spent : B → Bool) (exchanges : B → ℕ) (w : World) (old new : Parts B) : Type 0 where
+  pub time : timeline_in exchanges new ≡ record (timeline_in exchanges old) { now = w }
+  pub events : new.events ≡ old.events
+  pub kept : IsSound bodies spent exchanges new
+
+-- What is to be noted of a handle's box before a change: nothing where no mark is held, and else the box as it is.
+abbrev pub IsToNote : List Mark → Option Live → ℕ → Option Live → Type 0
+IsToNote marks found spare None = marks ≡ []
+IsToNote marks found spare (Some live) = (found ≡ Some live) × (0 < spare)
+
+-- why a handle's box isn't changed, by the box that has the handle
+abbrev pub Explains : Option Live → Refusal → Type 0
+Explains found Stale = found ≡ None
+Explains found NoMemory = is_some found ≡ true
+Explains found Full = ⊥
+Explains found Exhausted = ⊥

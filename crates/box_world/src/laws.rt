@@ -1,0 +1,19 @@
+ghost use Rattle.std.specs.Prelude.{◌≡◌, ◌≢◌, ◌↔◌, ◌^◌, Option, Some, Result, Err, false};
+ghost use Rattle.box_world.specs.declared.TheConstants.{MOST_COUNTED, MOST_EXCHANGES};
+ghost use Rattle.box_world.specs.declared.refusal.Refusal.{Refusal};
+ghost use Rattle.box_world.specs.declared.refusal.Refusal.TheVariants.{NoMemory};
+ghost use Rattle.box_world.specs.Answers.{Answers, State};
+
+/// A law for proofs, with nothing to run: with other ends of counting this crate has no proof.
+pub fn count_law()
+    ensures counted { MOST_COUNTED ≡ 4294967295 }
+    ensures exchanges { MOST_EXCHANGES ≡ 2 ^ 62 }
+{}
+
+/// A law of answers for proofs, with nothing to run: a call is refused for a cause other than want of memory exactly where the
+/// world isn't spent and that cause stands.
+pub fn answer_law<A>()
+    ensures { (cause : Option Refusal) (refusal : Refusal) (result : Result A Refusal) (after old new : State) → refusal ≢ NoMemory
+        → cause ≢ Some NoMemory → Answers cause after result old new
+        → (result ≡ Err refusal) ↔ ((old.spent ≡ false) × (cause ≡ Some refusal)) }
+{}

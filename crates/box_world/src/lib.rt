@@ -1,0 +1,21 @@
+//! A world of live boxes under handles, over any broad phase: an engine owns one, and no call asks for anything that a caller
+//! could get wrong.
+#![tactic(auto)]
+
+mod laws;
+mod noting;
+mod parts;
+mod reading;
+mod refusal;
+mod world;
+
+pub use laws::{answer_law, count_law};
+pub use refusal::Refusal;
+pub use world::BoxWorld;
+
+/// Up to this number the boxes that were ever given are counted, and the frames.
+pub const MOST_COUNTED: u32 = u32::MAX;
+
+/// Where more exchanges were counted than this, no box comes or moves before the next frame. One change counts some 98,000 at
+/// most, so that their number always fits 64 bits.
+pub const MOST_EXCHANGES: u64 = 1 << 62;

@@ -1,0 +1,253 @@
+ghost use Rattle.std.specs.Prelude.{◌≡◌, ◌≢◌, ◌≤◌, ◌<◌, ◌↔◌, ◌+◌, ◌^◌, ◌++◌, [], true, false, length, sum, nat_lt, is_some, None, IfOk, IfErr, OnOk, OnErr, Ok, Err};
+ghost use Rattle.fixed_box.specs.declared.TheConstants.{SLOTS};
+ghost use Rattle.live_table.specs.Entries.{entry_at};
+ghost use Rattle.box_world.specs.declared.TheConstants.{MOST_COUNTED, MOST_EXCHANGES};
+
+use crate::{MOST_EXCHANGES, Refusal};
+use broad_index::{BroadPhase, Pair, exchange_laws};
+use fixed_box::{FBox, NoMemory};
+use live_queries::{pairs_law, push_pairs};
+use live_table::{Full, Group, Handle, Live, LiveTable, Masks, undo_laws};
+use pair_events::{PairTable, Told};
+use std::alloc::Global;
+use std::mem;
+use world_marks::{Marks, Restored, Undo, undone_laws};
+
+// What a world keeps in step: the live boxes, an index that has them, the last pairs, and the marks with the way back to each.
+#[derive(Drop)]
+pub(crate) struct Parts<B: Drop> {
+    pub alloc: Global,
+    pub index: B,
+    pub table: LiveTable,
+    pub pair_table: PairTable,
+    pub marks: Marks,
+    pub frames: u32,
+    // The exchanges of the world before the index was last cleared on a way back.
+    pub earlier: u64,
+    pub events: Vec<Told>,
+    // Room, kept from call to call.
+    pub next_events: Vec<Told>,
+    pub pairs: Vec<Pair>,
+    pub slots: Vec<u32>,
+}
+
+impl<B: BroadPhase + Drop> Parts<B> {
+    ghost use Rattle.broad_index.specs.Fresh.{IsFresh};
+    ghost use Rattle.broad_index.specs.Near.{near};
+    ghost use Rattle.live_table.specs.Bodies.{bodies_of};
+    ghost use Rattle.live_table.specs.Table.{IsTable, next_handle};
+    ghost use Rattle.live_queries.specs.Pairs.{pairs_of};
+    ghost use Rattle.pair_events.specs.PairEvents.{events};
+    ghost use Rattle.world_marks.specs.declared.TheConstants.{MOST_MARKS};
+    ghost use Rattle.box_world.specs.declared.refusal.Refusal.TheVariants.{Stale};
+    ghost use Rattle.box_world.specs.World.{beginning, added, moved, masked, removed, framed, marked, gone_back};
+    ghost use Rattle.box_world.specs.Answers.{is_counted_out};
+    ghost use Rattle.box_world.specs.Parts.{world_in, timeline_in, IsSound, IsChanged, IsToNote, Explains};
+
+    // The opening world.
+    pub(crate) fn new(alloc: Global, index: B) -> Result<Parts<B>, NoMemory>
+        requires { IsFresh (B.bodies index) (B.spent index) (B.exchanges index) }
+        ensures opening { IfOk result (λ parts. timeline_in B.exchanges parts ≡ beginning) }
+        ensures events { IfOk result (λ parts. parts.events.items ≡ []) }
+        ensures sound { IfOk result (IsSound B.bodies B.spent B.exchanges) }
+    {
+        let table = LiveTable::new(alloc)?;
+        let marks = Marks::new(alloc)?;
+        Ok(Parts {
+            alloc,
+            index,
+            table,
+            pair_table: PairTable::new(alloc),
+            marks,
+            frames: 0,
+            earlier: 0,
+            events: Vec::new(alloc),
+            next_events: Vec::new(alloc),
+            pairs: Vec::new(alloc),
+            slots: Vec::new(alloc),
+        })
+    }
+
+    // The exchanges since the last frame of the world.
+    pub(crate) fn exchanges(&self) -> u64
+        requires sound { IsSound B.bodies B.spent B.exchanges self.now }
+        ensures { result ≡ self.now.earlier + B.exchanges self.now.index }
+    {
+        self.earlier + self.index.exchanges()
+    }
+
+    // Whether no more exchanges are counted.
+    pub(crate) fn is_counted_out(&self) -> bool
+        requires sound { IsSound B.bodies B.spent B.exchanges self.now }
+        ensures { result ≡ is_counted_out (world_in B.exchanges self.now) }
+    {
+        self.exchanges() > MOST_EXCHANGES
+    }
+
+    // A new box under the least free slot. There is room to note it.
+    pub(crate) fn add(&mut self, body: FBox, masks: Masks, group: Group) -> Result<Handle, NoMemory>
+        requires sound { IsSound B.bodies B.spent B.exchanges self.old }
+        requires free { length self.old.table.entries < SLOTS }
+        requires gives { sum self.old.table.gives < MOST_COUNTED }
+        requires countable { self.old.earlier + B.exchanges self.old.index ≤ MOST_EXCHANGES }
+        requires room { 0 < self.old.marks.spare }
+        ensures handle { IfOk result (λ handle. handle ≡ next_handle self.old.table) }
+        ensures added { OnOk result (IsChanged B.bodies B.spent B.exchanges (added B.COUNTS (world_in B.exchanges self.old) body masks group) self.old self.new) }
+    {
+        undo_laws();
+        undone_laws();
+        exchange_laws();
+        match self.table.give(body, masks, group) {
+            Ok(handle) => {
+                self.index.add(handle.slot, body)?;
+                self.marks.note(Undo::Given { handle });
+                Ok(handle)
+            }
+            Err(Full) => unreachable!(),
+        }
+    }
+
+    // The handle's box gets another body. Where a mark is held, `before` is the box as it was, and there is room to note it.
+    pub(crate) fn shift(
+        &mut self,
+        handle: Handle,
+        body: FBox,
+        before: Option<Live>,
+    ) -> Result<(), Refusal>
+        requires sound { IsSound B.bodies B.spent B.exchanges self.old }
+        requires countable { self.old.earlier + B.exchanges self.old.index ≤ MOST_EXCHANGES }
+        requires before { IsToNote self.old.marks.marks (entry_at handle self.old.table.entries) self.old.marks.spare before }
+        ensures moved { OnOk result (IsChanged B.bodies B.spent B.exchanges (moved B.COUNTS (world_in B.exchanges self.old) handle body) self.old self.new) }
+        ensures live { OnOk result (is_some (entry_at handle self.old.table.entries) ≡ true) }
+        ensures err { IfErr result (Explains (entry_at handle self.old.table.entries)) }
+        ensures same { result ≡ Err Stale → self.new ≡ self.old }
+    {
+        undo_laws();
+        undone_laws();
+        exchange_laws();
+        self.table.set_box(handle, body)?;
+        self.index.shift(handle.slot, body)?;
+        if let Some(live) = before {
+            self.marks.note(Undo::Moved {
+                handle,
+                body: live.body,
+            });
+        }
+        Ok(())
+    }
+
+    // The handle's box gets other masks. Where a mark is held, `before` is the box as it was, and there is room to note it.
+    pub(crate) fn mask(
+        &mut self,
+        handle: Handle,
+        masks: Masks,
+        before: Option<Live>,
+    ) -> Result<(), Refusal>
+        requires sound { IsSound B.bodies B.spent B.exchanges self.old }
+        requires before { IsToNote self.old.marks.marks (entry_at handle self.old.table.entries) self.old.marks.spare before }
+        ensures masked { OnOk result (IsChanged B.bodies B.spent B.exchanges (masked (world_in B.exchanges self.old) handle masks) self.old self.new) }
+        ensures live { OnOk result (is_some (entry_at handle self.old.table.entries) ≡ true) }
+        ensures err { OnErr result (self.new ≡ self.old) }
+        ensures stale { IfErr result (λ refusal. (refusal ≡ Stale) × (entry_at handle self.old.table.entries ≡ None)) }
+    {
+        undo_laws();
+        undone_laws();
+        self.table.set_masks(handle, masks)?;
+        if let Some(live) = before {
+            self.marks.note(Undo::Masked {
+                handle,
+                masks: live.masks,
+            });
+        }
+        Ok(())
+    }
+
+    // The handle's box goes. Where a mark is held, `before` is the box as it was, and there is room to note it.
+    pub(crate) fn remove(&mut self, handle: Handle, before: Option<Live>) -> Result<(), Refusal>
+        requires sound { IsSound B.bodies B.spent B.exchanges self.old }
+        requires before { IsToNote self.old.marks.marks (entry_at handle self.old.table.entries) self.old.marks.spare before }
+        ensures removed { OnOk result (IsChanged B.bodies B.spent B.exchanges (removed (world_in B.exchanges self.old) handle) self.old self.new) }
+        ensures live { OnOk result (is_some (entry_at handle self.old.table.entries) ≡ true) }
+        ensures err { OnErr result (self.new ≡ self.old) }
+        ensures stale { IfErr result (λ refusal. (refusal ≡ Stale) × (entry_at handle self.old.table.entries ≡ None)) }
+    {
+        undo_laws();
+        undone_laws();
+        self.table.take(handle)?;
+        self.index.leave(handle.slot);
+        if let Some(live) = before {
+            self.marks.note(Undo::Taken { live });
+        }
+        Ok(())
+    }
+
+    // The frame ends, whose pairs of slots these are in `pairs`: its pairs, and what became of each since the last one. Answers
+    // how many there are. After an `Err` all but `next_events` is as before.
+    pub(crate) fn end_frame(&mut self) -> Result<u32, NoMemory>
+        requires sound { IsSound B.bodies B.spent B.exchanges self.old }
+        requires pairs { self.old.pairs.items ≡ near (bodies_of self.old.table.entries) }
+        requires frames { self.old.frames < MOST_COUNTED }
+        ensures count { IfOk result (λ count. count ≡ length (pairs_of self.old.table.entries)) }
+        ensures time { OnOk result (timeline_in B.exchanges self.new ≡ record (timeline_in B.exchanges self.old) { now = framed (world_in B.exchanges self.old) }) }
+        ensures events { OnOk result (self.new.events.items ≡ events self.old.pair_table (pairs_of self.old.table.entries)) }
+        ensures sound { OnOk result (IsSound B.bodies B.spent B.exchanges self.new) }
+        ensures err { OnErr result ((timeline_in B.exchanges self.new ≡ timeline_in B.exchanges self.old) × (self.new.events ≡ self.old.events)
+            × IsSound B.bodies B.spent B.exchanges self.new) }
+    {
+        pairs_law();
+        let mut now = Vec::new(self.alloc);
+        push_pairs(&self.table, &self.pairs, &mut now)?;
+        let count = now.len() as u32;
+        self.next_events.clear();
+        let former = self.pair_table.turn_keep(now, &mut self.next_events)?;
+        mem::swap(&mut self.events, &mut self.next_events);
+        self.marks.keep(former);
+        self.index.clear_exchanges();
+        self.earlier = 0;
+        self.frames += 1;
+        Ok(count)
+    }
+
+    // Marks the world. False where no more marks may be held.
+    pub(crate) fn mark(&mut self) -> bool
+        requires sound { IsSound B.bodies B.spent B.exchanges self.old }
+        ensures held { result ≡ nat_lt (length (timeline_in B.exchanges self.old).marks) MOST_MARKS }
+        ensures marked { timeline_in B.exchanges self.new ≡ marked (timeline_in B.exchanges self.old) }
+        ensures events { self.new.events ≡ self.old.events }
+        ensures sound { IsSound B.bodies B.spent B.exchanges self.new }
+    {
+        let exchanges = self.exchanges();
+        self.marks.mark(self.frames, exchanges)
+    }
+
+    // Goes back to the newest mark. False where none is held. After an `Err` the index is spent.
+    pub(crate) fn back(&mut self) -> Result<bool, NoMemory>
+        requires sound { IsSound B.bodies B.spent B.exchanges self.old }
+        ensures held { IfOk result (λ went. went ≡ nat_lt 0 (length (timeline_in B.exchanges self.old).marks)) }
+        ensures back { OnOk result (timeline_in B.exchanges self.new ≡ gone_back (timeline_in B.exchanges self.old)) }
+        ensures events { self.new.events ≡ self.old.events }
+        ensures sound { OnOk result (IsSound B.bodies B.spent B.exchanges self.new) }
+    {
+        let Some(Restored { frames, exchanges }) = self
+            .marks
+            .back(&mut self.index, &mut self.table, &mut self.pair_table)?
+        else {
+            return Ok(false);
+        };
+        self.earlier = count_from(exchanges, &mut self.index);
+        self.frames = frames;
+        Ok(true)
+    }
+}
+
+// Has an index count anew, so that exchanges are counted from this number on, which is the answer.
+fn count_from<B: BroadPhase>(earlier: u64, index: &mut B) -> u64
+    ensures earlier { result ≡ earlier }
+    ensures fits { result < 2 ^ 64 }
+    ensures cleared { B.spent index.old ≡ false → B.exchanges index.new ≡ 0 }
+    ensures bodies { B.bodies index.new ≡ B.bodies index.old }
+    ensures spent { B.spent index.new ≡ B.spent index.old }
+{
+    index.clear_exchanges();
+    earlier
+}

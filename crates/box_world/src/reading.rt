@@ -1,0 +1,184 @@
+ghost use Rattle.std.specs.Prelude.{◌≡◌, ◌++◌, true, false, length, min, OnOk, OnErr};
+ghost use Rattle.fixed_box.specs.declared.TheConstants.{SLOTS};
+ghost use Rattle.live_table.specs.Bodies.{bodies_of};
+ghost use Rattle.live_table.specs.Entries.{entry_at};
+ghost use Rattle.live_table.specs.Table.{IsTable};
+ghost use Rattle.live_queries.specs.Pairs.{hits_of};
+ghost use Rattle.live_queries.specs.Queries.{entered_of, cast_of, nearest_to};
+
+use crate::BoxWorld;
+use box_cast::Cast;
+use broad_index::{BroadPhase, Query};
+use fixed_box::{NoMemory, SLOTS};
+use live_queries::{NearQuery, push_cast, push_entered, push_hits, push_nearest};
+use live_table::{Handle, Live, LiveTable};
+use pair_events::{HPair, Told};
+use ray_slabs::Ray;
+
+impl<B: BroadPhase + Drop> BoxWorld<B> {
+    /// The live box with the handle, and `None` where no live box has it. It is one look-up.
+    pub fn get(&self, handle: Handle) -> Option<Live>
+        ensures { result ≡ entry_at handle self.now.time.now.table.entries }
+    {
+        self.parts.table.find(handle).ok()
+    }
+
+    /// The number of live boxes.
+    pub fn len(&self) -> u32
+        ensures { result ≡ length self.now.time.now.table.entries }
+    {
+        self.parts.table.len()
+    }
+
+    /// The number of frames that have ended. A way back lowers it to what it was at the mark.
+    pub fn frames(&self) -> u32
+        ensures { result ≡ self.now.time.now.frames }
+    {
+        self.parts.frames
+    }
+
+    /// The exchanges of endpoints since the last frame, and 0 where the index doesn't count them and in a spent world.
+    pub fn exchanges(&self) -> u64
+        ensures sound { self.now.spent ≡ false → result ≡ self.now.time.now.exchanges }
+        ensures spent { self.now.spent ≡ true → result ≡ 0 }
+    {
+        if self.spent {
+            return 0;
+        }
+        self.parts.exchanges()
+    }
+
+    /// The number of marks that are held.
+    #[tactic(auto, using(crate::proofs::Marked::marks_as_worlds))]
+    pub fn held(&self) -> u32
+        ensures { result ≡ length self.now.time.marks }
+    {
+        self.parts.marks.held()
+    }
+
+    /// What was told of the last frame that ended: each pair of it, as it began or stayed, and then each pair that was over.
+    pub fn events(&self) -> &[Told]
+        ensures { result.now ≡ self.now.told }
+    {
+        &self.parts.events
+    }
+
+    /// The pairs of the last frame, by the slots of their boxes then. After a way back they are those of the last frame before
+    /// the mark.
+    pub fn pairs(&self) -> &[HPair]
+        ensures { result.now ≡ self.now.time.now.last }
+    {
+        self.parts.pair_table.last()
+    }
+
+    /// The index, for queries that the caller asks it, several threads among them. While the world isn't spent it has the live
+    /// boxes.
+    pub fn index(&self) -> &B
+        ensures sound { self.now.spent ≡ false → B.spent result.now ≡ false }
+        ensures boxes { self.now.spent ≡ false → B.bodies result.now ≡ bodies_of self.now.time.now.table.entries }
+    {
+        &self.parts.index
+    }
+
+    /// The table of live boxes, beside `index`.
+    pub fn table(&self) -> &LiveTable
+        ensures same { result.now ≡ self.now.time.now.table }
+        ensures table { IsTable result.now }
+    {
+        let _live = self.parts.table.len();
+        &self.parts.table
+    }
+
+    /// Appends the handles of the live boxes that meet a query and are in one of the groups that `mask` has, by their slots.
+    /// After an `Err` `out` is as before. A spent world answers want of memory, here and in the queries below.
+    pub fn hits(&mut self, query: &Query, mask: u32, out: &mut Vec<Handle>) -> Result<(), NoMemory>
+        ensures sound { OnOk result (self.old.spent ≡ false) }
+        ensures ok { OnOk result (out.new.items ≡ out.old.items ++ hits_of self.old.time.now.table.entries query.now mask) }
+        ensures err { OnErr result (out.new.items ≡ out.old.items) }
+        ensures same { self.new ≡ self.old }
+    {
+        if self.spent {
+            return Err(NoMemory);
+        }
+        self.parts.slots.clear();
+        self.parts.index.hits(query, &mut self.parts.slots)?;
+        push_hits(&self.parts.table, query, mask, &self.parts.slots, out)
+    }
+
+    /// Appends the handles of the live boxes that a ray meets, of the groups that `mask` has, in the order in which it first
+    /// meets them; those that it meets at one place come by their slots. After an `Err` `out` is as before.
+    pub fn entered(&mut self, ray: &Ray, mask: u32, out: &mut Vec<Handle>) -> Result<(), NoMemory>
+        ensures sound { OnOk result (self.old.spent ≡ false) }
+        ensures ok { OnOk result (out.new.items ≡ out.old.items ++ entered_of self.old.time.now.table.entries ray.now mask) }
+        ensures err { OnErr result (out.new.items ≡ out.old.items) }
+        ensures same { self.new ≡ self.old }
+    {
+        if self.spent {
+            return Err(NoMemory);
+        }
+        self.parts.slots.clear();
+        let along = Query::Along(*ray);
+        self.parts.index.hits(&along, &mut self.parts.slots)?;
+        push_entered(
+            self.parts.alloc,
+            &self.parts.table,
+            ray,
+            mask,
+            &self.parts.slots,
+            out,
+        )
+    }
+
+    /// Appends the handles of the live boxes that a box which is cast meets on its way, of the groups that `mask` has, in the
+    /// order in which it first meets them; those that it meets at one place come by their slots. After an `Err` `out` is as
+    /// before.
+    pub fn cast(&mut self, cast: &Cast, mask: u32, out: &mut Vec<Handle>) -> Result<(), NoMemory>
+        ensures sound { OnOk result (self.old.spent ≡ false) }
+        ensures ok { OnOk result (out.new.items ≡ out.old.items ++ cast_of self.old.time.now.table.entries cast.now mask) }
+        ensures err { OnErr result (out.new.items ≡ out.old.items) }
+        ensures same { self.new ≡ self.old }
+    {
+        if self.spent {
+            return Err(NoMemory);
+        }
+        self.parts.slots.clear();
+        let hull = Query::Region(cast.hull());
+        self.parts.index.hits(&hull, &mut self.parts.slots)?;
+        push_cast(
+            self.parts.alloc,
+            &self.parts.table,
+            cast,
+            mask,
+            &self.parts.slots,
+            out,
+        )
+    }
+
+    /// Appends the handles of the live boxes that are nearest to a point, of the groups that the query's mask has: at most as
+    /// many as it wants and at most `SLOTS`, in rising order of the square of their distance and then of their slot. After an
+    /// `Err` `out` is as before.
+    pub fn nearest(&self, query: &NearQuery, out: &mut Vec<Handle>) -> Result<(), NoMemory>
+        ensures sound { OnOk result (self.now.spent ≡ false) }
+        ensures ok { OnOk result (out.new.items ≡ out.old.items
+            ++ nearest_to self.now.time.now.table.entries query.now.at (min query.now.want SLOTS) query.now.mask) }
+        ensures err { OnErr result (out.new.items ≡ out.old.items) }
+    {
+        if self.spent {
+            return Err(NoMemory);
+        }
+        if query.want == 0 {
+            return Ok(());
+        }
+        let wanted = NearQuery {
+            want: query.want.min(SLOTS),
+            ..*query
+        };
+        push_nearest(
+            self.parts.alloc,
+            &self.parts.table,
+            &self.parts.index,
+            &wanted,
+            out,
+        )
+    }
+}

@@ -1,0 +1,208 @@
+ghost use Rattle.std.specs.Prelude.{◌≡◌, true, length, None, nat_lt, IfOk, OnErr};
+ghost use Rattle.live_table.specs.Table.{next_handle};
+ghost use Rattle.world_marks.specs.declared.TheConstants.{MOST_MARKS};
+ghost use Rattle.box_world.specs.World.{added, moved, masked, removed, marked, gone_back, pairs};
+ghost use Rattle.box_world.specs.Answers.{Answers, opened, with_world, with_time, after_frame};
+ghost use Rattle.box_world.specs.Answers.{add_refusal, shift_refusal, change_refusal, frame_refusal};
+
+use crate::noting::box_to_note;
+use crate::parts::Parts;
+use crate::{MOST_COUNTED, Refusal};
+use broad_index::{BroadPhase, Gate};
+use fixed_box::{FBox, NoMemory, SLOTS};
+use live_table::{Group, Handle, Masks, Stale};
+use std::alloc::Global;
+use std::marker::Model;
+use std::thread::Threads;
+use work_pieces::MOST_WORKERS;
+
+/// Live boxes under handles with an index that has the same boxes, the pairs of the last frame and what was told of it, and
+/// marks that can be gone back to.
+#[derive(Drop)]
+pub struct BoxWorld<B: BroadPhase + Drop> {
+    pub(crate) parts: Parts<B>,
+    // Whether memory ran out in a change, so that the index and the table may disagree.
+    pub(crate) spent: bool,
+}
+
+impl<B: BroadPhase + Drop> Model for BoxWorld<B> {
+    ghost use Rattle.std.specs.Prelude.{◌≡◌, false};
+    ghost use Rattle.box_world.specs.Answers.{State};
+
+    ghost Value = { State };
+
+    ghost use Rattle.box_world.specs.Parts.{state_in, IsSound};
+
+    ghost view = { λ w. state_in B.exchanges w.spent w.parts };
+
+    ghost invariant = { λ w. w.spent ≡ false → IsSound B.bodies B.spent B.exchanges w.parts };
+}
+
+impl<B: BroadPhase + Drop> BoxWorld<B> {
+    ghost use Rattle.broad_index.specs.Fresh.{IsFresh};
+
+    /// The opening world, over an index that has no box and has counted nothing.
+    pub fn new(alloc: Global, index: B) -> Result<BoxWorld<B>, NoMemory>
+        requires { IsFresh (B.bodies index) (B.spent index) (B.exchanges index) }
+        ensures { IfOk result (λ world. world ≡ opened) }
+    {
+        let parts = Parts::new(alloc, index)?;
+        Ok(BoxWorld {
+            parts,
+            spent: false,
+        })
+    }
+
+    /// Whether memory ran out in a change.
+    pub fn is_spent(&self) -> bool
+        ensures { result ≡ self.now.spent }
+    {
+        self.spent
+    }
+
+    /// A new box under the least free slot.
+    #[tactic(auto, using(crate::proofs::Refused::may_add))]
+    pub fn add(&mut self, body: FBox, masks: Masks, group: Group) -> Result<Handle, Refusal>
+        ensures answer { Answers (add_refusal self.old.time.now) (with_world self.old (added B.COUNTS self.old.time.now body masks group)) result self.old self.new }
+        ensures handle { IfOk result (λ handle. handle ≡ next_handle self.old.time.now.table) }
+    {
+        if self.spent {
+            return Err(Refusal::NoMemory);
+        }
+        if self.parts.table.len() == SLOTS {
+            return Err(Refusal::Full);
+        }
+        if self.parts.table.given() == MOST_COUNTED || self.parts.is_counted_out() {
+            return Err(Refusal::Exhausted);
+        }
+        self.parts.marks.room()?;
+        match self.parts.add(body, masks, group) {
+            Ok(handle) => Ok(handle),
+            Err(NoMemory) => {
+                self.spent = true;
+                Err(Refusal::NoMemory)
+            }
+        }
+    }
+
+    /// The handle's box gets another body.
+    pub fn shift(&mut self, handle: Handle, body: FBox) -> Result<(), Refusal>
+        ensures answer { Answers (shift_refusal self.old.time.now handle) (with_world self.old (moved B.COUNTS self.old.time.now handle body)) result self.old self.new }
+    {
+        if self.spent {
+            return Err(Refusal::NoMemory);
+        }
+        if self.parts.is_counted_out() {
+            return match self.parts.table.find(handle) {
+                Ok(_) => Err(Refusal::Exhausted),
+                Err(Stale) => Err(Refusal::Stale),
+            };
+        }
+        let before = box_to_note(&mut self.parts.marks, &self.parts.table, handle)?;
+        match self.parts.shift(handle, body, before) {
+            Ok(()) => Ok(()),
+            Err(Refusal::NoMemory) => {
+                self.spent = true;
+                Err(Refusal::NoMemory)
+            }
+            Err(refusal) => Err(refusal),
+        }
+    }
+
+    /// The handle's box gets other masks.
+    pub fn mask(&mut self, handle: Handle, masks: Masks) -> Result<(), Refusal>
+        ensures answer { Answers (change_refusal self.old.time.now handle) (with_world self.old (masked self.old.time.now handle masks)) result self.old self.new }
+        ensures same { OnErr result (self.new ≡ self.old) }
+    {
+        if self.spent {
+            return Err(Refusal::NoMemory);
+        }
+        let before = box_to_note(&mut self.parts.marks, &self.parts.table, handle)?;
+        self.parts.mask(handle, masks, before)
+    }
+
+    /// The handle's box goes.
+    pub fn remove(&mut self, handle: Handle) -> Result<(), Refusal>
+        ensures answer { Answers (change_refusal self.old.time.now handle) (with_world self.old (removed self.old.time.now handle)) result self.old self.new }
+        ensures same { OnErr result (self.new ≡ self.old) }
+    {
+        if self.spent {
+            return Err(Refusal::NoMemory);
+        }
+        let before = box_to_note(&mut self.parts.marks, &self.parts.table, handle)?;
+        self.parts.remove(handle, before)
+    }
+
+    /// The frame ends: its pairs, and what became of each since the last one. Answers how many pairs there are.
+    pub fn update(&mut self) -> Result<u32, Refusal>
+        ensures answer { Answers (frame_refusal self.old.time.now) (after_frame self.old) result self.old self.new }
+        ensures count { IfOk result (λ count. count ≡ length (pairs self.old.time.now)) }
+        ensures same { OnErr result (self.new ≡ self.old) }
+    {
+        if self.spent {
+            return Err(Refusal::NoMemory);
+        }
+        if self.parts.frames == MOST_COUNTED {
+            return Err(Refusal::Exhausted);
+        }
+        self.parts.pairs.clear();
+        self.parts.index.pairs(&mut self.parts.pairs)?;
+        Ok(self.parts.end_frame()?)
+    }
+
+    /// Does what `update` does, with the pairs searched by several threads.
+    pub fn end_frame<R: Threads + Sync, G: Gate + Sync>(
+        &mut self,
+        rt: &R,
+        workers: u32,
+        gate: &G,
+    ) -> Result<u32, Refusal>
+    where
+        B: Sync,
+        ensures answer { Answers (frame_refusal self.old.time.now) (after_frame self.old) result self.old self.new }
+        ensures count { IfOk result (λ count. count ≡ length (pairs self.old.time.now)) }
+        ensures same { OnErr result (self.new ≡ self.old) }
+    {
+        if self.spent {
+            return Err(Refusal::NoMemory);
+        }
+        if self.parts.frames == MOST_COUNTED {
+            return Err(Refusal::Exhausted);
+        }
+        let workers = workers.max(1).min(MOST_WORKERS);
+        self.parts.pairs.clear();
+        self.parts
+            .index
+            .pairs_with(rt, workers, gate, &mut self.parts.pairs)?;
+        Ok(self.parts.end_frame()?)
+    }
+
+    /// Marks the world. False where `MOST_MARKS` are held, and then nothing changes.
+    pub fn mark(&mut self) -> Result<bool, Refusal>
+        ensures answer { Answers None (with_time self.old (marked self.old.time)) result self.old self.new }
+        ensures held { IfOk result (λ marked. marked ≡ nat_lt (length self.old.time.marks) MOST_MARKS) }
+        ensures spent { OnErr result (self.old.spent ≡ true) }
+    {
+        if self.spent {
+            return Err(Refusal::NoMemory);
+        }
+        Ok(self.parts.mark())
+    }
+
+    /// Goes back to the newest mark. False where none is held, and then nothing changes.
+    pub fn back(&mut self) -> Result<bool, Refusal>
+        ensures answer { Answers None (with_time self.old (gone_back self.old.time)) result self.old self.new }
+        ensures held { IfOk result (λ went. went ≡ nat_lt 0 (length self.old.time.marks)) }
+    {
+        if self.spent {
+            return Err(Refusal::NoMemory);
+        }
+        match self.parts.back() {
+            Ok(went) => Ok(went),
+            Err(NoMemory) => {
+                self.spent = true;
+                Err(Refusal::NoMemory)
+            }
+        }
+    }
+}
