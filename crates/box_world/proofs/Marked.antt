@@ -1,6 +1,7 @@
 -- Serves proofs alone: what each change, frame, mark and way back makes of the worlds that the marks stand for, and of the way
 -- back to them.
-use Rattle.std.proofs.Common.{◌≡◌, ◌≢◌, ℕ, suc, true, false, nat_lt, List, [], ◌∷◌, ◌++◌, Option, Some, None, reverse, length, refl, sym, ap, ◌∙◌, subst}
+use Rattle.std.proofs.Common.{◌≡◌, ◌≢◌, ℕ, suc, true, false, nat_lt, List, [], ◌∷◌, ◌++◌, Option, Some, None, reverse, length, refl}
+use Rattle.std.proofs.Common.{sym, ap, ◌∙◌, subst, arith}
 use Rattle.std.proofs.lemmas.List.{reverse-append, length-reverse}
 use Rattle.live_table.specs.Table.{Table}
 use Rattle.pair_events.specs.declared.hpair.HPair.{HPair}
@@ -30,7 +31,8 @@ reverse-push ms m = reverse-append ms (m ∷ [])
 reverse-cons : (m : Mark) (ms : List Mark) → reverse (m ∷ ms) ≡ reverse ms ++ m ∷ []
 reverse-cons m ms = reverse-append (m ∷ []) ms
 
-with_first-push : (change : Mark → Mark) (ms : List Mark) (n m : Mark) → with_first change (ms ++ n ∷ []) ++ m ∷ [] ≡ with_first change ((ms ++ n ∷ []) ++ m ∷ [])
+with_first-push : (change : Mark → Mark) (ms : List Mark) (n m : Mark)
+    → with_first change (ms ++ n ∷ []) ++ m ∷ [] ≡ with_first change ((ms ++ n ∷ []) ++ m ∷ [])
 with_first-push change [] n m = refl
 with_first-push change (x ∷ ms) n m = refl
 
@@ -50,13 +52,15 @@ changed_first split w t x undo (m ∷ older) back =
     let same : undone (m.undos ++ undo ∷ []) t ≡ undone m.undos w.table = split m.undos (undo ∷ []) t ∙ ap (undone m.undos) back in
     ap (λ s. let v : World = record (marked_world w m) { table = s } in v ∷ worlds_back v older) same
 
-pub changed_worlds : IsSplit → (w : World) (t : Table) (x : ℕ) (undo : Undo) (ms ns : List Mark) → ns ≡ with_newest (noted undo) ms → after_undo t undo ≡ w.table
+pub changed_worlds : IsSplit → (w : World) (t : Table) (x : ℕ) (undo : Undo) (ms ns : List Mark) → ns ≡ with_newest (noted undo) ms
+    → after_undo t undo ≡ w.table
     → worlds_back (record w { table = t; exchanges = x }) (reverse ns) ≡ worlds_back w (reverse ms)
 changed_worlds split w t x undo ms ns is back =
     ap (λ ks. worlds_back (record w { table = t; exchanges = x }) ks) (ap reverse is ∙ reverse-with_newest (noted undo) ms)
     ∙ changed_first split w t x undo (reverse ms) back
 
-returns_first : IsSplit → IsWhole → (s t : Table) (undo : Undo) (ms : List Mark) → CanUndo undo t → after_undo t undo ≡ s → CanReturn s ms → CanReturn t (with_first (noted undo) ms)
+returns_first : IsSplit → IsWhole → (s t : Table) (undo : Undo) (ms : List Mark) → CanUndo undo t → after_undo t undo ≡ s → CanReturn s ms
+    → CanReturn t (with_first (noted undo) ms)
 returns_first split whole s t undo [] can back h = tt
 returns_first split whole s t undo (m ∷ older) can back h =
     let same : undone (m.undos ++ undo ∷ []) t ≡ undone m.undos s = split m.undos (undo ∷ []) t ∙ ap (undone m.undos) back in (
@@ -67,7 +71,8 @@ returns_first split whole s t undo (m ∷ older) can back h =
       subst (λ r. CanReturn r older) (sym same) h.1,
     )
 
-pub changed_returns : IsSplit → IsWhole → (s t : Table) (undo : Undo) (ms ns : List Mark) → ns ≡ with_newest (noted undo) ms → CanUndo undo t → after_undo t undo ≡ s
+pub changed_returns : IsSplit → IsWhole → (s t : Table) (undo : Undo) (ms ns : List Mark) → ns ≡ with_newest (noted undo) ms → CanUndo undo t
+    → after_undo t undo ≡ s
     → CanReturn s (reverse ms) → CanReturn t (reverse ns)
 changed_returns split whole s t undo ms ns is can back h =
     subst (CanReturn t) (sym (ap reverse is ∙ reverse-with_newest (noted undo) ms)) (returns_first split whole s t undo (reverse ms) can back h)
@@ -89,7 +94,8 @@ kept_ordered : (kept : Option (List HPair)) (last : List HPair) → is_in_order 
 kept_ordered None last h g = h
 kept_ordered (Some ps) last h g = g
 
-framed_returns_first : (t : Table) (last : List HPair) (ms : List Mark) → is_in_order last ≡ true → CanReturn t ms → CanReturn t (with_first (keeping last) ms)
+framed_returns_first : (t : Table) (last : List HPair) (ms : List Mark) → is_in_order last ≡ true → CanReturn t ms
+    → CanReturn t (with_first (keeping last) ms)
 framed_returns_first t last [] h g = tt
 framed_returns_first t last (m ∷ older) h g =
     (record { undoable = g.0.undoable; ordered = kept_ordered m.kept last h g.0.ordered }, g.1)
@@ -100,7 +106,8 @@ framed_returns t last ms ns is h g =
     subst (CanReturn t) (sym (ap reverse is ∙ reverse-with_newest (keeping last) ms)) (framed_returns_first t last (reverse ms) h g)
 
 -- a mark of the world as it stands
-pub marked_worlds : (w : World) (ms ns : List Mark) → ns ≡ ms ++ fresh w.frames w.exchanges ∷ [] → worlds_back w (reverse ns) ≡ w ∷ worlds_back w (reverse ms)
+pub marked_worlds : (w : World) (ms ns : List Mark) → ns ≡ ms ++ fresh w.frames w.exchanges ∷ []
+    → worlds_back w (reverse ns) ≡ w ∷ worlds_back w (reverse ms)
 marked_worlds w ms ns is = ap (λ ks. worlds_back w (reverse ks)) is ∙ ap (worlds_back w) (reverse-push ms (fresh w.frames w.exchanges))
 
 pub marked_returns : (t : Table) (frames exchanges : ℕ) (ms ns : List Mark) → ns ≡ ms ++ fresh frames exchanges ∷ [] → CanReturn t (reverse ms)
@@ -131,6 +138,13 @@ length-worlds w (m ∷ older) = ap suc (length-worlds (marked_world w m) older)
 
 pub marks_as_worlds : (w : World) (ms : List Mark) → length (worlds_back w (reverse ms)) ≡ length ms
 marks_as_worlds w ms = length-worlds w (reverse ms) ∙ length-reverse ms
+
+-- no mark where there is no marked world
+pub no_worlds : (w : World) (ms : List Mark) → worlds_back w (reverse ms) ≡ [] → ms ≡ []
+no_worlds w [] none = refl
+no_worlds w (m ∷ ms) none =
+    let many : length (worlds_back w (reverse (m ∷ ms))) ≡ suc (length ms) = marks_as_worlds w (m ∷ ms) in
+    let few : length (worlds_back w (reverse (m ∷ ms))) ≡ 0 = ap length none in absurd (omega (arith, many, few))
 
 -- the last of marks
 pub record EndsIn (ms : List Mark) : Type 0 where
@@ -163,5 +177,6 @@ same_world t u ps qs f g x y et ep ef ex =
     ap (λ a. record { table = a; last = ps; frames = f; exchanges = x }) et ∙ ap (λ a. record { table = u; last = a; frames = f; exchanges = x }) ep
     ∙ ap (λ a. record { table = u; last = qs; frames = a; exchanges = x }) ef ∙ ap (λ a. record { table = u; last = qs; frames = g; exchanges = a }) ex
 
-pub same_time : (v w : World) (vs ws : List World) → v ≡ w → vs ≡ ws → ◌≡◌ {A = Timeline} (record { now = v; marks = vs }) (record { now = w; marks = ws })
+pub same_time : (v w : World) (vs ws : List World) → v ≡ w → vs ≡ ws
+    → ◌≡◌ {A = Timeline} (record { now = v; marks = vs }) (record { now = w; marks = ws })
 same_time v w vs ws e es = ap (λ a. record { now = a; marks = vs }) e ∙ ap (λ a. record { now = w; marks = a }) es

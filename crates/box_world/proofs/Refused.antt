@@ -1,5 +1,6 @@
 -- Serves proofs alone: where there is no cause to refuse a box, and how states are equal.
-use Rattle.std.proofs.Common.{◌≡◌, ◌≢◌, ◌==◌, Bool, false, List, length, sum, Option, None, Result, Ok, Err, inl, refl, sym, ap, ◌∙◌, subst}
+use Rattle.std.proofs.Common.{◌≡◌, ◌≢◌, ◌==◌, Bool, false, List, length, sum, Option, None, Result, Ok, Err, inl, refl, sym, ap, ◌∙◌}
+use Rattle.std.proofs.Common.{subst}
 use Rattle.std.proofs.lemmas.Bool.{ne_eqb}
 use Rattle.fixed_box.specs.declared.TheConstants.{SLOTS}
 use Rattle.pair_events.specs.declared.told.Told.{Told}

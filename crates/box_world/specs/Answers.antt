@@ -1,5 +1,6 @@
 -- What the calls of a world see of it, why each of them refuses, and what their answers say.
-use Rattle.std.specs.Prelude.{◌≡◌, Bool, true, false, ◌||◌, ◌==◌, nat_lt, List, [], length, sum, if◌then◌else◌, Option, None, Some, is_some, Result, Ok, Err, ◌⊎◌}
+use Rattle.std.specs.Prelude.{◌≡◌, Bool, true, false, ◌||◌, ◌==◌, nat_lt, List, [], length, sum, if◌then◌else◌, Option, None, Some}
+use Rattle.std.specs.Prelude.{is_some, Result, Ok, Err, ◌⊎◌}
 use Rattle.fixed_box.specs.declared.TheConstants.{SLOTS}
 use Rattle.live_table.specs.declared.handle.Handle.{Handle}
 use Rattle.live_table.specs.Entries.{entry_at}

@@ -52,7 +52,8 @@ pub record IsSound {B : Type 0} (bodies : B → FinMap nat_cmp Bounds) (spent : 
   pub counted : p.earlier + exchanges p.index < 2 ^ 64
 
 -- The parts stand for this world, with the same marks and events.
-pub record IsChanged {B : Type 0} (bodies : B → FinMap nat_cmp Bounds) (spent : B → Bool) (exchanges : B → ℕ) (w : World) (old new : Parts B) : Type 0 where
+pub record IsChanged {B : Type 0} (bodies : B → FinMap nat_cmp Bounds) (spent : B → Bool) (exchanges : B → ℕ) (w : World)
+    (old new : Parts B) : Type 0 where
   pub time : timeline_in exchanges new ≡ record (timeline_in exchanges old) { now = w }
   pub events : new.events ≡ old.events
   pub kept : IsSound bodies spent exchanges new

@@ -2,7 +2,9 @@ ghost use Rattle.std.specs.Prelude.{◌≡◌, ◌≢◌, ◌↔◌, ◌^◌, Op
 ghost use Rattle.box_world.specs.declared.TheConstants.{MOST_COUNTED, MOST_EXCHANGES};
 ghost use Rattle.box_world.specs.declared.refusal.Refusal.{Refusal};
 ghost use Rattle.box_world.specs.declared.refusal.Refusal.TheVariants.{NoMemory};
-ghost use Rattle.box_world.specs.Answers.{Answers, State};
+ghost use Rattle.live_table.specs.declared.handle.Handle.{Handle};
+ghost use Rattle.box_world.specs.World.{World};
+ghost use Rattle.box_world.specs.Answers.{Answers, State, add_refusal, shift_refusal, change_refusal, frame_refusal};
 
 /// A law for proofs, with nothing to run: with other ends of counting this crate has no proof.
 pub fn count_law()
@@ -11,9 +13,13 @@ pub fn count_law()
 {}
 
 /// A law of answers for proofs, with nothing to run: a call is refused for a cause other than want of memory exactly where the
-/// world isn't spent and that cause stands.
+/// world isn't spent and that cause stands. Want of memory is no such cause.
 pub fn answer_law<A>()
-    ensures { (cause : Option Refusal) (refusal : Refusal) (result : Result A Refusal) (after old new : State) → refusal ≢ NoMemory
+    ensures exactly { (cause : Option Refusal) (refusal : Refusal) (result : Result A Refusal) (after old new : State) → refusal ≢ NoMemory
         → cause ≢ Some NoMemory → Answers cause after result old new
         → (result ≡ Err refusal) ↔ ((old.spent ≡ false) × (cause ≡ Some refusal)) }
+    ensures add { (w : World) → add_refusal w ≢ Some NoMemory }
+    ensures shift { (w : World) (handle : Handle) → shift_refusal w handle ≢ Some NoMemory }
+    ensures change { (w : World) (handle : Handle) → change_refusal w handle ≢ Some NoMemory }
+    ensures frame { (w : World) → frame_refusal w ≢ Some NoMemory }
 {}

@@ -224,6 +224,7 @@ impl<B: BroadPhase + Drop> Parts<B> {
     pub(crate) fn back(&mut self) -> Result<bool, NoMemory>
         requires sound { IsSound B.bodies B.spent B.exchanges self.old }
         ensures held { IfOk result (λ went. went ≡ nat_lt 0 (length (timeline_in B.exchanges self.old).marks)) }
+        ensures none { self.old.marks.marks ≡ [] → result ≡ Ok false }
         ensures back { OnOk result (timeline_in B.exchanges self.new ≡ gone_back (timeline_in B.exchanges self.old)) }
         ensures events { self.new.events ≡ self.old.events }
         ensures sound { OnOk result (IsSound B.bodies B.spent B.exchanges self.new) }

@@ -1,4 +1,4 @@
-ghost use Rattle.std.specs.Prelude.{◌≡◌, true, length, None, nat_lt, IfOk, OnErr};
+ghost use Rattle.std.specs.Prelude.{◌≡◌, [], true, false, length, Ok, None, nat_lt, IfOk, OnErr};
 ghost use Rattle.live_table.specs.Table.{next_handle};
 ghost use Rattle.world_marks.specs.declared.TheConstants.{MOST_MARKS};
 ghost use Rattle.box_world.specs.World.{added, moved, masked, removed, marked, gone_back, pairs};
@@ -17,7 +17,19 @@ use std::thread::Threads;
 use work_pieces::MOST_WORKERS;
 
 /// Live boxes under handles with an index that has the same boxes, the pairs of the last frame and what was told of it, and
-/// marks that can be gone back to.
+/// marks that can be gone back to: what an engine owns, over any broad phase.
+///
+/// Clauses see the world with its marks, what was told, and whether memory ran out in a change. No call but `new` asks for
+/// anything. What an answer says is the table `Answers`: an `Ok` made the world that the call is for, `Stale`, `Full` and
+/// `Exhausted` come exactly where that cause stands, the earlier one first, and leave the world as it was; `answer_law` has this
+/// as a law. `NoMemory` may come wherever memory is taken, and leaves the world as it was, or spent.
+///
+/// A world is spent where memory ran out while its index was changed, since index and table may disagree then. From then on it
+/// answers `NoMemory` to each change, frame, mark, way back and query, and stays as it is: `get`, `len`, `frames`, `held`, `events`,
+/// `pairs` and `table` tell what it has, `exchanges` is 0, and nothing is said of `index`.
+///
+/// A change costs what the index takes for it, and a look-up. While a mark is held it is noted too, with one more look-up and
+/// memory for the note; without one that costs a test.
 #[derive(Drop)]
 pub struct BoxWorld<B: BroadPhase + Drop> {
     pub(crate) parts: Parts<B>,
@@ -41,7 +53,8 @@ impl<B: BroadPhase + Drop> Model for BoxWorld<B> {
 impl<B: BroadPhase + Drop> BoxWorld<B> {
     ghost use Rattle.broad_index.specs.Fresh.{IsFresh};
 
-    /// The opening world, over an index that has no box and has counted nothing.
+    /// The opening world, over an index that has no box and has counted nothing. It takes memory for all boxes that may live at
+    /// once, some half a megabyte.
     pub fn new(alloc: Global, index: B) -> Result<BoxWorld<B>, NoMemory>
         requires { IsFresh (B.bodies index) (B.spent index) (B.exchanges index) }
         ensures { IfOk result (λ world. world ≡ opened) }
@@ -60,7 +73,8 @@ impl<B: BroadPhase + Drop> BoxWorld<B> {
         self.spent
     }
 
-    /// A new box under the least free slot.
+    /// A new box under the least free slot, a proxy that is created. `Full` comes where `SLOTS` boxes are live, and `Exhausted`
+    /// where `MOST_COUNTED` were given or more than `MOST_EXCHANGES` exchanges counted.
     #[tactic(auto, using(crate::proofs::Refused::may_add))]
     pub fn add(&mut self, body: FBox, masks: Masks, group: Group) -> Result<Handle, Refusal>
         ensures answer { Answers (add_refusal self.old.time.now) (with_world self.old (added B.COUNTS self.old.time.now body masks group)) result self.old self.new }
@@ -85,7 +99,8 @@ impl<B: BroadPhase + Drop> BoxWorld<B> {
         }
     }
 
-    /// The handle's box gets another body.
+    /// The handle's box gets another body. `Stale` comes where no live box has the handle, and `Exhausted` where more than
+    /// `MOST_EXCHANGES` exchanges were counted.
     pub fn shift(&mut self, handle: Handle, body: FBox) -> Result<(), Refusal>
         ensures answer { Answers (shift_refusal self.old.time.now handle) (with_world self.old (moved B.COUNTS self.old.time.now handle body)) result self.old self.new }
     {
@@ -109,7 +124,8 @@ impl<B: BroadPhase + Drop> BoxWorld<B> {
         }
     }
 
-    /// The handle's box gets other masks.
+    /// The handle's box gets other masks. `Stale` comes where no live box has the handle. It takes memory only where a mark is
+    /// held, and never spends the world.
     pub fn mask(&mut self, handle: Handle, masks: Masks) -> Result<(), Refusal>
         ensures answer { Answers (change_refusal self.old.time.now handle) (with_world self.old (masked self.old.time.now handle masks)) result self.old self.new }
         ensures same { OnErr result (self.new ≡ self.old) }
@@ -121,7 +137,8 @@ impl<B: BroadPhase + Drop> BoxWorld<B> {
         self.parts.mask(handle, masks, before)
     }
 
-    /// The handle's box goes.
+    /// The handle's box goes. `Stale` comes where no live box has the handle. It takes memory only where a mark is held, and never
+    /// spends the world.
     pub fn remove(&mut self, handle: Handle) -> Result<(), Refusal>
         ensures answer { Answers (change_refusal self.old.time.now handle) (with_world self.old (removed self.old.time.now handle)) result self.old self.new }
         ensures same { OnErr result (self.new ≡ self.old) }
@@ -133,7 +150,12 @@ impl<B: BroadPhase + Drop> BoxWorld<B> {
         self.parts.remove(handle, before)
     }
 
-    /// The frame ends: its pairs, and what became of each since the last one. Answers how many pairs there are.
+    /// The frame ends: its pairs are those of the boxes as they stand, and what became of each since the last frame is told. Answers
+    /// how many pairs there are; `pairs` and `events` have them. `Exhausted` comes where `MOST_COUNTED` frames have ended. After
+    /// any `Err` all is as before.
+    ///
+    /// It searches on the caller's thread. The two lists of events are kept and serve by turns; the list of pairs is a new one,
+    /// since it is kept as the last.
     pub fn update(&mut self) -> Result<u32, Refusal>
         ensures answer { Answers (frame_refusal self.old.time.now) (after_frame self.old) result self.old self.new }
         ensures count { IfOk result (λ count. count ≡ length (pairs self.old.time.now)) }
@@ -150,7 +172,8 @@ impl<B: BroadPhase + Drop> BoxWorld<B> {
         Ok(self.parts.end_frame()?)
     }
 
-    /// Does what `update` does, with the pairs searched by several threads.
+    /// Does what `update` does, with the pairs searched by several threads where the index shares them, by `pairs_with` of
+    /// `BroadPhase`. A number of workers below 1 or above `MOST_WORKERS` counts as the nearest that isn't.
     pub fn end_frame<R: Threads + Sync, G: Gate + Sync>(
         &mut self,
         rt: &R,
@@ -177,7 +200,8 @@ impl<B: BroadPhase + Drop> BoxWorld<B> {
         Ok(self.parts.end_frame()?)
     }
 
-    /// Marks the world. False where `MOST_MARKS` are held, and then nothing changes.
+    /// Marks the world as it stands. It answers false where `MOST_MARKS` are held, and then nothing changes. It takes no memory:
+    /// `NoMemory` comes where the world is spent.
     pub fn mark(&mut self) -> Result<bool, Refusal>
         ensures answer { Answers None (with_time self.old (marked self.old.time)) result self.old self.new }
         ensures held { IfOk result (λ marked. marked ≡ nat_lt (length self.old.time.marks) MOST_MARKS) }
@@ -189,10 +213,16 @@ impl<B: BroadPhase + Drop> BoxWorld<B> {
         Ok(self.parts.mark())
     }
 
-    /// Goes back to the newest mark. False where none is held, and then nothing changes.
+    /// Goes back to the newest mark, which is then gone: the live boxes, their handles and those of later boxes, the last pairs, the
+    /// frames and the exchanges are what they were. It answers false where none is held, and then nothing changes. What was told
+    /// stays.
+    ///
+    /// It takes a step for each change since the mark, the latest first, so it costs nothing by the number of boxes.
+    #[tactic(auto, using(crate::proofs::Marked::no_worlds))]
     pub fn back(&mut self) -> Result<bool, Refusal>
         ensures answer { Answers None (with_time self.old (gone_back self.old.time)) result self.old self.new }
         ensures held { IfOk result (λ went. went ≡ nat_lt 0 (length self.old.time.marks)) }
+        ensures none { self.old.spent ≡ false → self.old.time.marks ≡ [] → result ≡ Ok false }
     {
         if self.spent {
             return Err(Refusal::NoMemory);

@@ -48,9 +48,9 @@ returns-clause-added g c =
     let total : old.earlier + exchanges c.add.new.self ≡ old.earlier + exchanges old.index + counted counts (exchanges_of_add w body) = counted_on counts
     old.earlier (exchanges old.index) (exchanges c.add.new.self) (exchanges_of_add w body) passed (g.met.B.BroadPhase.uncounted old.index)
     (g.met.B.BroadPhase.uncounted c.add.new.self) in
+    let now = record w { table = c.give.new.self; exchanges = old.earlier + exchanges c.add.new.self } in
     record {
-      time = same_time (record w { table = c.give.new.self; exchanges = old.earlier + exchanges c.add.new.self }) (added counts w body c.args.masks c.args.group)
-          (worlds_back (record w { table = c.give.new.self; exchanges = old.earlier + exchanges c.add.new.self }) (reverse c.note.new.self.marks))
+      time = same_time now (added counts w body c.args.masks c.args.group) (worlds_back now (reverse c.note.new.self.marks))
           (worlds_back w (reverse old.marks.marks))
           (same_world c.give.new.self next old.pair_table old.pair_table old.frames old.frames (old.earlier + exchanges c.add.new.self)
           (old.earlier + exchanges old.index + counted counts (exchanges_of_add w body)) given.given refl refl total)

@@ -18,7 +18,8 @@ returns-clause-marked g c =
     let exchanges = g.B.BroadPhase.exchanges in
     let w = world_in exchanges old in
     let t = timeline_in exchanges old in
-    let as_many : nat_lt (length t.marks) MOST_MARKS ≡ c.mark.result = ap (λ n. nat_lt n MOST_MARKS) (marks_as_worlds w old.marks.marks) ∙ sym c.mark.ensures.held in
+    let as_many : nat_lt (length t.marks) MOST_MARKS ≡ c.mark.result = ap (λ n. nat_lt n MOST_MARKS) (marks_as_worlds w old.marks.marks)
+    ∙ sym c.mark.ensures.held in
     elim c.mark.result as (λ r. c.mark.result ≡ r → timeline w c.mark.new.self.marks ≡ marked t) [
       | true ↦ λ is.
           let marks : c.mark.new.self.marks ≡ old.marks.marks ++ fresh w.frames w.exchanges ∷ [] = c.mark.ensures.marked is

@@ -19,7 +19,8 @@ returns-in-Some-clause-masked g c =
     let masks = c.args.masks in
     let live = c.in-Some.live in
     let w = world_in g.B.BroadPhase.exchanges old in
-    let note : (entry_at handle t.entries ≡ Some live) × (0 < old.marks.spare) = subst (IsToNote old.marks.marks (entry_at handle t.entries) old.marks.spare) c.in-Some.is c.requires.before in
+    let note : (entry_at handle t.entries ≡ Some live) × (0 < old.marks.spare) =
+    subst (IsToNote old.marks.marks (entry_at handle t.entries) old.marks.spare) c.in-Some.is c.requires.before in
     let found = note.0 in
     let table : c.set_masks.new.self ≡ after_set_masks t handle masks = set.after in
     let back : after_set_masks c.set_masks.new.self handle live.masks ≡ t = ap (λ s. after_set_masks s handle live.masks) table

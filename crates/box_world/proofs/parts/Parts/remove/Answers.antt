@@ -23,10 +23,12 @@ returns-in-Some-clause-removed g c =
     let live = c.in-Some.live in
     let exchanges = g.B.BroadPhase.exchanges in
     let w = world_in exchanges old in
-    let note : (entry_at handle t.entries ≡ Some live) × (0 < old.marks.spare) = subst (IsToNote old.marks.marks (entry_at handle t.entries) old.marks.spare) c.in-Some.is c.requires.before in
+    let note : (entry_at handle t.entries ≡ Some live) × (0 < old.marks.spare) =
+    subst (IsToNote old.marks.marks (entry_at handle t.entries) old.marks.spare) c.in-Some.is c.requires.before in
     let found = note.0 in
     let table : c.take.new.self ≡ after_take t handle = taken.after in
-    let back : after_put_back c.take.new.self live ≡ t = ap (λ s. after_put_back s live) table ∙ c.undo_laws.ensures.taken t handle live kept.table found in
+    let back : after_put_back c.take.new.self live ≡ t = ap (λ s. after_put_back s live) table
+    ∙ c.undo_laws.ensures.taken t handle live kept.table found in
     let can : IsVacated live c.take.new.self = subst (IsVacated live) (sym table) (c.undo_laws.ensures.vacated t handle live kept.table found) in
     let marks : c.note.new.self.marks ≡ with_newest (noted (Taken live)) old.marks.marks = c.note.ensures.noted in
     let same : exchanges c.leave.new.self ≡ exchanges old.index = c.leave.ensures.exchanges kept.sound in

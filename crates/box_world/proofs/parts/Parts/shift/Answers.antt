@@ -31,7 +31,8 @@ returns-in-Some-clause-moved g c =
     let number = exchanges_of_move w handle body in
     let next = after_set_box t handle body in
     let same = move_passes bodies t handle body kept.boxes kept.table set.former in
-    let few : number ≤ 12 * SLOTS = subst (λ n. n ≤ 12 * SLOTS) same (c.exchange_laws.ensures.shifted bodies handle.slot body (few_bodies bodies t kept.boxes kept.table)) in
+    let few : number ≤ 12 * SLOTS = subst (λ n. n ≤ 12 * SLOTS) same (c.exchange_laws.ensures.shifted bodies handle.slot body
+    (few_bodies bodies t kept.boxes kept.table)) in
     let total : old.earlier + exchanges c.shift.new.self ≡ old.earlier + exchanges old.index + counted counts number = counted_on counts
     old.earlier (exchanges old.index) (exchanges c.shift.new.self) number (λ on. put.counted on ∙ ap (λ n. exchanges old.index + n) same)
     (g.met.B.BroadPhase.uncounted old.index) (g.met.B.BroadPhase.uncounted c.shift.new.self) in
@@ -40,7 +41,8 @@ returns-in-Some-clause-moved g c =
     let world : now ≡ moved counts w handle body = same_world c.set_box.new.self next old.pair_table old.pair_table old.frames old.frames
     (old.earlier + exchanges c.shift.new.self) (old.earlier + exchanges old.index + counted counts number) table refl refl total in
     let live = c.in-Some.live in
-    let note : (entry_at handle t.entries ≡ Some live) × (0 < old.marks.spare) = subst (IsToNote old.marks.marks (entry_at handle t.entries) old.marks.spare) c.in-Some.is c.requires.before in
+    let note : (entry_at handle t.entries ≡ Some live) × (0 < old.marks.spare) =
+    subst (IsToNote old.marks.marks (entry_at handle t.entries) old.marks.spare) c.in-Some.is c.requires.before in
     let found = note.0 in
     let back : after_set_box c.set_box.new.self handle live.body ≡ t = ap (λ s. after_set_box s handle live.body) table
     ∙ c.undo_laws.ensures.moved t handle body live kept.table found in
@@ -79,7 +81,8 @@ returns-in_default-clause-moved g c =
     let number = exchanges_of_move w handle body in
     let next = after_set_box t handle body in
     let same = move_passes bodies t handle body kept.boxes kept.table set.former in
-    let few : number ≤ 12 * SLOTS = subst (λ n. n ≤ 12 * SLOTS) same (c.exchange_laws.ensures.shifted bodies handle.slot body (few_bodies bodies t kept.boxes kept.table)) in
+    let few : number ≤ 12 * SLOTS = subst (λ n. n ≤ 12 * SLOTS) same (c.exchange_laws.ensures.shifted bodies handle.slot body
+    (few_bodies bodies t kept.boxes kept.table)) in
     let total : old.earlier + exchanges c.shift.new.self ≡ old.earlier + exchanges old.index + counted counts number = counted_on counts
     old.earlier (exchanges old.index) (exchanges c.shift.new.self) number (λ on. put.counted on ∙ ap (λ n. exchanges old.index + n) same)
     (g.met.B.BroadPhase.uncounted old.index) (g.met.B.BroadPhase.uncounted c.shift.new.self) in

@@ -14,7 +14,8 @@ returns-in-Ok-clause-answer g c =
       sound = c.if-self.false;
       allowed = may_add w (λ e. c.if-len-eq-SLOTS.false (c.len.ensures.len ∙ e)) (λ e. c.if-given.false (c.given.ensures ∙ e))
           (sym c.is_counted_out.ensures ∙ c.if-is_counted_out.false);
-      done = same_state _ _ _ _ _ (c.in-Ok.ensures.added.time ∙ ap (λ ms. record { now = now; marks = worlds_back w (reverse ms) }) c.in_ok-room.ensures.marks)
+      done = same_state _ _ _ _ _
+          (c.in-Ok.ensures.added.time ∙ ap (λ ms. record { now = now; marks = worlds_back w (reverse ms) }) c.in_ok-room.ensures.marks)
           (ap (λ v. v.items) c.in-Ok.ensures.added.events);
     })
 
