@@ -1,7 +1,9 @@
-//! Shows what live boxes are asked, with memory enough, where no clause says that it succeeds.
+//! Shows what live boxes are asked, and what a world of them does, with memory enough, where no clause says that it succeeds.
 //!
 //! It has tests alone. They stand apart, since a crate with tests is proved twice.
 #![tactic(auto)]
 
 #[cfg(test)]
 mod queries;
+#[cfg(test)]
+mod worlds;

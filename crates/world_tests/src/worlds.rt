@@ -1,0 +1,143 @@
+use box_world::{BoxWorld, Refusal};
+use broad_index::{BroadPhase, NoGate, PlainIndex};
+use fixed_box::{FBox, Point, SLOTS};
+use live_table::{Group, Masks};
+use pair_events::{Event, Told};
+use std::test::Fail;
+use sweep_prune::Sap;
+
+// Raw units.
+const ONE: i32 = 65_536;
+
+const SEEN: Masks = Masks {
+    is: 1,
+    sees: u32::MAX,
+};
+
+const NOBODYS: Group = Group {
+    owner: 0,
+    fixed: false,
+};
+
+// A box of one unit, whose low corner is at whole units.
+fn unit(x: i32, yz: i32) -> Result<FBox, Fail> {
+    if x.unsigned_abs() > 100 || yz.unsigned_abs() > 100 {
+        return Err("whole units near the origin".into());
+    }
+    let lo = Point {
+        x: x * ONE,
+        y: yz * ONE,
+        z: yz * ONE,
+    };
+    let hi = Point {
+        x: lo.x + ONE,
+        y: lo.y + ONE,
+        z: lo.z + ONE,
+    };
+    Ok(FBox::new(lo, hi).ok_or("a box")?)
+}
+
+// Whether one event is told, of the first two slots.
+fn is_told(events: &[Told], event: Event) -> bool {
+    match events {
+        [told] => told.event == event && told.pair.a.slot == 0 && told.pair.b.slot == 1,
+        _ => false,
+    }
+}
+
+// Ends a frame, and answers whether it is the one of this number, with so many exchanges before it, so many pairs, and this
+// event.
+fn ends_frame<B: BroadPhase + Drop>(
+    world: &mut BoxWorld<B>,
+    frames: u32,
+    exchanges: u64,
+    pairs: u32,
+    event: Event,
+) -> Result<bool, Fail> {
+    let counted = world.exchanges();
+    let found = world.update()?;
+    let told = is_told(world.events(), event);
+    Ok(counted == exchanges && found == pairs && world.frames() == frames && told)
+}
+
+// A pair, a mark, one box goes and another comes, a frame, back, a frame, and no mark is left.
+fn is_there_and_back<B: BroadPhase + Drop>(
+    world: &mut BoxWorld<B>,
+    exchanges: u64,
+) -> Result<bool, Fail> {
+    let first = world.add(unit(0, 0)?, SEEN, NOBODYS)?;
+    world.add(unit(1, 0)?, SEEN, NOBODYS)?;
+    let began = ends_frame(world, 1, exchanges, 1, Event::Begin)?;
+    let marked = world.mark()?;
+    world.remove(first)?;
+    let again = world.add(unit(5, 5)?, SEEN, NOBODYS)?;
+    let over = ends_frame(world, 2, 0, 0, Event::Over)?;
+    let went = world.back()?;
+    let stayed = ends_frame(world, 2, 0, 1, Event::Stay)?;
+    let left = world.back()?;
+    let numbered = again.slot == 0 && again.generation == 1;
+    Ok(began && marked && numbered && over && went && stayed && !left)
+}
+
+#[test]
+fn a_world_is_there_and_back(rt: HostRuntime) -> Result<(), Fail> {
+    let mut world = BoxWorld::new(rt.alloc(), PlainIndex::new(rt.alloc())?)?;
+    assert!(rt; is_there_and_back(&mut world, 0)?);
+    Ok(())
+}
+
+#[test]
+fn a_world_with_exchanges_is_there_and_back(rt: HostRuntime) -> Result<(), Fail> {
+    let mut world = BoxWorld::new(rt.alloc(), Sap::new(rt.alloc())?)?;
+    assert!(rt; is_there_and_back(&mut world, 3)?);
+    Ok(())
+}
+
+// Whether a handle is refused once its box has gone.
+fn is_stale(world: &mut BoxWorld<PlainIndex>, body: FBox) -> Result<bool, Fail> {
+    let gone = world.add(body, SEEN, NOBODYS)?;
+    world.remove(gone)?;
+    let stale = Err(Refusal::Stale);
+    Ok(
+        world.shift(gone, body) == stale
+            && world.mask(gone, SEEN) == stale
+            && world.remove(gone) == stale,
+    )
+}
+
+// Fills a world with boxes at one place, and answers whether one more is refused.
+fn is_full(world: &mut BoxWorld<PlainIndex>, body: FBox) -> Result<bool, Fail> {
+    for _ in 0..SLOTS {
+        world.add(body, SEEN, NOBODYS)?;
+    }
+    Ok(world.len() == SLOTS && world.add(body, SEEN, NOBODYS) == Err(Refusal::Full))
+}
+
+// Marks a world as often as may be, and answers whether one more mark is refused.
+fn is_marked_out(world: &mut BoxWorld<PlainIndex>) -> Result<bool, Fail> {
+    for _ in 0..64 {
+        if !world.mark()? {
+            return Ok(false);
+        }
+    }
+    Ok(!world.mark()? && world.held() == 64)
+}
+
+#[test]
+fn stale_handles_more_boxes_and_more_marks_are_refused(rt: HostRuntime) -> Result<(), Fail> {
+    let mut world = BoxWorld::new(rt.alloc(), PlainIndex::new(rt.alloc())?)?;
+    let body = unit(0, 0)?;
+    assert!(rt; is_stale(&mut world, body)?);
+    assert!(rt; is_full(&mut world, body)?);
+    assert!(rt; is_marked_out(&mut world)?);
+    Ok(())
+}
+
+// A number of workers out of range counts as the nearest in it.
+#[test]
+fn a_frame_is_searched_by_any_number_of_workers(rt: HostRuntime) -> Result<(), Fail> {
+    let mut world = BoxWorld::new(rt.alloc(), PlainIndex::new(rt.alloc())?)?;
+    assert!(rt; world.end_frame(&rt, 0, &NoGate) == Ok(0));
+    assert!(rt; world.end_frame(&rt, 99, &NoGate) == Ok(0));
+    Ok(())
+}
