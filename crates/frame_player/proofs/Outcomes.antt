@@ -1,6 +1,6 @@
 -- What writing the text of a play comes to.
 use Rattle.std.proofs.Common.{Bool, ◌^◌, ◌-◌, ◌≡◌, ℕ, ◌<◌, true, false, List, [], length}
-use Rattle.std.proofs.Common.{◌++◌, Option, Some, None, IfSome, OnOk, Result, Ok, Err, option_map, sym, ap, ◌∙◌, arith}
+use Rattle.std.proofs.Common.{◌++◌, Option, Some, None, IfSome, OnOk, Result, Ok, Err, option_map, sym, ap, subst, ◌∙◌, arith}
 use Rattle.std.specs.Io.KnownBytes.{append_known, prepend_known}
 use Rattle.std.proofs.lemmas.List.{append-nil}
 use Rattle.play_io.specs.Source.{CountsFault}
@@ -100,6 +100,10 @@ sink_failed shows limit before now text Status.NoMemory law is count begun rose 
 -- a count that has room rises at a fault
 pub rose_by : (before now : ℕ) → CountsFault before now → before < 2 ^ 64 - 1 → before < now
 rose_by before now counts few = counts.rose few
+
+-- what holds of a sink at the end of a report holds of the one that was lent to it
+pub final_sink : {K : Type 0} (P : K → Type 0) (sink : K) {lent : K} → P sink → sink ≡ lent → P lent
+final_sink P sink holds same = subst P same holds
 
 -- the rest of the text went out as far as it goes, and the status follows
 pub play_ended : (shows : Bool) (limit : ℕ) (before now : Ends) (since since' : Option ℕ) (b : Outlet) (held : List ℕ) (last : Last)

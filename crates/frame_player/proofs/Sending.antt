@@ -157,6 +157,11 @@ stopped_so a b text held (Err e) fault is s = subst (λ f. IsStopped a b text f)
 pub out_of_memory : {T : Type 0} (a : Outlet) (text held : List ℕ) (r : Result T SinkFault) → IsErrAnd r (λ e. e ≡ why.NoMemory) → IsSent a a text held r
 out_of_memory a text held r is = stopped_so a a text held r why.NoMemory is (stopped_here a text)
 
+-- the same of a report, whose sink goes by the name that it had
+pub report_out_of_memory : {N T : Type 0} (name : N) (a : Outlet) (text held : List ℕ) (r : Result T SinkFault) → IsErrAnd r (λ e. e ≡ why.NoMemory)
+    → (name ≡ name) × IsSent a a text held r
+report_out_of_memory name a text held r is = (refl, out_of_memory a text held r is)
+
 -- One more line goes on, of those that are left.
 pub sent_next : (a b c : Outlet) (start text rest line later text' : List ℕ) → IsHanded a b start (text ++ rest) → rest ≡ line ++ later
     → IsHanded b c (text ++ line) text' → IsHanded a c start (text' ++ later)

@@ -1,69 +1,58 @@
-ghost use Rattle.std.specs.Prelude.{◌≡◌, ◌++◌, flat_map};
+ghost use Rattle.std.specs.Prelude.{◌++◌, flat_map};
 ghost use Rattle.pair_report.specs.PairReport.{frame_line, told_line};
 ghost use Rattle.frame_player.specs.FrameText.{shown_number};
-ghost use Rattle.frame_player.specs.Outlet.{outlet, IsSent};
+ghost use Rattle.frame_player.specs.Outlet.{IsAppended};
 
-use crate::writing::hand_on;
+use crate::report::Report;
 use pair_events::Told;
 use pair_report::{put_exchanges, put_frame, put_told};
 use play_io::{Sink, SinkFault};
 
 // The line of a frame, one for each of its events, and that of its exchanges where they are to be shown. The text is
 // written a part at a time.
-#[tactic(auto, using(crate::proofs::Sending::out_of_memory))]
+#[tactic(auto, using(crate::proofs::Sending::report_out_of_memory))]
 pub(crate) fn send_frame<K: Sink>(
     number: u32,
     pairs: u32,
     events: &[Told],
     exchanges: Option<u64>,
-    sink: &mut K,
-    text: &mut Vec<u8>,
+    out: &mut Report<'_, K>,
 ) -> Result<(), SinkFault>
-    ensures { IsSent (outlet (K.written sink.old) (K.faults sink.old) (K.since sink.old))
-        (outlet (K.written sink.new) (K.faults sink.new) (K.since sink.new))
-        (text.old.items ++ (frame_line number pairs ++ (flat_map told_line events.now ++ shown_number exchanges))) text.new.items result }
+    ensures { IsAppended K.written K.faults K.since out.old out.new
+        (frame_line number pairs ++ (flat_map told_line events.now ++ shown_number exchanges)) result }
 {
-    put_frame(number, pairs, text)?;
-    hand_on(sink, text)?;
-    send_events(events, sink, text)?;
-    send_exchanges(exchanges, sink, text)
+    put_frame(number, pairs, out.text)?;
+    out.hand_on()?;
+    send_events(events, out)?;
+    send_exchanges(exchanges, out)
 }
 
 // A line for each event.
-fn send_events<K: Sink>(events: &[Told], sink: &mut K, text: &mut Vec<u8>) -> Result<(), SinkFault>
-    ensures { IsSent (outlet (K.written sink.old) (K.faults sink.old) (K.since sink.old))
-        (outlet (K.written sink.new) (K.faults sink.new) (K.since sink.new))
-        (text.old.items ++ flat_map told_line events.now) text.new.items result }
+fn send_events<K: Sink>(events: &[Told], out: &mut Report<'_, K>) -> Result<(), SinkFault>
+    ensures { IsAppended K.written K.faults K.since out.old out.new (flat_map told_line events.now) result }
 {
     let mut rest = events;
     'events: while let Some((event, more)) = rest.split_first() {
-        send_event(event, sink, text)?;
+        send_event(event, out)?;
         rest = more;
     }
     Ok(())
 }
 
-#[tactic(auto, using(crate::proofs::Sending::out_of_memory))]
-fn send_event<K: Sink>(event: &Told, sink: &mut K, text: &mut Vec<u8>) -> Result<(), SinkFault>
-    ensures { IsSent (outlet (K.written sink.old) (K.faults sink.old) (K.since sink.old))
-        (outlet (K.written sink.new) (K.faults sink.new) (K.since sink.new))
-        (text.old.items ++ told_line event.now) text.new.items result }
+#[tactic(auto, using(crate::proofs::Sending::report_out_of_memory))]
+fn send_event<K: Sink>(event: &Told, out: &mut Report<'_, K>) -> Result<(), SinkFault>
+    ensures { IsAppended K.written K.faults K.since out.old out.new (told_line event.now) result }
 {
-    put_told(event, text)?;
-    hand_on(sink, text)
+    put_told(event, out.text)?;
+    out.hand_on()
 }
 
-fn send_exchanges<K: Sink>(
-    exchanges: Option<u64>,
-    sink: &mut K,
-    text: &mut Vec<u8>,
-) -> Result<(), SinkFault>
-    ensures { IsSent (outlet (K.written sink.old) (K.faults sink.old) (K.since sink.old))
-        (outlet (K.written sink.new) (K.faults sink.new) (K.since sink.new))
-        (text.old.items ++ shown_number exchanges) text.new.items result }
+#[tactic(auto, using(crate::proofs::Sending::report_out_of_memory))]
+fn send_exchanges<K: Sink>(exchanges: Option<u64>, out: &mut Report<'_, K>) -> Result<(), SinkFault>
+    ensures { IsAppended K.written K.faults K.since out.old out.new (shown_number exchanges) result }
 {
     if let Some(number) = exchanges {
-        put_exchanges(number, text)?;
+        put_exchanges(number, out.text)?;
     }
-    hand_on(sink, text)
+    out.hand_on()
 }

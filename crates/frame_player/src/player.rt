@@ -1,9 +1,9 @@
-ghost use Rattle.std.specs.Prelude.{◌≡◌, ◌++◌, ◌<◌, ◌≤◌, Bool, true, false, length, Ok, OnOk, OnErr, IfOk};
-ghost use Rattle.work_pieces.specs.declared.TheConstants.{MOST_WORKERS};
+ghost use Rattle.std.specs.Prelude.{◌≡◌, ◌++◌, ◌<◌, Bool, true, false, length, Ok, OnOk, OnErr, IfOk};
 
-use crate::Options;
 use crate::allowed::{allow_first, allow_later};
 use crate::frame_text::send_frame;
+use crate::report::Report;
+use crate::setup::Setup;
 use broad_index::{BroadPhase, Gate, Pair, exchange_laws};
 use fixed_box::{FBox, NoMemory, SLOTS};
 use live_queries::{pairs_law, push_pairs};
@@ -34,7 +34,7 @@ impl<B: BroadPhase + Drop> Player<B> {
     ghost use Rattle.scene_words.specs.SceneWords.{command};
     ghost use Rattle.pair_events.specs.PairEvents.{events};
     ghost use Rattle.frame_player.specs.FrameText.{shown_number};
-    ghost use Rattle.frame_player.specs.Outlet.{outlet, IsSent};
+    ghost use Rattle.frame_player.specs.Outlet.{IsAppended};
     ghost use Rattle.live_queries.specs.Pairs.{pairs_of};
     ghost use Rattle.frame_player.specs.Player.{world_in, IsPlaying, HasRoom, IsObeyed, IsChange};
     ghost use Rattle.frame_player.specs.World.{opening, allowed, reply, shown};
@@ -167,26 +167,21 @@ impl<B: BroadPhase + Drop> Player<B> {
     // The frame ends: its pairs, and what became of each since the last one.
     pub(crate) fn end_frame<R: Threads + Sync, G: Gate + Sync, K: Sink>(
         &mut self,
-        rt: &R,
-        options: Options,
-        gate: &G,
-        sink: &mut K,
-        text: &mut Vec<u8>,
+        setup: &Setup<'_, R, G>,
+        out: &mut Report<'_, K>,
     ) -> Result<(), SinkFault>
     where
         B: Sync,
-        requires workers { (1 ≤ options.workers) × (options.workers ≤ MOST_WORKERS) }
-        requires shown { options.exchanges ≡ true → B.COUNTS ≡ true }
+        requires shown { setup.now.options.exchanges ≡ true → B.COUNTS ≡ true }
         requires playing { IsPlaying B.bodies B.spent self.old }
         requires room { HasRoom B.COUNTS B.exchanges self.old }
         ensures obeyed { OnOk result (IsObeyed B.bodies B.spent B.COUNTS B.exchanges Command.Frame self.old self.new) }
-        ensures sent { IsSent (outlet (K.written sink.old) (K.faults sink.old) (K.since sink.old))
-            (outlet (K.written sink.new) (K.faults sink.new) (K.since sink.new))
-            (text.old.items ++ reply options.exchanges (world_in B.exchanges self.old) Command.Frame) text.new.items result }
+        ensures sent { IsAppended K.written K.faults K.since out.old out.new
+            (reply setup.now.options.exchanges (world_in B.exchanges self.old) Command.Frame) result }
     {
-        let pairs = self.turn_pairs(rt, options.workers, gate)?;
-        let exchanges = self.shown_exchanges(options.exchanges);
-        send_frame(self.frames + 1, pairs, &self.events, exchanges, sink, text)?;
+        let pairs = self.turn_pairs(setup)?;
+        let exchanges = self.shown_exchanges(setup.options.exchanges);
+        send_frame(self.frames + 1, pairs, &self.events, exchanges, out)?;
         self.index.clear_exchanges();
         self.frames += 1;
         Ok(())
@@ -207,13 +202,10 @@ impl<B: BroadPhase + Drop> Player<B> {
     // Finds the pairs of the frame, and what became of each since the last one. Answers how many there are.
     fn turn_pairs<R: Threads + Sync, G: Gate + Sync>(
         &mut self,
-        rt: &R,
-        workers: u32,
-        gate: &G,
+        setup: &Setup<'_, R, G>,
     ) -> Result<u32, NoMemory>
     where
         B: Sync,
-        requires workers { (1 ≤ workers) × (workers ≤ MOST_WORKERS) }
         requires playing { IsPlaying B.bodies B.spent self.old }
         ensures count { IfOk result (λ count. count ≡ length (pairs_of self.old.table.entries)) }
         ensures events { OnOk result (self.new.events.items ≡ events self.old.pair_table (pairs_of self.old.table.entries)) }
@@ -224,7 +216,7 @@ impl<B: BroadPhase + Drop> Player<B> {
     {
         pairs_law();
         self.pairs.clear();
-        self.index.pairs_with(rt, workers, gate, &mut self.pairs)?;
+        self.index.pairs_with(setup.rt, setup.options.workers, setup.gate, &mut self.pairs)?;
         let mut now = Vec::new(self.alloc);
         push_pairs(&self.table, &self.pairs, &mut now)?;
         let count = now.len() as u32;

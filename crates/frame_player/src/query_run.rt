@@ -2,13 +2,13 @@ ghost use Rattle.std.specs.Prelude.{◌≡◌, ◌+◌, ◌<◌, ◌≤◌, ◌+
 ghost use Rattle.broad_index.specs.Found.{found};
 ghost use Rattle.live_table.specs.Bodies.{bodies_of};
 ghost use Rattle.live_table.specs.Table.{IsTable};
-ghost use Rattle.frame_player.specs.Outlet.{outlet, IsSent};
+ghost use Rattle.frame_player.specs.Outlet.{IsAppended, IsSentBy};
 ghost use Rattle.frame_player.specs.Owed.{answer_line, answers, owed, IsRun};
 ghost use Rattle.frame_player.specs.Player.{IsPlaying};
-ghost use Rattle.work_pieces.specs.declared.TheConstants.{MOST_WORKERS};
 
 use crate::player::Player;
-use crate::writing::hand_on;
+use crate::report::Report;
+use crate::setup::Setup;
 use broad_index::{BroadPhase, Gate, Query};
 use fixed_box::NoMemory;
 use live_queries::push_hits;
@@ -53,67 +53,62 @@ impl QueryRun {
 }
 
 // Holds one more query, and answers the run where it is long enough.
-#[tactic(auto, using(crate::proofs::Sending::out_of_memory))]
+#[tactic(auto, using(crate::proofs::Sending::report_out_of_memory))]
 pub(crate) fn gather<R: Threads + Sync, B: BroadPhase + Sync + Drop, G: Gate + Sync, K: Sink>(
-    rt: &R,
-    workers: u32,
-    gate: &G,
+    setup: &Setup<'_, R, G>,
     player: &Player<B>,
     run: &mut QueryRun,
     query: Query,
     mask: u32,
-    sink: &mut K,
-    text: &mut Vec<u8>,
+    out: &mut Report<'_, K>,
 ) -> Result<(), SinkFault>
-    requires workers { (1 ≤ workers) × (workers ≤ MOST_WORKERS) }
     requires playing { IsPlaying B.bodies B.spent player.now }
     requires run { IsRun run.old }
-    ensures sent { IsSent (outlet (K.written sink.old) (K.faults sink.old) (K.since sink.old))
-        (outlet (K.written sink.new) (K.faults sink.new) (K.since sink.new))
-        ((text.old.items ++ owed player.now.table.entries run.old) ++ answer_line player.now.table.entries query mask)
-        (text.new.items ++ owed player.now.table.entries run.new) result }
+    ensures sent { IsSentBy K.written K.faults K.since out.old out.new
+        ((out.old.text.now.items ++ owed player.now.table.entries run.old) ++ answer_line player.now.table.entries query mask)
+        (out.new.text.now.items ++ owed player.now.table.entries run.new) result }
     ensures run { OnOk result (IsRun run.new) }
 {
     run.push(query, mask)?;
     if run.queries.len() < LONGEST_RUN {
         return Ok(());
     }
-    settle(rt, workers, gate, player, run, sink, text)
+    settle(setup, player, run, out)
 }
 
-// Answers a run, by up to so many threads.
-#[tactic(auto, using(crate::proofs::Sending::out_of_memory))]
+// Answers a run, by as many threads as there may be.
+#[tactic(auto, using(crate::proofs::Sending::report_out_of_memory))]
 pub(crate) fn settle<R: Threads + Sync, B: BroadPhase + Sync + Drop, G: Gate + Sync, K: Sink>(
-    rt: &R,
-    workers: u32,
-    gate: &G,
+    setup: &Setup<'_, R, G>,
     player: &Player<B>,
     run: &mut QueryRun,
-    sink: &mut K,
-    text: &mut Vec<u8>,
+    out: &mut Report<'_, K>,
 ) -> Result<(), SinkFault>
-    requires workers { (1 ≤ workers) × (workers ≤ MOST_WORKERS) }
     requires playing { IsPlaying B.bodies B.spent player.now }
     requires same { length run.old.masks.items ≡ length run.old.queries.items }
     requires few { length run.old.queries.items ≤ LONGEST_RUN }
-    ensures sent { IsSent (outlet (K.written sink.old) (K.faults sink.old) (K.since sink.old))
-        (outlet (K.written sink.new) (K.faults sink.new) (K.since sink.new))
-        (text.old.items ++ owed player.now.table.entries run.old) text.new.items result }
+    ensures sent { IsAppended K.written K.faults K.since out.old out.new (owed player.now.table.entries run.old) result }
     ensures queries { OnOk result (run.new.queries.items ≡ []) }
     ensures masks { OnOk result (run.new.masks.items ≡ []) }
 {
     if run.queries.is_empty() {
         return Ok(());
     }
-    let lists = hits_many(rt, player.alloc, &player.index, &run.queries, workers, gate)?;
+    let lists = hits_many(
+        setup.rt,
+        player.alloc,
+        &player.index,
+        &run.queries,
+        setup.options.workers,
+        setup.gate,
+    )?;
     send_answers(
         player.alloc,
         &player.table,
         &run.queries,
         &run.masks,
         &lists,
-        sink,
-        text,
+        out,
     )?;
     run.queries.clear();
     run.masks.clear();
@@ -127,15 +122,12 @@ fn send_answers<K: Sink>(
     queries: &[Query],
     masks: &[u32],
     lists: &[Vec<u32>],
-    sink: &mut K,
-    text: &mut Vec<u8>,
+    out: &mut Report<'_, K>,
 ) -> Result<(), SinkFault>
     requires table { IsTable table.now }
     requires same { length masks.now ≡ length queries.now }
     requires lists { map (λ l. l.items) lists.now ≡ map (found (bodies_of table.now.entries)) queries.now }
-    ensures { IsSent (outlet (K.written sink.old) (K.faults sink.old) (K.since sink.old))
-        (outlet (K.written sink.new) (K.faults sink.new) (K.since sink.new))
-        (text.old.items ++ answers table.now.entries queries.now masks.now) text.new.items result }
+    ensures { IsAppended K.written K.faults K.since out.old out.new (answers table.now.entries queries.now masks.now) result }
 {
     let mut handles = Vec::new(alloc);
     let mut asked = queries;
@@ -148,7 +140,7 @@ fn send_answers<K: Sink>(
         let Some((slots, later_lists)) = found.split_first() else {
             unreachable!()
         };
-        send_answer(table, query, *mask, slots, &mut handles, sink, text)?;
+        send_answer(table, query, *mask, slots, &mut handles, out)?;
         asked = later;
         seen = later_masks;
         found = later_lists;
@@ -157,23 +149,21 @@ fn send_answers<K: Sink>(
 }
 
 // The line of one query. The list of handles is used again and again.
+#[tactic(auto, using(crate::proofs::Sending::report_out_of_memory))]
 fn send_answer<K: Sink>(
     table: &LiveTable,
     query: &Query,
     mask: u32,
     slots: &[u32],
     handles: &mut Vec<Handle>,
-    sink: &mut K,
-    text: &mut Vec<u8>,
+    out: &mut Report<'_, K>,
 ) -> Result<(), SinkFault>
     requires table { IsTable table.now }
     requires found { slots.now ≡ found (bodies_of table.now.entries) query.now }
-    ensures { IsSent (outlet (K.written sink.old) (K.faults sink.old) (K.since sink.old))
-        (outlet (K.written sink.new) (K.faults sink.new) (K.since sink.new))
-        (text.old.items ++ answer_line table.now.entries query.now mask) text.new.items result }
+    ensures { IsAppended K.written K.faults K.since out.old out.new (answer_line table.now.entries query.now mask) result }
 {
     handles.clear();
     push_hits(table, query, mask, slots, handles)?;
-    put_hits(query.kind(), handles, text)?;
-    hand_on(sink, text)
+    put_hits(query.kind(), handles, out.text)?;
+    out.hand_on()
 }

@@ -3,7 +3,7 @@ ghost use Rattle.broad_index.specs.Fresh.{IsFresh};
 ghost use Rattle.frame_player.specs.declared.status.Status.TheVariants.{Usage};
 ghost use Rattle.frame_player.specs.Ending.{IsTextOf, IsCountedAs, after_fault, ended, last_line, status_of};
 ghost use Rattle.frame_player.specs.Outcome.{ends, IsOutcome, IsBegun};
-ghost use Rattle.frame_player.specs.Outlet.{outlet, IsSent, IsSaid, IsCutShort};
+ghost use Rattle.frame_player.specs.Outlet.{IsSentBy, IsSaidBy, IsCutShortBy};
 ghost use Rattle.frame_player.specs.Owed.{owed, IsRun};
 ghost use Rattle.frame_player.specs.Play.{played, report};
 ghost use Rattle.frame_player.specs.Player.{IsPlaying, IsOpening};
@@ -14,7 +14,8 @@ use crate::last::Last;
 use crate::obeying::obey;
 use crate::player::Player;
 use crate::query_run::{QueryRun, settle};
-use crate::writing::write_all;
+use crate::report::Report;
+use crate::setup::Setup;
 use crate::{Limits, Options, Status, replies_begin_report};
 use broad_index::{BroadPhase, Gate};
 use pair_report::Cause;
@@ -60,30 +61,22 @@ pub fn play<R: Threads + Sync, B: BroadPhase + Sync + Drop, G: Gate + Sync, S: S
         return Status::NoMemory;
     };
     let mut run = QueryRun::new(alloc);
+    let setup = Setup { rt, gate, options };
     let mut text = Vec::new(alloc);
+    let mut out = Report {
+        sink,
+        text: &mut text,
+    };
     match play_lines(
-        rt,
-        alloc,
-        options,
+        &setup,
         limits.lines,
-        gate,
         &mut player,
         &mut run,
         source,
-        sink,
-        &mut text,
+        &mut out,
     ) {
         Ok(last) => {
-            let sent = finish(
-                rt,
-                options.workers,
-                gate,
-                &player,
-                &mut run,
-                last,
-                sink,
-                &mut text,
-            );
+            let sent = finish(&setup, &player, &mut run, last, &mut out);
             ended(last, sent)
         }
         Err(SinkFault::Failed) => Status::WriteFault,
@@ -116,45 +109,41 @@ fn after_fault(status: Status) -> Status
 // Plays the lines up to the last one, and answers how the reading ends. The end of the text is held, and answers may be
 // owed still.
 fn play_lines<R: Threads + Sync, B: BroadPhase + Sync + Drop, G: Gate + Sync, S: Source, K: Sink>(
-    rt: &R,
-    alloc: Global,
-    options: Options,
+    setup: &Setup<'_, R, G>,
     limit: u32,
-    gate: &G,
     player: &mut Player<B>,
     run: &mut QueryRun,
     source: &mut S,
-    sink: &mut K,
-    text: &mut Vec<u8>,
+    out: &mut Report<'_, K>,
 ) -> Result<Last, SinkFault>
     requires opening { IsOpening B.exchanges player.old }
     requires playing { IsPlaying B.bodies B.spent player.old }
-    requires workers { (1 ≤ options.workers) × (options.workers ≤ MOST_WORKERS) }
-    requires shown { options.exchanges ≡ true → B.COUNTS ≡ true }
+    requires shown { setup.now.options.exchanges ≡ true → B.COUNTS ≡ true }
     requires some_lines { 1 ≤ limit }
     requires most_lines { limit ≤ MOST_LINES }
     requires source_count { S.faults source.old < 2 ^ 64 - 1 }
-    requires nothing { text.old.items ≡ [] }
+    requires nothing { out.old.text.now.items ≡ [] }
     requires queries { run.old.queries.items ≡ [] }
     requires masks { run.old.masks.items ≡ [] }
-    ensures said { IfOk result (λ last. IsSaid (outlet (K.written sink.old) (K.faults sink.old) (K.since sink.old))
-        (outlet (K.written sink.new) (K.faults sink.new) (K.since sink.new))
-        (text.new.items ++ owed player.new.table.entries run.new)
-        (λ all. IfSome (S.left source.old) (λ given. IsTextOf options.exchanges limit given (S.left source.new) (all ++ last_line last) (status_of last)))) }
+    ensures same_sink { out.new.sink.ghost_name ≡ out.old.sink.ghost_name }
+    ensures said { IfOk result (λ last. IsSaidBy K.written K.faults K.since out.old out.new
+        (out.new.text.now.items ++ owed player.new.table.entries run.new)
+        (λ all. IfSome (S.left source.old) (λ given.
+        IsTextOf setup.now.options.exchanges limit given (S.left source.new) (all ++ last_line last) (status_of last)))) }
     ensures count { IfOk result (λ last. IsCountedAs (S.faults source.old) (S.faults source.new) (status_of last)) }
     ensures playing { OnOk result (IsPlaying B.bodies B.spent player.new) }
     ensures run { OnOk result (IsRun run.new) }
-    ensures stopped { IfErr result (λ fault. IsCutShort (outlet (K.written sink.old) (K.faults sink.old) (K.since sink.old))
-        (outlet (K.written sink.new) (K.faults sink.new) (K.since sink.new)) fault
-        (IfSome (S.left source.old) (λ given. IsBegun (K.written sink.old) (K.written sink.new) (report options.exchanges limit (lines given true))))) }
+    ensures stopped { IfErr result (λ fault. IsCutShortBy K.written K.faults K.since out.old out.new fault
+        (IfSome (S.left source.old) (λ given.
+        IsBegun (K.written out.old.sink.now) (K.written out.new.sink.now) (report setup.now.options.exchanges limit (lines given true))))) }
     ensures unread { OnErr result (S.faults source.new ≡ S.faults source.old) }
 {
-    let mut reader = LineReader::new(alloc, limit)?;
+    let mut reader = LineReader::new(player.alloc, limit)?;
     line_laws();
     'lines: loop {
         match reader.next(source) {
             Next::Line => match player.read_line(reader.line()) {
-                Ok(command) => obey(rt, options, gate, player, run, &command, sink, text)?,
+                Ok(command) => obey(setup, player, run, &command, out)?,
                 Err(cause) => return Ok(Last::Refused {
                     line: reader.number(),
                     cause,
@@ -187,26 +176,21 @@ fn play_lines<R: Threads + Sync, B: BroadPhase + Sync + Drop, G: Gate + Sync, S:
 }
 
 // Answers what is owed, and writes the rest of the text with the last line.
-#[tactic(auto, using(crate::proofs::Sending::out_of_memory))]
+#[tactic(auto, using(crate::proofs::Sending::report_out_of_memory))]
 fn finish<R: Threads + Sync, B: BroadPhase + Sync + Drop, G: Gate + Sync, K: Sink>(
-    rt: &R,
-    workers: u32,
-    gate: &G,
+    setup: &Setup<'_, R, G>,
     player: &Player<B>,
     run: &mut QueryRun,
     last: Last,
-    sink: &mut K,
-    text: &mut Vec<u8>,
+    out: &mut Report<'_, K>,
 ) -> Result<(), SinkFault>
-    requires workers { (1 ≤ workers) × (workers ≤ MOST_WORKERS) }
     requires playing { IsPlaying B.bodies B.spent player.now }
     requires run { IsRun run.old }
-    ensures sent { IsSent (outlet (K.written sink.old) (K.faults sink.old) (K.since sink.old))
-        (outlet (K.written sink.new) (K.faults sink.new) (K.since sink.new))
-        ((text.old.items ++ owed player.now.table.entries run.old) ++ last_line last) [] result }
-    ensures settled { OnOk result (K.settled sink.new ≡ option_map length (K.written sink.new)) }
+    ensures sent { IsSentBy K.written K.faults K.since out.old out.new
+        ((out.old.text.now.items ++ owed player.now.table.entries run.old) ++ last_line last) [] result }
+    ensures settled { OnOk result (K.settled out.new.sink.now ≡ option_map length (K.written out.new.sink.now)) }
 {
-    settle(rt, workers, gate, player, run, sink, text)?;
-    last.put(text)?;
-    write_all(sink, text)
+    settle(setup, player, run, out)?;
+    last.put(out.text)?;
+    out.write_rest()
 }

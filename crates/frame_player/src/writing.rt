@@ -3,9 +3,6 @@ ghost use Rattle.frame_player.specs.Outlet.{outlet, IsSent};
 
 use play_io::{Sink, SinkFault};
 
-// From this many bytes on a text is written.
-const FULL: usize = 65_536;
-
 /// Writes a whole text to a sink, in as many writes as it takes, and settles it with one flush.
 ///
 /// After an `Err` a part of the text is written, and the sink isn't called again.
@@ -20,7 +17,7 @@ pub fn write_all<K: Sink>(sink: &mut K, text: &[u8]) -> Result<(), SinkFault>
 }
 
 // Writes a whole text.
-fn write_pieces<K: Sink>(sink: &mut K, text: &[u8]) -> Result<(), SinkFault>
+pub(crate) fn write_pieces<K: Sink>(sink: &mut K, text: &[u8]) -> Result<(), SinkFault>
     ensures { IsSent (outlet (K.written sink.old) (K.faults sink.old) (K.since sink.old))
         (outlet (K.written sink.new) (K.faults sink.new) (K.since sink.new))
         text.now [] result }
@@ -30,19 +27,5 @@ fn write_pieces<K: Sink>(sink: &mut K, text: &[u8]) -> Result<(), SinkFault>
         let count = sink.write(rest)?;
         rest = rest.split_at(count).1;
     }
-    Ok(())
-}
-
-// Writes a text that is full, and holds one that isn't.
-pub(crate) fn hand_on<K: Sink>(sink: &mut K, text: &mut Vec<u8>) -> Result<(), SinkFault>
-    ensures { IsSent (outlet (K.written sink.old) (K.faults sink.old) (K.since sink.old))
-        (outlet (K.written sink.new) (K.faults sink.new) (K.since sink.new))
-        text.old.items text.new.items result }
-{
-    if text.len() < FULL {
-        return Ok(());
-    }
-    write_pieces(sink, text)?;
-    text.clear();
     Ok(())
 }

@@ -7,7 +7,7 @@ use Rattle.scene_words.specs.declared.version.Version.TheVariants.{One}
 use Rattle.scene_words.specs.SceneWords.{command}
 use Rattle.play_io.specs.declared.sink.SinkFault.TheVariants as why
 use Rattle.frame_player.specs.Outcome.{IsBegun}
-use Rattle.frame_player.specs.Outlet.{outlet, IsCutShort}
+use Rattle.frame_player.specs.Outlet.{outlet_of, IsCutShort}
 use Rattle.frame_player.specs.OutcomeLaws.{append_known-nil, nothing_begun}
 use Rattle.frame_player.specs.Owed.{answers, owed}
 use Rattle.frame_player.specs.Play.{report}
@@ -32,16 +32,17 @@ lines-init g c =
     let frames : player.frames ≡ 0 = ap (λ w. w.frames) opens in
     let gives : sum player.table.gives ≡ 0 = ap (λ w. sum w.table.gives) opens in
     let exchanged : g.B.BroadPhase.exchanges player.index ≡ 0 = ap (λ w. w.exchanges) opens in
-    let none : c.args.text.now.items ++ answers player.table.entries run.queries.items run.masks.items ≡ [] =
+    let none : c.args.out.now.text.now.items ++ answers player.table.entries run.queries.items run.masks.items ≡ [] =
     rw (c.requires.nothing, c.requires.queries) refl in
     record {
+      same_sink = refl;
       said = record {
         done = [];
-        written = append_known-nil (g.K.Sink.written c.args.sink.now);
+        written = append_known-nil (g.K.Sink.written c.args.out.now.sink.now);
         unfailed = refl;
         uncalled = λ _. refl;
-        whole = opened c.args.options.exchanges c.args.limit (g.S.Source.left c.args.source.now) reader (world_in g.B.BroadPhase.exchanges player)
-            (c.args.text.now.items ++ owed player.table.entries run) made opens none;
+        whole = opened c.args.setup.now.options.exchanges c.args.limit (g.S.Source.left c.args.source.now) reader (world_in g.B.BroadPhase.exchanges player)
+            (c.args.out.now.text.now.items ++ owed player.table.entries run) made opens none;
       };
       playing = c.requires.playing;
       run = record { same = rw (c.requires.queries, c.requires.masks) refl; few = rw c.requires.queries (omega arith) };
@@ -57,19 +58,21 @@ lines-init g c =
 
 pub lines-preserved : goal.lines-preserved
 lines-preserved g c =
+    let at = outlet_of g.K.Sink.written g.K.Sink.faults g.K.Sink.since in
     let inv = c.lines.invariant in
     let next = c.in-Line.ensures in
     let old = c.lines.reader in
     let new = c.next.new.self in
-    let shows = c.args.options.exchanges in
+    let shows = c.args.setup.now.options.exchanges in
     let limit = c.args.limit in
     let left = g.S.Source.left c.args.source.now in
     let was = g.S.Source.left c.lines.source in
     let now = g.S.Source.left c.next.new.source in
     let w = world_in g.B.BroadPhase.exchanges c.lines.player in
-    let before = (outlet (g.K.Sink.written c.args.sink.now) (g.K.Sink.faults c.args.sink.now) (g.K.Sink.since c.args.sink.now)) in
-    let here = (outlet (g.K.Sink.written c.lines.sink) (g.K.Sink.faults c.lines.sink) (g.K.Sink.since c.lines.sink)) in
-    let held = c.lines.text.items ++ owed c.lines.player.table.entries c.lines.run in
+    let before = at c.args.out.now in
+    let here = at c.lines.out in
+    let new_out = at c.obey.new.out in
+    let held = c.lines.out.text.now.items ++ owed c.lines.player.table.entries c.lines.run in
     let P : List ℕ → List ℕ → Type 0 = λ given all. IsReached shows limit given was old.held old.over w (old.number + 1) all in
     let limit_is = inv.limit in
     let limit_stays = next.limit in
@@ -90,10 +93,12 @@ lines-preserved g c =
     let later = world_in g.B.BroadPhase.exchanges c.obey.new.player in
     let number = next.number in
     record {
+      same_sink = obey.sent.0 ∙ inv.same_sink;
       said = said_on (λ all. IfSome left (λ given. P given all)) (λ all. IfSome left (λ given. IsReached shows limit given now new.held new.over later
           (new.number + 1) all))
-          before here (outlet (g.K.Sink.written c.obey.new.sink) (g.K.Sink.faults c.obey.new.sink) (g.K.Sink.since c.obey.new.sink)) held (reply shows w said)
-          (c.obey.new.text.items ++ owed c.obey.new.player.table.entries c.obey.new.run) inv.said obey.sent (λ all ok. on_some left ok (λ given reached.
+          before here new_out held (reply shows w said)
+          (c.obey.new.out.text.now.items ++ owed c.obey.new.player.table.entries c.obey.new.run) inv.said obey.sent.1
+          (λ all ok. on_some left ok (λ given reached.
           line_played shows limit given was now old new w later all (all ++ reply shows w said) said c.line_laws.ensures.ended c.line_laws.ensures.one_feed
           reached handed within_limit
           (ap (λ l. allowed w (command One l)) (sym c.line.ensures.value) ∙ sym c.in-Ok.ensures.read)
@@ -112,30 +117,31 @@ lines-preserved g c =
 
 pub returns-in_err-reader-clause-stopped : goal.returns-in_err-reader-clause-stopped
 returns-in_err-reader-clause-stopped g c =
-    let known = g.K.Sink.written c.args.sink.now in
+    let here = outlet_of g.K.Sink.written g.K.Sink.faults g.K.Sink.since c.args.out.now in
+    let known = g.K.Sink.written c.args.out.now.sink.now in
     let left = g.S.Source.left c.args.source.now in
-    let text : List ℕ → List ℕ = λ given. report c.args.options.exchanges c.args.limit (lines given true) in
-    on_fault (λ fault. IsCutShort (outlet (g.K.Sink.written c.args.sink.now) (g.K.Sink.faults c.args.sink.now) (g.K.Sink.since c.args.sink.now))
-    (outlet (g.K.Sink.written c.args.sink.now) (g.K.Sink.faults c.args.sink.now) (g.K.Sink.since c.args.sink.now)) fault
-    (IfSome left (λ given. IsBegun known known (text given))))
+    let text : List ℕ → List ℕ = λ given. report c.args.setup.now.options.exchanges c.args.limit (lines given true) in
+    on_fault (λ fault. IsCutShort here here fault (IfSome left (λ given. IsBegun known known (text given))))
     c.from_residual.result why.NoMemory c.from_residual.ensures.1
     (record { part = nothing_begun left known text; count = refl; uncalled = λ _. refl })
 
 pub returns-in_err-obey-in-Ok-clause-stopped : goal.returns-in_err-obey-in-Ok-clause-stopped
 returns-in_err-obey-in-Ok-clause-stopped g c =
+    let at = outlet_of g.K.Sink.written g.K.Sink.faults g.K.Sink.since in
     let inv = c.lines.invariant in
     let next = c.in-Line.ensures in
     let old = c.lines.reader in
     let new = c.next.new.self in
-    let shows = c.args.options.exchanges in
+    let shows = c.args.setup.now.options.exchanges in
     let limit = c.args.limit in
     let left = g.S.Source.left c.args.source.now in
     let was = g.S.Source.left c.lines.source in
     let now = g.S.Source.left c.next.new.source in
     let w = world_in g.B.BroadPhase.exchanges c.lines.player in
-    let before = (outlet (g.K.Sink.written c.args.sink.now) (g.K.Sink.faults c.args.sink.now) (g.K.Sink.since c.args.sink.now)) in
-    let here = (outlet (g.K.Sink.written c.lines.sink) (g.K.Sink.faults c.lines.sink) (g.K.Sink.since c.lines.sink)) in
-    let held = c.lines.text.items ++ owed c.lines.player.table.entries c.lines.run in
+    let before = at c.args.out.now in
+    let here = at c.lines.out in
+    let new_out = at c.obey.new.out in
+    let held = c.lines.out.text.now.items ++ owed c.lines.player.table.entries c.lines.run in
     let P : List ℕ → List ℕ → Type 0 = λ given all. IsReached shows limit given was old.held old.over w (old.number + 1) all in
     let limit_is = inv.limit in
     let limit_stays = next.limit in
@@ -152,16 +158,15 @@ returns-in_err-obey-in-Ok-clause-stopped g c =
       short = next.short;
     } in
     let said = c.in-Ok.command in
-    let stop = said_stopped (λ all. IfSome left (λ given. P given all)) before here (outlet (g.K.Sink.written c.obey.new.sink)
-    (g.K.Sink.faults c.obey.new.sink) (g.K.Sink.since c.obey.new.sink)) held (reply shows w said) c.in_err-obey-in-Ok.field-0.0 inv.said
-    c.in_err-obey-in-Ok.ensures.sent in
-    on_fault (λ fault. IsCutShort before (outlet (g.K.Sink.written c.obey.new.sink) (g.K.Sink.faults c.obey.new.sink) (g.K.Sink.since c.obey.new.sink))
-    fault (IfSome left (λ given.
-    IsBegun (g.K.Sink.written c.args.sink.now) (g.K.Sink.written c.obey.new.sink) (report shows limit (lines given true)))))
+    let known = g.K.Sink.written c.args.out.now.sink.now in
+    let later = g.K.Sink.written c.obey.new.out.sink.now in
+    let stop = said_stopped (λ all. IfSome left (λ given. P given all)) before here new_out held (reply shows w said) c.in_err-obey-in-Ok.field-0.0 inv.said
+    c.in_err-obey-in-Ok.ensures.sent.1 in
+    on_fault (λ fault. IsCutShort before new_out fault (IfSome left (λ given. IsBegun known later (report shows limit (lines given true)))))
     c.from_residual-in_err-obey-in-Ok.result c.in_err-obey-in-Ok.field-0.0 c.from_residual-in_err-obey-in-Ok.ensures.1
     (record {
       part = on_some left inv.said.whole (λ given reached.
-          begun_within (g.K.Sink.written c.args.sink.now) (g.K.Sink.written c.obey.new.sink) ((inv.said.done ++ held) ++ reply shows w said)
+          begun_within known later ((inv.said.done ++ held) ++ reply shows w said)
           (report shows limit (lines given true)) stop.begun
           (replied_within shows limit given now new.held new.over (after w said) (new.number + 1) ((inv.said.done ++ held) ++ reply shows w said)
           (line_played shows limit given was now old new w (after w said) (inv.said.done ++ held) ((inv.said.done ++ held) ++ reply shows w said) said
