@@ -1,0 +1,5 @@
+mod Bounding
+mod Ranked
+mod Rounded
+mod Scaling
+mod Spanned
