@@ -72,7 +72,10 @@ circle_above a b v le low high = omega (arith, ints)
 same_order : (x y : ℤ) (d : ℕ) → 0 < d → x ≤ℤ y → (x *ℤ pos d) ≤ℤ (y *ℤ pos d)
 same_order x y d positive h =
     by_lt_z x y (λ less. weaker (x *ℤ pos d) (y *ℤ pos d) (below_times x y d positive less))
-    (λ more. let same : x ≡ y = omega (arith, ints) in let P : ℤ → Type 0 = λ z. (x *ℤ pos d) ≤ℤ (z *ℤ pos d) in subst P same (itself (x *ℤ pos d)))
+    (λ more.
+    let same : x ≡ y = omega (arith, ints) in
+    let P : ℤ → Type 0 = λ z. (x *ℤ pos d) ≤ℤ (z *ℤ pos d) in
+    subst P same (itself (x *ℤ pos d)))
   where
     weaker : (a b : ℤ) → a <ℤ b → a ≤ℤ b
     weaker a b less = omega (arith, ints)
