@@ -11,7 +11,7 @@ use Rattle.float_bounds.specs.declared.float_fault.FloatFault.{FloatFault}
 use Rattle.float_bounds.specs.declared.format.Format.{Format}
 use Rattle.float_bounds.specs.declared.parts.Parts.{Parts}
 use Rattle.float_bounds.specs.Value.{value_of, value, and_then, signed, is_negative, biased_exponent, fraction_of}
-use Rattle.float_bounds.specs.Order.{rank}
+use Rattle.float_bounds.specs.Rank.{rank}
 
 -- a magnitude from a biased exponent and a trailing significand below p
 abbrev magnitude : ℕ → ℕ → ℕ → ℕ

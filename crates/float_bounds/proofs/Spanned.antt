@@ -13,7 +13,8 @@ use Rattle.float_bounds.specs.declared.around.Span.{Span}
 use Rattle.float_bounds.specs.Format.{raw_step}
 use Rattle.float_bounds.specs.Value.{value, and_then}
 use Rattle.float_bounds.specs.Rounding.{ceil_div, within_range, fix_below, fix_above}
-use Rattle.float_bounds.specs.Order.{float_le, value_le, corner_le, floats_meet, rank}
+use Rattle.float_bounds.specs.Order.{float_le, value_le, corner_le, floats_meet}
+use Rattle.float_bounds.specs.Rank.{rank}
 use Rattle.float_bounds.specs.Around.{span_around, box_of, box_around}
 use Rattle.float_bounds.specs.Laws.{HoldsInterval, HoldsFloats}
 use Rattle.float_bounds.proofs.Ranked.{ranked}

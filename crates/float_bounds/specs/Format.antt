@@ -1,5 +1,5 @@
 -- The two formats of IEEE 754-2019, 3.4, table 3.5, and what a raw unit is in them.
-use Rattle.std.specs.Prelude.{ℕ, ◌+◌, ◌-◌, ◌^◌, ◌≤◌}
+use Rattle.std.specs.Prelude.{ℕ, ◌+◌, ◌-◌, ◌^◌}
 use Rattle.float_bounds.specs.declared.format.Format.{Format}
 
 -- binary32, an engine's `float`
@@ -18,11 +18,3 @@ step_bits f = f.bias + f.fraction_bits - 17
 -- how many least numbers a raw unit has
 abbrev pub raw_step : Format → ℕ
 raw_step f = 2 ^ step_bits f
-
--- the bits fit 64, and a raw unit is a whole number of least numbers
-pub record IsNarrow (f : Format) : Type 0 where
-  pub bits : f.exponent_bits + f.fraction_bits ≤ 63
-  pub exponent : f.exponent_bits ≤ 31
-  pub fraction : f.fraction_bits ≤ 62
-  pub coarse : 17 ≤ f.bias + f.fraction_bits
-  pub bias : f.bias ≤ 1023

@@ -1,8 +1,8 @@
 -- Floats against each other, by their values.
-use Rattle.std.specs.Prelude.{ℕ, Bool, false, ◌&&◌, ◌%◌, ◌+◌, ◌^◌, ℤ, int_le, Result, Ok, Err, List, slice_index}
+use Rattle.std.specs.Prelude.{ℕ, Bool, false, ◌&&◌, ℤ, int_le, Result, Ok, Err, List, slice_index}
 use Rattle.float_bounds.specs.declared.float_fault.FloatFault.{FloatFault}
 use Rattle.float_bounds.specs.declared.format.Format.{Format}
-use Rattle.float_bounds.specs.Value.{value, signed, is_negative}
+use Rattle.float_bounds.specs.Value.{value}
 
 -- one value is at most another, and a fault is at most nothing and nothing at most it
 abbrev pub value_le : Result ℤ FloatFault → Result ℤ FloatFault → Bool
@@ -22,7 +22,3 @@ corner_le f p q =
 -- closed boxes of floats have a common point exactly where their intervals overlap on each axis
 abbrev pub floats_meet : Format → List ℕ → List ℕ → List ℕ → List ℕ → Bool
 floats_meet f lo hi other_lo other_hi = corner_le f lo other_hi && corner_le f other_lo hi
-
--- A float's bits below the sign, as a whole number behind it. Finite floats are ordered as these are.
-abbrev pub rank : Format → ℕ → ℤ
-rank f bits = signed (is_negative f bits) (bits % 2 ^ (f.exponent_bits + f.fraction_bits))

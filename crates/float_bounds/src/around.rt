@@ -1,5 +1,6 @@
 ghost use Rattle.std.specs.Prelude.{◌≡◌, ◌≤ℤ◌, IfOk};
-ghost use Rattle.float_bounds.specs.Format.{IsNarrow, binary32, binary64};
+ghost use Rattle.float_bounds.specs.Narrow.{IsNarrow};
+ghost use Rattle.float_bounds.specs.Format.{binary32, binary64};
 ghost use Rattle.float_bounds.specs.Around.{span_around, box_of, box_around};
 
 use crate::FloatFault;

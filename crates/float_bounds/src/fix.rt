@@ -1,6 +1,7 @@
 ghost use Rattle.std.specs.Prelude.{◌≡◌, ◌*◌, ◌/◌, ◌^◌, ◌≤◌, min, if◌then◌else◌};
 ghost use Rattle.std.specs.Int.{div_ceil};
-ghost use Rattle.float_bounds.specs.Format.{IsNarrow, binary32, binary64};
+ghost use Rattle.float_bounds.specs.Narrow.{IsNarrow};
+ghost use Rattle.float_bounds.specs.Format.{binary32, binary64};
 ghost use Rattle.float_bounds.specs.Rounding.{fix_below, fix_above};
 
 use crate::FloatFault;
@@ -12,8 +13,8 @@ use fixed_box::Fix;
 /// The greatest raw number that is at most 65,536 times the float with these bits of binary32, as `f32::to_bits` gives
 /// them. So a lower corner is rounded outwards. -0 is 0, and subnormal numbers count.
 ///
-/// `NotANumber` is the answer to a NaN, and `OutOfRange` to an infinity and where the raw number doesn't fit 32 bits. The
-/// time doesn't depend on the bits by more than a few branches.
+/// `NotANumber` is the answer to a NaN, and `OutOfRange` to an infinity and where the raw number doesn't fit 32 bits. It
+/// takes constant time and no memory. The formats are those of IEEE 754-2019, 3.4.
 pub fn fix_below_32(bits: u32) -> Result<Fix, FloatFault>
     ensures { result ≡ fix_below binary32 bits }
 {

@@ -1,6 +1,6 @@
 ghost use Rattle.std.specs.Prelude.{◌≡◌, int_le};
-ghost use Rattle.float_bounds.specs.Format.{IsNarrow};
-ghost use Rattle.float_bounds.specs.Order.{rank};
+ghost use Rattle.float_bounds.specs.Narrow.{IsNarrow};
+ghost use Rattle.float_bounds.specs.Rank.{rank};
 
 use crate::format::Format;
 use crate::parts::is_negative;

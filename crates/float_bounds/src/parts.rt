@@ -1,5 +1,5 @@
 ghost use Rattle.std.specs.Prelude.{◌≡◌, ◌==◌, if◌then◌else◌};
-ghost use Rattle.float_bounds.specs.Format.{IsNarrow};
+ghost use Rattle.float_bounds.specs.Narrow.{IsNarrow};
 ghost use Rattle.float_bounds.specs.Value.{parts_of, is_negative};
 
 use crate::FloatFault;
