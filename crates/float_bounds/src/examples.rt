@@ -56,8 +56,9 @@ fn wide_numbers()
 // A box from -0.1 to 0.1 on x, at 0 on y, where the upper number is -0, and from 1 to 1.5 on z.
 fn a_box()
     ensures around { box_around binary32 (0xBDCCCCCD ∷ 0 ∷ 0x3F800000 ∷ []) (0x3DCCCCCD ∷ 0x80000000 ∷ 0x3FC00000 ∷ []) ≡ Ok (record {
-        lo = record { x = negsuc 6553; y = pos 0; z = pos 65536 };
-        hi = record { x = pos 6554; y = pos 0; z = pos 98304 } }) }
+      lo = record { x = negsuc 6553; y = pos 0; z = pos 65536 };
+      hi = record { x = pos 6554; y = pos 0; z = pos 98304 };
+    }) }
 {}
 
 // Of several faults that of the first axis decides, and a lower number above the upper one is seen where both are rounded
