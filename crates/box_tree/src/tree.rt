@@ -1,5 +1,5 @@
 ghost use Rattle.std.specs.Prelude.{◌≡◌, ◌↔◌, ℕ, ◌≤◌, ◌<◌, ◌^◌, true, false, None, Some, is_some, Ok, IfOk, IfSome};
-ghost use Rattle.std.specs.Prelude.{IsTrue, count_by, length, map as mapped, slice_index_or, slice_set, refl};
+ghost use Rattle.std.specs.Prelude.{IsTrue, count_by, length, map as mapped, slice_set, refl};
 ghost use Rattle.std.specs.FinMap as map;
 ghost use Rattle.std.specs.List.{All};
 ghost use Rattle.fixed_box.specs.Bounds.{Bounds, encloses, fattened};
@@ -20,6 +20,7 @@ use broad_index::{
     keeping_laws, member_laws, pays_threads, push_rising_slots, settle_pairs,
 };
 use fixed_box::{FBox, NoMemory, SLOTS};
+use slot_lists::no_boxes;
 use std::alloc::Global;
 use std::marker::Model;
 use tree_nodes::{MOST_HEIGHT, Nodes};
@@ -375,18 +376,6 @@ impl Seeker for BoxTree {
         push_rising_slots(&mut reached, out)?;
         Ok(count)
     }
-}
-
-// No slot has a box.
-fn no_boxes(alloc: Global) -> Result<Vec<Option<FBox>>, NoMemory>
-    ensures len { IfOk result (λ boxes. length boxes.items ≡ SLOTS) }
-    ensures none { IfOk result (λ boxes. (k : ℕ) → slice_index_or boxes.items k None ≡ None) }
-{
-    let mut boxes = Vec::with_capacity(alloc, SLOTS as usize)?;
-    'boxes: for _slot in 0..SLOTS {
-        boxes.push(None)?;
-    }
-    Ok(boxes)
 }
 
 // Whether a fat box is there and encloses a box.

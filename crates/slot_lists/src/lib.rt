@@ -3,4 +3,4 @@
 
 mod slot_boxes;
 
-pub use slot_boxes::SlotBoxes;
+pub use slot_boxes::{SlotBoxes, no_boxes};

@@ -115,8 +115,8 @@ impl SlotBoxes {
     }
 }
 
-// No slot has a box.
-fn no_boxes(alloc: Global) -> Result<Vec<Option<FBox>>, NoMemory>
+/// Room for the boxes of all slots, where no slot has a box: what a structure that reads its boxes by slot itself begins with.
+pub fn no_boxes(alloc: Global) -> Result<Vec<Option<FBox>>, NoMemory>
     ensures len { IfOk result (λ boxes. length boxes.items ≡ SLOTS) }
     ensures none { IfOk result (λ boxes. (k : ℕ) → slice_index_or boxes.items k None ≡ None) }
 {

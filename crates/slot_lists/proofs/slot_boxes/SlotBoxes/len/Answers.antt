@@ -1,5 +1,5 @@
 -- What is kept is the number of the map's entries.
-use Rattle.std.proofs.Common.{ℕ, ap, sym, ◌∙◌, length}
+use Rattle.std.proofs.Common.{ℕ, ap, sym, ◌∙◌}
 use Rattle.std.proofs.lemmas.List.{length-map}
 use Rattle.std.specs.Ordering.{nat_cmp}
 use Rattle.std.specs.FinMap.{FinMap, entries, len, len-entries}
