@@ -9,7 +9,7 @@ mod reading;
 mod refusal;
 mod world;
 
-pub use laws::{answer_law, count_law};
+pub use laws::{answer_law, count_law, stale_law};
 pub use refusal::Refusal;
 pub use world::BoxWorld;
 
