@@ -1,0 +1,6 @@
+pub mod Counts
+pub mod FoundBodies
+pub mod PrintedLines
+pub mod PrintedPlay
+pub mod Uncounted
+pub mod Upgraded

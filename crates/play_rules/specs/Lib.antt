@@ -1,0 +1,10 @@
+pub mod AllowedScene
+pub mod Counted
+pub mod Course
+pub mod CourseLaws
+pub mod Outcome
+pub mod OutcomeLaws
+pub mod Play
+pub mod Readable
+pub mod Upgrade
+pub mod World
