@@ -1,26 +1,56 @@
 -- The answers that are owed, as queries are held and answered.
-use Rattle.std.proofs.Common.{◌≡◌, ℕ, ◌++◌, ◌∷◌, List, [], length, arith, refl, sym, ap, ◌∙◌}
-use Rattle.std.proofs.lemmas.List.{append_assoc, append-nil}
+use Rattle.std.proofs.Common.{◌≡◌, ℕ, ◌++◌, ◌∷◌, Bool, true, false, List, [], map, Option, None, Some, refl, sym, ap, ◌∙◌}
+use Rattle.std.proofs.lemmas.List.{append_assoc, append-nil, map-append}
 use Rattle.live_table.specs.declared.live.Live.{Live}
 use Rattle.broad_index.specs.declared.query.Query.{Query}
-use Rattle.frame_player.specs.Owed.{answer_line, answers}
+use Rattle.frame_player.specs.declared.asked.Asked.{Asked}
+use Rattle.scene_words.specs.declared.command.Command.{Command}
+use Rattle.scene_words.specs.declared.command.Command.TheVariants.{Blank, Header, Add, Move, Mask, Remove, Frame, BoxQ, PointQ, RayQ, SegQ, Cast, Near, Mark}
+use Rattle.scene_words.specs.declared.command.Command.TheVariants.{Back}
+use Rattle.play_rules.specs.World.{World, live_in, reply}
+use Rattle.frame_player.specs.Owed.{asked_by, answer_line, answers, query_for}
 
 -- one more query is held
-answers_push : (entries : List Live) (qs : List Query) (ms : List ℕ) (q : Query) (m : ℕ) → length ms ≡ length qs
-    → answers entries (qs ++ q ∷ []) (ms ++ m ∷ []) ≡ answers entries qs ms ++ answer_line entries q m
-answers_push entries [] [] q m same = append-nil _
-answers_push entries [] (n ∷ ms) q m same = absurd (omega (arith, same))
-answers_push entries (p ∷ qs) [] q m same = absurd (omega (arith, same))
-answers_push entries (p ∷ qs) (n ∷ ms) q m same =
-    let rest = answers_push entries qs ms q m (omega (arith, same)) in
-    ap (λ t. answer_line entries p n ++ t) rest ∙ sym (append_assoc (answer_line entries p n) (answers entries qs ms) (answer_line entries q m))
+answers_push : (entries : List Live) (run : List Asked) (asked : Asked) → answers entries (run ++ asked ∷ []) ≡ answers entries run ++ answer_line entries asked
+answers_push entries [] asked = append-nil _
+answers_push entries (first ∷ run) asked =
+    ap (λ t. answer_line entries first ++ t) (answers_push entries run asked)
+    ∙ sym (append_assoc (answer_line entries first) (answers entries run) (answer_line entries asked))
 
-pub one_more_owed : (entries : List Live) (text : List ℕ) (qs qs' : List Query) (ms ms' : List ℕ) (q : Query) (m : ℕ) → length ms ≡ length qs
-    → qs' ≡ qs ++ q ∷ [] → ms' ≡ ms ++ m ∷ []
-    → (text ++ answers entries qs ms) ++ answer_line entries q m ≡ text ++ answers entries qs' ms'
-one_more_owed entries text qs qs' ms ms' q m same eq em =
-    append_assoc text (answers entries qs ms) (answer_line entries q m) ∙ ap (λ t. text ++ t) (sym (answers_push entries qs ms q m same)) ∙ rw (eq, em) refl
+pub one_more_owed : (entries : List Live) (text : List ℕ) (run longer : List Asked) (asked : Asked) → longer ≡ run ++ asked ∷ []
+    → (text ++ answers entries run) ++ answer_line entries asked ≡ text ++ answers entries longer
+one_more_owed entries text run longer asked is =
+    append_assoc text (answers entries run) (answer_line entries asked) ∙ ap (λ t. text ++ t) (sym (answers_push entries run asked)) ∙ rw is refl
 
 -- nothing is owed any more
-pub none_owed : (entries : List Live) (text : List ℕ) (qs : List Query) (ms : List ℕ) → qs ≡ [] → text ≡ text ++ answers entries qs ms
-none_owed entries text qs ms none = sym (append-nil text) ∙ ap (λ q. text ++ answers entries q ms) (sym none)
+pub none_owed : (entries : List Live) (text : List ℕ) (run : List Asked) → run ≡ [] → text ≡ text ++ answers entries run
+none_owed entries text run none = sym (append-nil text) ∙ ap (λ r. text ++ answers entries r) (sym none)
+
+-- each has its query still
+pub same_pushed : (run longer : List Asked) (queries more : List Query) (asked : Asked) → queries ≡ map query_for run → longer ≡ run ++ asked ∷ []
+    → more ≡ queries ++ query_for asked ∷ [] → more ≡ map query_for longer
+same_pushed run longer queries more asked same is grown =
+    grown ∙ ap (λ qs. qs ++ query_for asked ∷ []) same ∙ sym (map-append query_for run (asked ∷ [])) ∙ ap (map query_for) (sym is)
+
+abbrev line_in : World → Option Asked → List ℕ
+line_in w None = []
+line_in w (Some asked) = answer_line (live_in w) asked
+
+-- a query that can wait is answered by its line
+pub asked_reply : (shows : Bool) (w : World) (c : Command) (asked : Asked) → asked_by c ≡ Some asked → answer_line (live_in w) asked ≡ reply shows w c
+asked_reply shows w Blank asked h = absurd (cc)
+asked_reply shows w (Header version) asked h = absurd (cc)
+asked_reply shows w (Add body masks group) asked h = absurd (cc)
+asked_reply shows w (Move handle body) asked h = absurd (cc)
+asked_reply shows w (Mask handle masks) asked h = absurd (cc)
+asked_reply shows w (Remove handle) asked h = absurd (cc)
+asked_reply shows w Frame asked h = absurd (cc)
+asked_reply shows w (BoxQ body mask) asked h = ap (line_in w) (sym h)
+asked_reply shows w (PointQ at mask) asked h = ap (line_in w) (sym h)
+asked_reply shows w (RayQ ray mask true) asked h = ap (line_in w) (sym h)
+asked_reply shows w (RayQ ray mask false) asked h = ap (line_in w) (sym h)
+asked_reply shows w (SegQ seg mask) asked h = ap (line_in w) (sym h)
+asked_reply shows w (Cast cast mask) asked h = ap (line_in w) (sym h)
+asked_reply shows w (Near at want mask) asked h = absurd (cc)
+asked_reply shows w Mark asked h = absurd (cc)
+asked_reply shows w Back asked h = absurd (cc)

@@ -7,11 +7,14 @@ use Rattle.std.proofs.lemmas.List.{append_assoc, append-nil, take-append-drop}
 use Rattle.play_io.specs.declared.sink.SinkFault.{SinkFault}
 use Rattle.play_io.specs.declared.sink.SinkFault.TheVariants as why
 use Rattle.play_io.specs.Sink.{SinkCount, CountsSince, since_after}
-use Rattle.frame_player.specs.Outcome.{IsBegun}
-use Rattle.frame_player.specs.OutcomeLaws.{append_known-nil}
+use Rattle.play_rules.specs.Outcome.{IsBegun}
+use Rattle.play_rules.specs.OutcomeLaws.{append_known-nil}
 use Rattle.frame_player.specs.Outlet.{Outlet, IsUncalled, IsHanded, IsStopped, IsSent, IsSaid}
-use Rattle.frame_player.proofs.LinePlayed.{on_some}
 use Rattle.scene_lines.specs.SceneLines.{IsPrefix}
+
+pub on_some : {A : Type 0} {P Q : A → Type 0} (o : Option A) → IfSome o P → ((a : A) → P a → Q a) → IfSome o Q
+on_some None p f = tt
+on_some (Some a) p f = f a p
 
 pub append_known-append : (known : Option (List ℕ)) (xs ys : List ℕ) → append_known (append_known known xs) ys ≡ append_known known (xs ++ ys)
 append_known-append None xs ys = refl

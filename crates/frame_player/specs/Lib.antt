@@ -1,11 +1,5 @@
-pub mod AllowedScene
 pub mod Ending
 pub mod FrameText
-pub mod Outcome
-pub mod OutcomeLaws
 pub mod Outlet
 pub mod Owed
-pub mod Play
 pub mod Player
-pub mod Reached
-pub mod World

@@ -3,7 +3,7 @@ use Rattle.std.specs.Prelude.{◌≡◌, ℕ, List, ◌++◌, Option, Result, Ok
 use Rattle.std.specs.Io.KnownBytes.{append_known}
 use Rattle.play_io.specs.declared.sink.SinkFault.{SinkFault}
 use Rattle.play_io.specs.Sink.{SinkCount}
-use Rattle.frame_player.specs.Outcome.{IsBegun}
+use Rattle.play_rules.specs.Outcome.{IsBegun}
 use Rattle.frame_player.specs.declared.report.Report.{Report}
 
 -- A sink: what is written, how often it failed, and how often it was called since.

@@ -1,9 +1,9 @@
 ghost use Rattle.std.specs.Prelude.{◌≡◌, ◌++◌, OnOk, OnErr};
 ghost use Rattle.frame_player.specs.Ending.{last_line, status_of};
 
-use crate::Status;
 use fixed_box::NoMemory;
 use pair_report::{Cause, put_end, put_refused};
+use play_rules::Status;
 
 // How the reading of a scene ends. The answers to the last queries are owed still.
 #[derive(Clone, Copy)]

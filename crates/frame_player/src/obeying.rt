@@ -1,14 +1,21 @@
-ghost use Rattle.std.specs.Prelude.{◌≡◌, ◌++◌, Bool, true, Ok, OnOk};
+ghost use Rattle.std.specs.Prelude.{◌≡◌, ◌++◌, Bool, false, Ok, OnOk, OnErr};
+ghost use Rattle.live_queries.specs.Queries.{nearest_to};
+ghost use Rattle.pair_report.specs.PairReport.{near_line};
+ghost use Rattle.play_rules.specs.World.{after, allowed, reply};
+ghost use Rattle.scene_words.specs.Ranges.{IsPrintable, IsWanted};
 ghost use Rattle.frame_player.specs.Outlet.{IsAppended, IsSentBy};
-ghost use Rattle.frame_player.specs.Owed.{owed, query_of, IsRun};
-ghost use Rattle.frame_player.specs.Player.{world_in, IsPlaying, HasRoom, IsObeyed, IsChange};
-ghost use Rattle.frame_player.specs.World.{reply, allowed};
+ghost use Rattle.frame_player.specs.Owed.{owed, IsRun};
+ghost use Rattle.frame_player.specs.Player.{world_of, live_in, HasRoom, IsChange};
 
+use crate::asked::Asked;
 use crate::player::Player;
 use crate::query_run::{QueryRun, gather, settle};
 use crate::report::Report;
 use crate::setup::Setup;
-use broad_index::{BroadPhase, Gate, Query};
+use broad_index::{BroadPhase, Gate};
+use fixed_box::NoMemory;
+use live_queries::NearQuery;
+use pair_report::put_near;
 use play_io::{Sink, SinkFault};
 use scene_words::Command;
 use std::thread::Threads;
@@ -21,49 +28,42 @@ pub(crate) fn obey<R: Threads + Sync, B: BroadPhase + Sync + Drop, G: Gate + Syn
     command: &Command,
     out: &mut Report<'_, K>,
 ) -> Result<(), SinkFault>
-    requires shown { setup.now.options.exchanges ≡ true → B.COUNTS ≡ true }
-    requires playing { IsPlaying B.bodies B.spent player.old }
-    requires allowed { allowed (world_in B.exchanges player.old) (Ok command.now) ≡ Ok command.now }
-    requires room { HasRoom B.COUNTS B.exchanges player.old }
+    requires sound { player.old.world.spent ≡ false }
+    requires allowed { allowed (world_of player.old.version player.old.world) (Ok command.now) ≡ Ok command.now }
+    requires printable { IsPrintable command.now }
+    requires room { HasRoom player.old.world.time.now }
     requires run { IsRun run.old }
-    ensures obeyed { OnOk result (IsObeyed B.bodies B.spent B.COUNTS B.exchanges command.now player.old player.new) }
+    ensures obeyed { OnOk result (world_of player.new.version player.new.world
+        ≡ after B.COUNTS (world_of player.old.version player.old.world) command.now) }
+    ensures sound { OnOk result (player.new.world.spent ≡ false) }
     ensures sent { IsSentBy K.written K.faults K.since out.old out.new
-        ((out.old.text.now.items ++ owed player.old.table.entries run.old)
-        ++ reply setup.now.options.exchanges (world_in B.exchanges player.old) command.now)
-        (out.new.text.now.items ++ owed player.new.table.entries run.new) result }
+        ((out.old.text.now.items ++ owed (live_in player.old.world) run.old)
+        ++ reply setup.now.options.exchanges (world_of player.old.version player.old.world) command.now)
+        (out.new.text.now.items ++ owed (live_in player.new.world) run.new) result }
     ensures run { OnOk result (IsRun run.new) }
 {
-    if let Some((query, mask)) = query_of(command) {
-        return gather(setup, player, run, query, mask, out);
+    if let Some(asked) = Asked::by(command) {
+        return gather(setup, player, run, asked, out);
     }
     match command {
-        // Version 1 has none of the last four.
-        Command::Blank
-        | Command::Cast { .. }
-        | Command::Near { .. }
-        | Command::Mark
-        | Command::Back => Ok(()),
+        Command::Blank => Ok(()),
         Command::Frame => {
             settle(setup, player, run, out)?;
             player.end_frame(setup, out)
+        }
+        Command::Near { at, want, mask } => {
+            settle(setup, player, run, out)?;
+            let query = NearQuery {
+                at: *at,
+                want: *want,
+                mask: *mask,
+            };
+            send_nearest(player, &query, out)
         }
         _ => {
             settle(setup, player, run, out)?;
             change(player, command, out)
         }
-    }
-}
-
-// What a query asks, with the mask of the groups that it lists.
-fn query_of(command: &Command) -> Option<(Query, u32)>
-    ensures { result ≡ query_of command.now }
-{
-    match command {
-        Command::BoxQ { body, mask } => Some((Query::Region(*body), *mask)),
-        Command::PointQ { at, mask } => Some((Query::Spot(*at), *mask)),
-        Command::RayQ { ray, mask, .. } => Some((Query::Along(*ray), *mask)),
-        Command::SegQ { seg, mask } => Some((Query::Between(*seg), *mask)),
-        _ => None,
     }
 }
 
@@ -74,15 +74,47 @@ fn change<B: BroadPhase + Drop, K: Sink>(
     command: &Command,
     out: &mut Report<'_, K>,
 ) -> Result<(), SinkFault>
-    requires playing { IsPlaying B.bodies B.spent player.old }
-    requires allowed { allowed (world_in B.exchanges player.old) (Ok command.now) ≡ Ok command.now }
-    requires room { HasRoom B.COUNTS B.exchanges player.old }
+    requires sound { player.old.world.spent ≡ false }
+    requires allowed { allowed (world_of player.old.version player.old.world) (Ok command.now) ≡ Ok command.now }
+    requires room { HasRoom player.old.world.time.now }
     requires change { IsChange command.now }
-    ensures obeyed { OnOk result (IsObeyed B.bodies B.spent B.COUNTS B.exchanges command.now player.old player.new) }
+    ensures obeyed { OnOk result (world_of player.new.version player.new.world
+        ≡ after B.COUNTS (world_of player.old.version player.old.world) command.now) }
+    ensures sound { OnOk result (player.new.world.spent ≡ false) }
     // It tells no exchanges.
     ensures sent { (shows : Bool) → IsAppended K.written K.faults K.since out.old out.new
-        (reply shows (world_in B.exchanges player.old) command.now) result }
+        (reply shows (world_of player.old.version player.old.world) command.now) result }
 {
     player.change(command, out.text)?;
     out.hand_on()
+}
+
+// The line of the nearest boxes.
+#[tactic(auto, using(crate::proofs::Sending::report_out_of_memory))]
+fn send_nearest<B: BroadPhase + Drop, K: Sink>(
+    player: &Player<B>,
+    query: &NearQuery,
+    out: &mut Report<'_, K>,
+) -> Result<(), SinkFault>
+    requires wanted { IsWanted query.now.want }
+    ensures sent { IsAppended K.written K.faults K.since out.old out.new
+        (near_line (nearest_to (live_in player.now.world) query.now.at query.now.want query.now.mask)) result }
+{
+    put_nearest(player, query, out.text)?;
+    out.hand_on()
+}
+
+fn put_nearest<B: BroadPhase + Drop>(
+    player: &Player<B>,
+    query: &NearQuery,
+    text: &mut Vec<u8>,
+) -> Result<(), NoMemory>
+    requires wanted { IsWanted query.now.want }
+    ensures ok { OnOk result (text.new.items ≡ text.old.items
+        ++ near_line (nearest_to (live_in player.now.world) query.now.at query.now.want query.now.mask)) }
+    ensures err { OnErr result (text.new.items ≡ text.old.items) }
+{
+    let mut handles = Vec::new(player.alloc);
+    player.world.nearest(query, &mut handles)?;
+    put_near(&handles, text)
 }

@@ -1,96 +1,83 @@
-ghost use Rattle.std.specs.Prelude.{◌≡◌, ◌++◌, ◌<◌, Bool, true, false, length, Ok, OnOk, OnErr, IfOk};
+ghost use Rattle.std.specs.Prelude.{◌≡◌, ◌≢◌, ◌++◌, ◌<◌, Bool, false, Some, length, Ok, OnOk, OnErr, IfOk};
+ghost use Rattle.fixed_box.specs.declared.TheConstants.{SLOTS};
+ghost use Rattle.live_table.specs.Table.{IsTable};
+ghost use Rattle.broad_index.specs.Fresh.{IsFresh};
+ghost use Rattle.box_world.specs.Answers.{add_refusal, shift_refusal, frame_refusal, after_frame};
+ghost use Rattle.box_world.specs.World.{pairs};
+ghost use Rattle.box_world.specs.declared.refusal.Refusal.TheVariants.{Exhausted};
+ghost use Rattle.play_rules.specs.World.{opening, after, allowed, reply, shown};
+ghost use Rattle.frame_player.specs.FrameText.{shown_number};
+ghost use Rattle.frame_player.specs.Outlet.{IsAppended};
+ghost use Rattle.frame_player.specs.Player.{world_of, live_in, HasRoom, IsChange};
 
-use crate::allowed::{allow_first, allow_later};
 use crate::frame_text::send_frame;
 use crate::report::Report;
 use crate::setup::Setup;
-use broad_index::{BroadPhase, Gate, Pair, exchange_laws};
-use fixed_box::{FBox, NoMemory, SLOTS};
-use live_queries::{pairs_law, push_pairs};
-use live_table::{Full, Group, Handle, LiveTable, Masks, Stale};
-use pair_events::{PairTable, Told};
-use pair_report::{Cause, put_add, put_stale};
+use box_world::{BoxWorld, Refusal, stale_law};
+use broad_index::{BroadPhase, Gate};
+use fixed_box::{FBox, NoMemory};
+use live_table::{Group, Handle, Masks};
+use pair_report::{put_add, put_back, put_mark, put_nomark, put_stale};
 use play_io::{Sink, SinkFault};
-use scene_words::{Command, Version, read_command};
+use scene_words::{Command, Version};
 use std::alloc::Global;
 use std::thread::Threads;
 
-// The state of a play between two lines. The lists are kept from line to line.
+// The state of a play between two lines.
 #[derive(Drop)]
-pub(crate) struct Player<B: Drop> {
+pub(crate) struct Player<B: BroadPhase + Drop> {
     pub alloc: Global,
-    pub index: B,
-    pub table: LiveTable,
-    pub pair_table: PairTable,
-    pub header: bool,
-    pub frames: u32,
-    pub pairs: Vec<Pair>,
-    pub events: Vec<Told>,
+    pub world: BoxWorld<B>,
+    pub version: Option<Version>,
 }
 
 impl<B: BroadPhase + Drop> Player<B> {
-    ghost use Rattle.broad_index.specs.Fresh.{IsFresh};
-    ghost use Rattle.scene_words.specs.declared.version.Version.TheVariants.{One};
-    ghost use Rattle.scene_words.specs.SceneWords.{command};
-    ghost use Rattle.pair_events.specs.PairEvents.{events};
-    ghost use Rattle.frame_player.specs.FrameText.{shown_number};
-    ghost use Rattle.frame_player.specs.Outlet.{IsAppended};
-    ghost use Rattle.live_queries.specs.Pairs.{pairs_of};
-    ghost use Rattle.frame_player.specs.Player.{world_in, IsPlaying, HasRoom, IsObeyed, IsChange};
-    ghost use Rattle.frame_player.specs.World.{opening, allowed, reply, shown};
-
     // The opening world.
     pub(crate) fn new(alloc: Global, index: B) -> Result<Player<B>, NoMemory>
         requires { IsFresh (B.bodies index) (B.spent index) (B.exchanges index) }
-        ensures opening { IfOk result (λ player. world_in B.exchanges player ≡ opening) }
-        ensures playing { IfOk result (IsPlaying B.bodies B.spent) }
-        ensures index { IfOk result (λ player. player.index ≡ index) }
+        ensures opening { IfOk result (λ player. world_of player.version player.world ≡ opening) }
+        ensures sound { IfOk result (λ player. player.world.spent ≡ false) }
     {
-        let table = LiveTable::new(alloc)?;
+        let world = BoxWorld::new(alloc, index)?;
         Ok(Player {
             alloc,
-            index,
-            table,
-            pair_table: PairTable::new(alloc),
-            header: false,
-            frames: 0,
-            pairs: Vec::new(alloc),
-            events: Vec::new(alloc),
+            world,
+            version: None,
         })
     }
 
-    // Reads a line as a command that the world allows.
-    pub(crate) fn read_line(&self, line: &[u8]) -> Result<Command, Cause>
-        ensures read { result ≡ allowed (world_in B.exchanges self.now) (command One line.now) }
-        ensures allowed { IfOk result (λ read. allowed (world_in B.exchanges self.now) (Ok read) ≡ Ok read) }
+    // The number of live boxes.
+    pub(crate) fn live(&self) -> u32
+        ensures live { result ≡ length (live_in self.now.world) }
+        ensures table { IsTable self.now.world.time.now.table }
     {
-        let said = read_command(Version::One, line);
-        if self.header {
-            allow_later(self.table.len(), said)
-        } else {
-            allow_first(said)
-        }
+        let _table = self.world.table();
+        self.world.len()
     }
 
     // Changes the world, and appends the reply of at most one line.
     pub(crate) fn change(&mut self, command: &Command, out: &mut Vec<u8>) -> Result<(), NoMemory>
-        requires playing { IsPlaying B.bodies B.spent self.old }
-        requires allowed { allowed (world_in B.exchanges self.old) (Ok command.now) ≡ Ok command.now }
-        requires room { HasRoom B.COUNTS B.exchanges self.old }
+        requires sound { self.old.world.spent ≡ false }
+        requires allowed { allowed (world_of self.old.version self.old.world) (Ok command.now) ≡ Ok command.now }
+        requires room { HasRoom self.old.world.time.now }
         requires change { IsChange command.now }
-        ensures obeyed { OnOk result (IsObeyed B.bodies B.spent B.COUNTS B.exchanges command.now self.old self.new) }
-        ensures text { (shows : Bool) → OnOk result (out.new.items ≡ out.old.items ++ reply shows (world_in B.exchanges self.old) command.now) }
+        ensures obeyed { OnOk result (world_of self.new.version self.new.world ≡ after B.COUNTS (world_of self.old.version self.old.world) command.now) }
+        ensures sound { OnOk result (self.new.world.spent ≡ false) }
+        ensures text { (shows : Bool) → OnOk result (out.new.items ≡ out.old.items
+            ++ reply shows (world_of self.old.version self.old.world) command.now) }
         ensures err { OnErr result (out.new.items ≡ out.old.items) }
     {
         match command {
-            Command::Header { .. } => {
-                self.header = true;
+            Command::Header { version } => {
+                self.version = Some(*version);
                 Ok(())
             }
             Command::Add { body, masks, group } => self.add(*body, *masks, *group, out),
             Command::Move { handle, body } => self.shift(*handle, *body, out),
             Command::Mask { handle, masks } => self.mask(*handle, *masks, out),
             Command::Remove { handle } => self.remove(*handle, out),
+            Command::Mark => self.mark(out),
+            Command::Back => self.back(out),
             _ => unreachable!(),
         }
     }
@@ -103,64 +90,106 @@ impl<B: BroadPhase + Drop> Player<B> {
         group: Group,
         out: &mut Vec<u8>,
     ) -> Result<(), NoMemory>
-        requires playing { IsPlaying B.bodies B.spent self.old }
-        requires free { length self.old.table.entries < SLOTS }
-        requires room { HasRoom B.COUNTS B.exchanges self.old }
-        ensures obeyed { OnOk result (IsObeyed B.bodies B.spent B.COUNTS B.exchanges (Command.Add body masks group) self.old self.new) }
-        ensures text { OnOk result (out.new.items ≡ out.old.items ++ reply false (world_in B.exchanges self.old) (Command.Add body masks group)) }
+        requires sound { self.old.world.spent ≡ false }
+        requires free { length self.old.world.time.now.table.entries < SLOTS }
+        requires room { add_refusal self.old.world.time.now ≢ Some Exhausted }
+        ensures obeyed { OnOk result (world_of self.new.version self.new.world
+            ≡ after B.COUNTS (world_of self.old.version self.old.world) (Command.Add body masks group)) }
+        ensures sound { OnOk result (self.new.world.spent ≡ false) }
+        ensures text { OnOk result (out.new.items ≡ out.old.items
+            ++ reply false (world_of self.old.version self.old.world) (Command.Add body masks group)) }
         ensures err { OnErr result (out.new.items ≡ out.old.items) }
     {
-        exchange_laws();
-        match self.table.give(body, masks, group) {
-            Ok(handle) => {
-                self.index.add(handle.slot, body)?;
-                put_add(handle, out)
-            }
-            Err(Full) => unreachable!(),
+        match self.world.add(body, masks, group) {
+            Ok(handle) => put_add(handle, out),
+            Err(Refusal::NoMemory) => Err(NoMemory),
+            Err(_) => unreachable!(),
         }
     }
 
     // The handle's box gets another body.
     fn shift(&mut self, handle: Handle, body: FBox, out: &mut Vec<u8>) -> Result<(), NoMemory>
-        requires playing { IsPlaying B.bodies B.spent self.old }
-        requires room { HasRoom B.COUNTS B.exchanges self.old }
-        ensures obeyed { OnOk result (IsObeyed B.bodies B.spent B.COUNTS B.exchanges (Command.Move handle body) self.old self.new) }
-        ensures text { OnOk result (out.new.items ≡ out.old.items ++ reply false (world_in B.exchanges self.old) (Command.Move handle body)) }
+        requires sound { self.old.world.spent ≡ false }
+        requires room { shift_refusal self.old.world.time.now handle ≢ Some Exhausted }
+        ensures obeyed { OnOk result (world_of self.new.version self.new.world
+            ≡ after B.COUNTS (world_of self.old.version self.old.world) (Command.Move handle body)) }
+        ensures sound { OnOk result (self.new.world.spent ≡ false) }
+        ensures text { OnOk result (out.new.items ≡ out.old.items ++ reply false (world_of self.old.version self.old.world) (Command.Move handle body)) }
         ensures err { OnErr result (out.new.items ≡ out.old.items) }
     {
-        exchange_laws();
-        match self.table.set_box(handle, body) {
-            Ok(()) => self.index.shift(handle.slot, body),
-            Err(Stale) => put_stale(handle, out),
+        stale_law();
+        match self.world.shift(handle, body) {
+            Ok(()) => Ok(()),
+            Err(Refusal::Stale) => put_stale(handle, out),
+            Err(Refusal::NoMemory) => Err(NoMemory),
+            Err(_) => unreachable!(),
         }
     }
 
     // The handle's box gets other masks.
     fn mask(&mut self, handle: Handle, masks: Masks, out: &mut Vec<u8>) -> Result<(), NoMemory>
-        requires playing { IsPlaying B.bodies B.spent self.old }
-        ensures obeyed { OnOk result (IsObeyed B.bodies B.spent B.COUNTS B.exchanges (Command.Mask handle masks) self.old self.new) }
-        ensures text { OnOk result (out.new.items ≡ out.old.items ++ reply false (world_in B.exchanges self.old) (Command.Mask handle masks)) }
+        requires sound { self.old.world.spent ≡ false }
+        ensures obeyed { OnOk result (world_of self.new.version self.new.world
+            ≡ after B.COUNTS (world_of self.old.version self.old.world) (Command.Mask handle masks)) }
+        ensures sound { OnOk result (self.new.world.spent ≡ false) }
+        ensures text { OnOk result (out.new.items ≡ out.old.items ++ reply false (world_of self.old.version self.old.world) (Command.Mask handle masks)) }
         ensures err { OnErr result (out.new.items ≡ out.old.items) }
     {
-        match self.table.set_masks(handle, masks) {
+        stale_law();
+        match self.world.mask(handle, masks) {
             Ok(()) => Ok(()),
-            Err(Stale) => put_stale(handle, out),
+            Err(Refusal::Stale) => put_stale(handle, out),
+            Err(Refusal::NoMemory) => Err(NoMemory),
+            Err(_) => unreachable!(),
         }
     }
 
     // The handle's box goes.
     fn remove(&mut self, handle: Handle, out: &mut Vec<u8>) -> Result<(), NoMemory>
-        requires playing { IsPlaying B.bodies B.spent self.old }
-        ensures obeyed { OnOk result (IsObeyed B.bodies B.spent B.COUNTS B.exchanges (Command.Remove handle) self.old self.new) }
-        ensures text { OnOk result (out.new.items ≡ out.old.items ++ reply false (world_in B.exchanges self.old) (Command.Remove handle)) }
+        requires sound { self.old.world.spent ≡ false }
+        ensures obeyed { OnOk result (world_of self.new.version self.new.world
+            ≡ after B.COUNTS (world_of self.old.version self.old.world) (Command.Remove handle)) }
+        ensures sound { OnOk result (self.new.world.spent ≡ false) }
+        ensures text { OnOk result (out.new.items ≡ out.old.items ++ reply false (world_of self.old.version self.old.world) (Command.Remove handle)) }
         ensures err { OnErr result (out.new.items ≡ out.old.items) }
     {
-        match self.table.take(handle) {
-            Ok(_) => {
-                self.index.leave(handle.slot);
-                Ok(())
-            }
-            Err(Stale) => put_stale(handle, out),
+        stale_law();
+        match self.world.remove(handle) {
+            Ok(()) => Ok(()),
+            Err(Refusal::Stale) => put_stale(handle, out),
+            Err(Refusal::NoMemory) => Err(NoMemory),
+            Err(_) => unreachable!(),
+        }
+    }
+
+    // The world is marked, where there is room for one more mark.
+    fn mark(&mut self, out: &mut Vec<u8>) -> Result<(), NoMemory>
+        requires sound { self.old.world.spent ≡ false }
+        ensures obeyed { OnOk result (world_of self.new.version self.new.world ≡ after B.COUNTS (world_of self.old.version self.old.world) Command.Mark) }
+        ensures sound { OnOk result (self.new.world.spent ≡ false) }
+        ensures text { OnOk result (out.new.items ≡ out.old.items ++ reply false (world_of self.old.version self.old.world) Command.Mark) }
+        ensures err { OnErr result (out.new.items ≡ out.old.items) }
+    {
+        match self.world.mark() {
+            Ok(true) => put_mark(self.world.held(), out),
+            Ok(false) => put_nomark(self.world.held(), out),
+            Err(_) => unreachable!(),
+        }
+    }
+
+    // The world is that of the newest mark again, where one is held.
+    fn back(&mut self, out: &mut Vec<u8>) -> Result<(), NoMemory>
+        requires sound { self.old.world.spent ≡ false }
+        ensures obeyed { OnOk result (world_of self.new.version self.new.world ≡ after B.COUNTS (world_of self.old.version self.old.world) Command.Back) }
+        ensures sound { OnOk result (self.new.world.spent ≡ false) }
+        ensures text { OnOk result (out.new.items ≡ out.old.items ++ reply false (world_of self.old.version self.old.world) Command.Back) }
+        ensures err { OnErr result (out.new.items ≡ out.old.items) }
+    {
+        match self.world.back() {
+            Ok(true) => put_back(self.world.held(), out),
+            Ok(false) => put_nomark(self.world.held(), out),
+            Err(Refusal::NoMemory) => Err(NoMemory),
+            Err(_) => unreachable!(),
         }
     }
 
@@ -172,56 +201,57 @@ impl<B: BroadPhase + Drop> Player<B> {
     ) -> Result<(), SinkFault>
     where
         B: Sync,
-        requires shown { setup.now.options.exchanges ≡ true → B.COUNTS ≡ true }
-        requires playing { IsPlaying B.bodies B.spent self.old }
-        requires room { HasRoom B.COUNTS B.exchanges self.old }
-        ensures obeyed { OnOk result (IsObeyed B.bodies B.spent B.COUNTS B.exchanges Command.Frame self.old self.new) }
+        requires sound { self.old.world.spent ≡ false }
+        requires room { frame_refusal self.old.world.time.now ≢ Some Exhausted }
+        ensures obeyed { OnOk result (world_of self.new.version self.new.world ≡ after B.COUNTS (world_of self.old.version self.old.world) Command.Frame) }
+        ensures sound { OnOk result (self.new.world.spent ≡ false) }
         ensures sent { IsAppended K.written K.faults K.since out.old out.new
-            (reply setup.now.options.exchanges (world_in B.exchanges self.old) Command.Frame) result }
+            (reply setup.now.options.exchanges (world_of self.old.version self.old.world) Command.Frame) result }
     {
-        let pairs = self.turn_pairs(setup)?;
         let exchanges = self.shown_exchanges(setup.options.exchanges);
-        send_frame(self.frames + 1, pairs, &self.events, exchanges, out)?;
-        self.index.clear_exchanges();
-        self.frames += 1;
-        Ok(())
+        let pairs = self.count_pairs(setup)?;
+        send_frame(
+            self.world.frames(),
+            pairs,
+            self.world.events(),
+            exchanges,
+            out,
+        )
     }
 
     // The number of exchanges since the last frame, where it is to be shown.
     fn shown_exchanges(&self, shows: bool) -> Option<u64>
-        requires { B.spent self.now.index ≡ false }
-        ensures { shown_number result ≡ shown shows (B.exchanges self.now.index) }
+        requires { self.now.world.spent ≡ false }
+        ensures { shown_number result ≡ shown shows self.now.world.time.now.exchanges }
     {
         if shows {
-            Some(self.index.exchanges())
+            Some(self.world.exchanges())
         } else {
             None
         }
     }
 
-    // Finds the pairs of the frame, and what became of each since the last one. Answers how many there are.
-    fn turn_pairs<R: Threads + Sync, G: Gate + Sync>(
+    // The frame ends in the world. Answers how many pairs it has.
+    fn count_pairs<R: Threads + Sync, G: Gate + Sync>(
         &mut self,
         setup: &Setup<'_, R, G>,
     ) -> Result<u32, NoMemory>
     where
         B: Sync,
-        requires playing { IsPlaying B.bodies B.spent self.old }
-        ensures count { IfOk result (λ count. count ≡ length (pairs_of self.old.table.entries)) }
-        ensures events { OnOk result (self.new.events.items ≡ events self.old.pair_table (pairs_of self.old.table.entries)) }
-        ensures last { OnOk result (self.new.pair_table ≡ pairs_of self.old.table.entries) }
-        ensures playing { OnOk result (IsPlaying B.bodies B.spent self.new) }
-        ensures exchanges { OnOk result (B.exchanges self.new.index ≡ B.exchanges self.old.index) }
-        ensures same { OnOk result ((self.new.table ≡ self.old.table) × (self.new.header ≡ self.old.header) × (self.new.frames ≡ self.old.frames)) }
+        requires sound { self.old.world.spent ≡ false }
+        requires room { frame_refusal self.old.world.time.now ≢ Some Exhausted }
+        ensures count { IfOk result (λ count. count ≡ length (pairs self.old.world.time.now)) }
+        ensures framed { OnOk result (self.new.world ≡ after_frame self.old.world) }
+        ensures sound { OnOk result (self.new.world.spent ≡ false) }
+        ensures version { self.new.version ≡ self.old.version }
     {
-        pairs_law();
-        self.pairs.clear();
-        self.index.pairs_with(setup.rt, setup.options.workers, setup.gate, &mut self.pairs)?;
-        let mut now = Vec::new(self.alloc);
-        push_pairs(&self.table, &self.pairs, &mut now)?;
-        let count = now.len() as u32;
-        self.events.clear();
-        self.pair_table.turn(now, &mut self.events)?;
-        Ok(count)
+        match self
+            .world
+            .end_frame(setup.rt, setup.options.workers, setup.gate)
+        {
+            Ok(count) => Ok(count),
+            Err(Refusal::NoMemory) => Err(NoMemory),
+            Err(_) => unreachable!(),
+        }
     }
 }

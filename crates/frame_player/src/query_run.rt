@@ -1,19 +1,18 @@
-ghost use Rattle.std.specs.Prelude.{◌≡◌, ◌+◌, ◌<◌, ◌≤◌, ◌++◌, ◌∷◌, [], length, map, OnOk};
+ghost use Rattle.std.specs.Prelude.{◌≡◌, ◌≤◌, ◌++◌, ◌∷◌, [], false, length, map, OnOk};
 ghost use Rattle.broad_index.specs.Found.{found};
 ghost use Rattle.live_table.specs.Bodies.{bodies_of};
 ghost use Rattle.live_table.specs.Table.{IsTable};
 ghost use Rattle.frame_player.specs.Outlet.{IsAppended, IsSentBy};
-ghost use Rattle.frame_player.specs.Owed.{answer_line, answers, owed, IsRun};
-ghost use Rattle.frame_player.specs.Player.{IsPlaying};
+ghost use Rattle.frame_player.specs.Owed.{answer_line, answers, owed, query_for, IsRun};
+ghost use Rattle.frame_player.specs.Player.{live_in};
 
+use crate::asked::Asked;
 use crate::player::Player;
 use crate::report::Report;
 use crate::setup::Setup;
 use broad_index::{BroadPhase, Gate, Query};
 use fixed_box::NoMemory;
-use live_queries::push_hits;
 use live_table::{Handle, LiveTable};
-use pair_report::put_hits;
 use par_phase::hits_many;
 use play_io::{Sink, SinkFault};
 use std::alloc::Global;
@@ -22,32 +21,33 @@ use std::thread::Threads;
 // The most queries that are answered together.
 pub(crate) const LONGEST_RUN: usize = 256;
 
-// Queries that were read one after another and not answered yet, each with its mask.
+// Queries that were read one after another and not answered yet, each beside what an index is asked for it.
 #[derive(Drop)]
 pub(crate) struct QueryRun {
+    pub asked: Vec<Asked>,
     pub queries: Vec<Query>,
-    pub masks: Vec<u32>,
 }
 
 impl QueryRun {
     // A run of no query.
     pub(crate) fn new(alloc: Global) -> QueryRun
+        ensures asked { result.asked.items ≡ [] }
         ensures queries { result.queries.items ≡ [] }
-        ensures masks { result.masks.items ≡ [] }
     {
         QueryRun {
+            asked: Vec::new(alloc),
             queries: Vec::new(alloc),
-            masks: Vec::new(alloc),
         }
     }
 
     // One more query.
-    fn push(&mut self, query: Query, mask: u32) -> Result<(), NoMemory>
-        ensures queries { OnOk result (self.new.queries.items ≡ self.old.queries.items ++ query ∷ []) }
-        ensures masks { OnOk result (self.new.masks.items ≡ self.old.masks.items ++ mask ∷ []) }
+    fn push(&mut self, asked: Asked) -> Result<(), NoMemory>
+        ensures asked { OnOk result (self.new.asked.items ≡ self.old.asked.items ++ asked ∷ []) }
+        ensures queries { OnOk result (self.new.queries.items ≡ self.old.queries.items ++ query_for asked ∷ []) }
     {
+        let query = asked.query();
+        self.asked.push(asked)?;
         self.queries.push(query)?;
-        self.masks.push(mask)?;
         Ok(())
     }
 }
@@ -58,19 +58,18 @@ pub(crate) fn gather<R: Threads + Sync, B: BroadPhase + Sync + Drop, G: Gate + S
     setup: &Setup<'_, R, G>,
     player: &Player<B>,
     run: &mut QueryRun,
-    query: Query,
-    mask: u32,
+    asked: Asked,
     out: &mut Report<'_, K>,
 ) -> Result<(), SinkFault>
-    requires playing { IsPlaying B.bodies B.spent player.now }
+    requires sound { player.now.world.spent ≡ false }
     requires run { IsRun run.old }
     ensures sent { IsSentBy K.written K.faults K.since out.old out.new
-        ((out.old.text.now.items ++ owed player.now.table.entries run.old) ++ answer_line player.now.table.entries query mask)
-        (out.new.text.now.items ++ owed player.now.table.entries run.new) result }
+        ((out.old.text.now.items ++ owed (live_in player.now.world) run.old) ++ answer_line (live_in player.now.world) asked)
+        (out.new.text.now.items ++ owed (live_in player.now.world) run.new) result }
     ensures run { OnOk result (IsRun run.new) }
 {
-    run.push(query, mask)?;
-    if run.queries.len() < LONGEST_RUN {
+    run.push(asked)?;
+    if run.asked.len() < LONGEST_RUN {
         return Ok(());
     }
     settle(setup, player, run, out)
@@ -84,34 +83,27 @@ pub(crate) fn settle<R: Threads + Sync, B: BroadPhase + Sync + Drop, G: Gate + S
     run: &mut QueryRun,
     out: &mut Report<'_, K>,
 ) -> Result<(), SinkFault>
-    requires playing { IsPlaying B.bodies B.spent player.now }
-    requires same { length run.old.masks.items ≡ length run.old.queries.items }
-    requires few { length run.old.queries.items ≤ LONGEST_RUN }
-    ensures sent { IsAppended K.written K.faults K.since out.old out.new (owed player.now.table.entries run.old) result }
+    requires sound { player.now.world.spent ≡ false }
+    requires same { run.old.queries.items ≡ map query_for run.old.asked.items }
+    requires few { length run.old.asked.items ≤ LONGEST_RUN }
+    ensures sent { IsAppended K.written K.faults K.since out.old out.new (owed (live_in player.now.world) run.old) result }
+    ensures asked { OnOk result (run.new.asked.items ≡ []) }
     ensures queries { OnOk result (run.new.queries.items ≡ []) }
-    ensures masks { OnOk result (run.new.masks.items ≡ []) }
 {
-    if run.queries.is_empty() {
+    if run.asked.is_empty() {
         return Ok(());
     }
     let lists = hits_many(
         setup.rt,
         player.alloc,
-        &player.index,
+        player.world.index(),
         &run.queries,
         setup.options.workers,
         setup.gate,
     )?;
-    send_answers(
-        player.alloc,
-        &player.table,
-        &run.queries,
-        &run.masks,
-        &lists,
-        out,
-    )?;
+    send_answers(player.alloc, player.world.table(), &run.asked, &lists, out)?;
+    run.asked.clear();
     run.queries.clear();
-    run.masks.clear();
     Ok(())
 }
 
@@ -119,30 +111,23 @@ pub(crate) fn settle<R: Threads + Sync, B: BroadPhase + Sync + Drop, G: Gate + S
 fn send_answers<K: Sink>(
     alloc: Global,
     table: &LiveTable,
-    queries: &[Query],
-    masks: &[u32],
+    asked: &[Asked],
     lists: &[Vec<u32>],
     out: &mut Report<'_, K>,
 ) -> Result<(), SinkFault>
     requires table { IsTable table.now }
-    requires same { length masks.now ≡ length queries.now }
-    requires lists { map (λ l. l.items) lists.now ≡ map (found (bodies_of table.now.entries)) queries.now }
-    ensures { IsAppended K.written K.faults K.since out.old out.new (answers table.now.entries queries.now masks.now) result }
+    requires lists { map (λ l. l.items) lists.now ≡ map (λ a. found (bodies_of table.now.entries) (query_for a)) asked.now }
+    ensures { IsAppended K.written K.faults K.since out.old out.new (answers table.now.entries asked.now) result }
 {
     let mut handles = Vec::new(alloc);
-    let mut asked = queries;
-    let mut seen = masks;
+    let mut rest = asked;
     let mut found = lists;
-    'answers: while let Some((query, later)) = asked.split_first() {
-        let Some((mask, later_masks)) = seen.split_first() else {
-            unreachable!()
-        };
+    'answers: while let Some((one, later)) = rest.split_first() {
         let Some((slots, later_lists)) = found.split_first() else {
             unreachable!()
         };
-        send_answer(table, query, *mask, slots, &mut handles, out)?;
-        asked = later;
-        seen = later_masks;
+        send_answer(table, one, slots, &mut handles, out)?;
+        rest = later;
         found = later_lists;
     }
     Ok(())
@@ -152,18 +137,15 @@ fn send_answers<K: Sink>(
 #[tactic(auto, using(crate::proofs::Sending::report_out_of_memory))]
 fn send_answer<K: Sink>(
     table: &LiveTable,
-    query: &Query,
-    mask: u32,
+    asked: &Asked,
     slots: &[u32],
     handles: &mut Vec<Handle>,
     out: &mut Report<'_, K>,
 ) -> Result<(), SinkFault>
     requires table { IsTable table.now }
-    requires found { slots.now ≡ found (bodies_of table.now.entries) query.now }
-    ensures { IsAppended K.written K.faults K.since out.old out.new (answer_line table.now.entries query.now mask) result }
+    requires found { slots.now ≡ found (bodies_of table.now.entries) (query_for asked.now) }
+    ensures { IsAppended K.written K.faults K.since out.old out.new (answer_line table.now.entries asked.now) result }
 {
-    handles.clear();
-    push_hits(table, query, mask, slots, handles)?;
-    put_hits(query.kind(), handles, out.text)?;
+    asked.put_answer(table, slots, handles, out.text)?;
     out.hand_on()
 }

@@ -1,26 +1,31 @@
-ghost use Rattle.std.specs.Prelude.{◌≡◌, ◌≢◌, ◌-◌, ◌^◌, ◌<◌, ◌≤◌, ◌++◌, [], true, length, IfOk, IfErr, OnOk, OnErr, IfSome, option_map};
+ghost use Rattle.std.specs.Prelude.{◌≡◌, ◌≢◌, ◌-◌, ◌^◌, ◌<◌, ◌≤◌, ◌++◌, [], true, false, length, IfOk, IfErr, OnOk, OnErr, IfSome, option_map};
 ghost use Rattle.broad_index.specs.Fresh.{IsFresh};
-ghost use Rattle.frame_player.specs.declared.status.Status.TheVariants.{Usage};
-ghost use Rattle.frame_player.specs.Ending.{IsTextOf, IsCountedAs, after_fault, ended, last_line, status_of};
-ghost use Rattle.frame_player.specs.Outcome.{ends, IsOutcome, IsBegun};
-ghost use Rattle.frame_player.specs.Outlet.{IsSentBy, IsSaidBy, IsCutShortBy};
-ghost use Rattle.frame_player.specs.Owed.{owed, IsRun};
-ghost use Rattle.frame_player.specs.Play.{played, report};
-ghost use Rattle.frame_player.specs.Player.{IsPlaying, IsOpening};
 ghost use Rattle.scene_lines.specs.SceneLines.{lines};
 ghost use Rattle.work_pieces.specs.declared.TheConstants.{MOST_WORKERS};
+ghost use Rattle.play_rules.specs.declared.status.Status.TheVariants.{Usage};
+ghost use Rattle.play_rules.specs.Outcome.{ends, IsOutcome, IsBegun};
+ghost use Rattle.play_rules.specs.Play.{played, report};
+ghost use Rattle.play_rules.specs.World.{opening};
+ghost use Rattle.scene_steps.specs.Reached.{IsTextOf};
+ghost use Rattle.frame_player.specs.Ending.{IsCountedAs, last_line, status_of};
+ghost use Rattle.frame_player.specs.Outlet.{IsSentBy, IsSaidBy, IsCutShortBy};
+ghost use Rattle.frame_player.specs.Owed.{owed, IsRun};
+ghost use Rattle.frame_player.specs.Player.{world_of, live_in};
 
+use crate::ending::ended;
 use crate::last::Last;
 use crate::obeying::obey;
 use crate::player::Player;
 use crate::query_run::{QueryRun, settle};
 use crate::report::Report;
 use crate::setup::Setup;
-use crate::{Limits, Options, Status, replies_begin_report};
+use crate::{Limits, Options, Status};
 use broad_index::{BroadPhase, Gate};
 use pair_report::Cause;
 use play_io::{Sink, SinkFault, Source};
-use scene_lines::{LineReader, MOST_LINES, Next, line_laws};
+use play_rules::{count_laws, replies_begin_report, uncounted_law};
+use scene_lines::{LineReader, MOST_LINES};
+use scene_steps::{Step, next_step};
 use std::alloc::Global;
 use std::thread::Threads;
 
@@ -77,32 +82,10 @@ pub fn play<R: Threads + Sync, B: BroadPhase + Sync + Drop, G: Gate + Sync, S: S
     ) {
         Ok(last) => {
             let sent = finish(&setup, &player, &mut run, last, &mut out);
-            ended(last, sent)
+            ended(last.status(), sent)
         }
         Err(SinkFault::Failed) => Status::WriteFault,
         Err(SinkFault::NoMemory) => Status::NoMemory,
-    }
-}
-
-// How a play ends whose reading ended so, by what sending the rest came to.
-fn ended(last: Last, sent: Result<(), SinkFault>) -> Status
-    ensures status { result ≡ ended last sent }
-    ensures never_usage { result ≢ Usage }
-{
-    match sent {
-        Ok(()) => last.status(),
-        Err(SinkFault::Failed) => after_fault(last.status()),
-        Err(SinkFault::NoMemory) => Status::NoMemory,
-    }
-}
-
-// The answer where the sink failed. A read fault stays one.
-fn after_fault(status: Status) -> Status
-    ensures { result ≡ after_fault status }
-{
-    match status {
-        Status::ReadFault => Status::ReadFault,
-        _ => Status::WriteFault,
     }
 }
 
@@ -116,22 +99,22 @@ fn play_lines<R: Threads + Sync, B: BroadPhase + Sync + Drop, G: Gate + Sync, S:
     source: &mut S,
     out: &mut Report<'_, K>,
 ) -> Result<Last, SinkFault>
-    requires opening { IsOpening B.exchanges player.old }
-    requires playing { IsPlaying B.bodies B.spent player.old }
+    requires opening { world_of player.old.version player.old.world ≡ opening }
+    requires sound { player.old.world.spent ≡ false }
     requires shown { setup.now.options.exchanges ≡ true → B.COUNTS ≡ true }
     requires some_lines { 1 ≤ limit }
     requires most_lines { limit ≤ MOST_LINES }
     requires source_count { S.faults source.old < 2 ^ 64 - 1 }
     requires nothing { out.old.text.now.items ≡ [] }
+    requires asked { run.old.asked.items ≡ [] }
     requires queries { run.old.queries.items ≡ [] }
-    requires masks { run.old.masks.items ≡ [] }
     ensures same_sink { out.new.sink.ghost_name ≡ out.old.sink.ghost_name }
     ensures said { IfOk result (λ last. IsSaidBy K.written K.faults K.since out.old out.new
-        (out.new.text.now.items ++ owed player.new.table.entries run.new)
+        (out.new.text.now.items ++ owed (live_in player.new.world) run.new)
         (λ all. IfSome (S.left source.old) (λ given.
-        IsTextOf setup.now.options.exchanges limit given (S.left source.new) (all ++ last_line last) (status_of last)))) }
+        IsTextOf (played setup.now.options.exchanges limit) given (S.left source.new) (all ++ last_line last) (status_of last)))) }
     ensures count { IfOk result (λ last. IsCountedAs (S.faults source.old) (S.faults source.new) (status_of last)) }
-    ensures playing { OnOk result (IsPlaying B.bodies B.spent player.new) }
+    ensures sound { OnOk result (player.new.world.spent ≡ false) }
     ensures run { OnOk result (IsRun run.new) }
     ensures stopped { IfErr result (λ fault. IsCutShortBy K.written K.faults K.since out.old out.new fault
         (IfSome (S.left source.old) (λ given.
@@ -139,36 +122,25 @@ fn play_lines<R: Threads + Sync, B: BroadPhase + Sync + Drop, G: Gate + Sync, S:
     ensures unread { OnErr result (S.faults source.new ≡ S.faults source.old) }
 {
     let mut reader = LineReader::new(player.alloc, limit)?;
-    line_laws();
+    count_laws();
+    uncounted_law();
     'lines: loop {
-        match reader.next(source) {
-            Next::Line => match player.read_line(reader.line()) {
-                Ok(command) => obey(setup, player, run, &command, out)?,
-                Err(cause) => return Ok(Last::Refused {
-                    line: reader.number(),
-                    cause,
-                }),
-            },
-            Next::Long => return Ok(Last::Refused {
-                line: reader.number(),
-                cause: Cause::Long,
-            }),
-            Next::TooMany => return Ok(Last::Refused {
-                line: reader.number(),
-                cause: Cause::Lines,
-            }),
-            Next::ReadFault => return Ok(Last::ReadFault),
-            Next::End => {
-                if !player.header {
+        let live = player.live();
+        match next_step(&mut reader, source, player.version, live) {
+            Step::Command(command) => obey(setup, player, run, &command, out)?,
+            Step::Refused { line, cause } => return Ok(Last::Refused { line, cause }),
+            Step::ReadFault => return Ok(Last::ReadFault),
+            Step::End { lines } => {
+                if player.version.is_none() {
                     return Ok(Last::Refused {
-                        line: reader.number() + 1,
+                        line: lines + 1,
                         cause: Cause::Header,
                     });
                 }
                 return Ok(Last::End {
-                    lines: reader.number(),
-                    frames: player.frames,
-                    live: player.table.len(),
+                    lines,
+                    frames: player.world.frames(),
+                    live,
                 });
             }
         }
@@ -184,10 +156,10 @@ fn finish<R: Threads + Sync, B: BroadPhase + Sync + Drop, G: Gate + Sync, K: Sin
     last: Last,
     out: &mut Report<'_, K>,
 ) -> Result<(), SinkFault>
-    requires playing { IsPlaying B.bodies B.spent player.now }
+    requires sound { player.now.world.spent ≡ false }
     requires run { IsRun run.old }
     ensures sent { IsSentBy K.written K.faults K.since out.old out.new
-        ((out.old.text.now.items ++ owed player.now.table.entries run.old) ++ last_line last) [] result }
+        ((out.old.text.now.items ++ owed (live_in player.now.world) run.old) ++ last_line last) [] result }
     ensures settled { OnOk result (K.settled out.new.sink.now ≡ option_map length (K.written out.new.sink.now)) }
 {
     settle(setup, player, run, out)?;

@@ -1,9 +1,9 @@
 -- How a task ends that touched neither end.
 use Rattle.std.proofs.Common.{Bool, [], refl}
-use Rattle.frame_player.specs.declared.status.Status.TheVariants.{NoMemory}
-use Rattle.frame_player.specs.Outcome.{Ends}
-use Rattle.frame_player.specs.OutcomeLaws.{append_known-nil, uncalled_ends}
-use Rattle.frame_player.specs.Play.{played}
+use Rattle.play_rules.specs.declared.status.Status.TheVariants.{NoMemory}
+use Rattle.play_rules.specs.Outcome.{Ends}
+use Rattle.play_rules.specs.OutcomeLaws.{append_known-nil, uncalled_ends}
+use Rattle.play_rules.specs.Play.{played}
 use Rattle.scene_lines.specs.declared.TheConstants.{MOST_LINES}
 use Rattle.job_words.specs.declared.job.Task.{Task}
 use Rattle.job_words.specs.declared.job.Task.TheVariants.{Play, Drill}

@@ -1,10 +1,10 @@
 -- How a command line's job may end.
 use Rattle.std.specs.Prelude.{◌≡◌, Bool, true, false, Option, Some, None}
 use Rattle.scene_lines.specs.declared.TheConstants.{MOST_LINES}
-use Rattle.frame_player.specs.declared.status.Status.{Status}
-use Rattle.frame_player.specs.declared.status.Status.TheVariants.{Usage}
-use Rattle.frame_player.specs.Outcome.{Ends, IsOutcome}
-use Rattle.frame_player.specs.Play.{played}
+use Rattle.play_rules.specs.declared.status.Status.{Status}
+use Rattle.play_rules.specs.declared.status.Status.TheVariants.{Usage}
+use Rattle.play_rules.specs.Outcome.{Ends, IsOutcome}
+use Rattle.play_rules.specs.Play.{played}
 use Rattle.scene_drill.specs.declared.load.Load.{Load}
 use Rattle.scene_drill.specs.Drill.{Output, output, drill_text, IsDrilled}
 use Rattle.job_words.specs.declared.job.Job.{Job}

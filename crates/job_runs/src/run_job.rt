@@ -1,6 +1,6 @@
 ghost use Rattle.std.specs.Prelude.{◌≡◌, ◌≢◌, ◌↔◌, ◌-◌, ◌^◌, ◌<◌, ◌≤◌, true, map, string_bytes, None};
-ghost use Rattle.frame_player.specs.declared.status.Status.TheVariants.{Usage};
-ghost use Rattle.frame_player.specs.Outcome.{ends};
+ghost use Rattle.play_rules.specs.declared.status.Status.TheVariants.{Usage};
+ghost use Rattle.play_rules.specs.Outcome.{ends};
 ghost use Rattle.work_pieces.specs.declared.TheConstants.{MOST_WORKERS};
 ghost use Rattle.job_words.specs.JobWords.{counts, job, IsLoad};
 ghost use Rattle.job_runs.specs.JobOutcome.{IsJobDone, IsTaskDone, is_drill, reads_nothing};

@@ -1,5 +1,5 @@
 -- The commands of a made scene are allowed: its boxes keep their slots, so a removed box is live and a slot is free for each added one.
-use Rattle.std.proofs.Common.{◌≡◌, ℕ, zero, suc, ◌+◌, ◌<◌, ◌≤◌, true, nat_lt, List, [], ◌∷◌, ◌++◌, length, Ok, refl, sym, subst}
+use Rattle.std.proofs.Common.{◌≡◌, ℕ, zero, suc, ◌+◌, ◌<◌, ◌≤◌, true, nat_lt, List, [], ◌∷◌, ◌++◌, length, Some, Ok, refl, sym, subst}
 use Rattle.std.proofs.Common.{ap, ◌∙◌, arith, get_or}
 use Rattle.std.proofs.lemmas.Bool.Decides.{nat_tests}
 use Rattle.std.proofs.lemmas.List.{length-append, length-set}
@@ -11,8 +11,8 @@ use Rattle.live_table.specs.declared.masks.Masks.{Masks}
 use Rattle.scene_words.specs.declared.command.Command.{Command}
 use Rattle.scene_words.specs.declared.command.Command.TheVariants.{Header, Add, Remove}
 use Rattle.scene_words.specs.declared.version.Version.TheVariants.{One}
-use Rattle.frame_player.specs.AllowedScene.{AreAllowed, after_all}
-use Rattle.frame_player.specs.World.{World, opening, after, allowed}
+use Rattle.play_rules.specs.AllowedScene.{AreAllowed, after_all}
+use Rattle.play_rules.specs.World.{World, opening, after, allowed}
 use Rattle.made_scene.specs.MadeScene.{Stage, Part, before, nothing, ◌then◌, adds, moves, replacement, questions, one_frame, frames, start, made_scene}
 use Rattle.made_scene.specs.MadeScene.{with_new, with_moved, add_command, move_command, handle_at, next_bounds, next_masks, nobodys}
 use Rattle.made_scene.specs.MadeScene.{moved, word, body_at, chosen, past_choice}
@@ -21,11 +21,11 @@ use Rattle.scene_drill.proofs.Slots.{many_follow, new_follows, moved_follows, fe
 
 both_allowed : (w : World) (cs ds : List Command) → AreAllowed w cs → AreAllowed (after_all w cs) ds → AreAllowed w (cs ++ ds)
 both_allowed w [] ds a b = b
-both_allowed w (c ∷ cs) ds a b = (a.0, both_allowed (after w c) cs ds a.1 b)
+both_allowed w (c ∷ cs) ds a b = (a.0, both_allowed (after true w c) cs ds a.1 b)
 
 after_both : (w : World) (cs ds : List Command) → after_all w (cs ++ ds) ≡ after_all (after_all w cs) ds
 after_both w [] ds = refl
-after_both w (c ∷ cs) ds = after_both (after w c) cs ds
+after_both w (c ∷ cs) ds = after_both (after true w c) cs ds
 
 -- one part of a scene after another
 then_allowed : (few many : ℕ) (w : World) (part : Part) (rest : Stage → Part) → IsAllowed few w part
@@ -38,15 +38,15 @@ then_allowed few many w part rest a b =
       made = subst (IsMade many (rest part.after).after) (sym (after_both w part.commands (rest part.after).commands)) later.made;
     }
 
-before_allowed : (boxes : ℕ) (w : World) (c : Command) (part : Part) → allowed w (Ok c) ≡ Ok c → IsAllowed boxes (after w c) part
+before_allowed : (boxes : ℕ) (w : World) (c : Command) (part : Part) → allowed w (Ok c) ≡ Ok c → IsAllowed boxes (after true w c) part
     → IsAllowed boxes w (before c part)
 before_allowed boxes w c part ok a = record { allowed = (ok, a.allowed); made = a.made }
 
 -- where a slot is free
-add_allowed : (w : World) (body : Bounds) (masks : Masks) (group : Group) → w.header ≡ true → length w.table.entries < SLOTS
+add_allowed : (w : World) (body : Bounds) (masks : Masks) (group : Group) → w.version ≡ Some One → length w.time.now.table.entries < SLOTS
     → allowed w (Ok (Add body masks group)) ≡ Ok (Add body masks group)
 add_allowed w body masks group h low =
-    let free : nat_lt (length w.table.entries) SLOTS ≡ true = grind (arith, nat_tests) in
+    let free : nat_lt (length w.time.now.table.entries) SLOTS ≡ true = grind (arith, nat_tests) in
     rw (h, free) refl
 
 adds_allowed : (n few : ℕ) (s : Stage) (w : World) → few + n ≤ SLOTS → IsMade few s w → IsAllowed (few + n) w (adds n s)
@@ -55,28 +55,28 @@ adds_allowed (suc n) few s w room h =
     let body = next_bounds s.generator in
     let masks = next_masks s.generator in
     let count : length s.generations ≡ few = h.generations in
-    let many : length w.table.entries ≡ length s.generations = many_follow s.generations w.table h.table in
-    let made : IsMade (few + 1) (with_new s) (after w (add_command s)) = record {
+    let many : length w.time.now.table.entries ≡ length s.generations = many_follow s.generations w.time.now.table h.table in
+    let made : IsMade (few + 1) (with_new s) (after true w (add_command s)) = record {
       header = h.header;
       bodies = length-append s.bodies (body ∷ []) ∙ ap (λ k. k + 1) h.bodies;
       generations = length-append s.generations (0 ∷ []) ∙ ap (λ k. k + 1) count;
-      table = new_follows s.generations w.table body masks nobodys h.table (omega (arith, count, room));
+      table = new_follows s.generations w.time.now.table body masks nobodys h.table (omega (arith, count, room));
     } in
-    let rest : IsAllowed (few + 1 + n) (after w (add_command s)) (adds n (with_new s)) =
-    adds_allowed n (few + 1) (with_new s) (after w (add_command s)) (omega (arith, room)) made in
+    let rest : IsAllowed (few + 1 + n) (after true w (add_command s)) (adds n (with_new s)) =
+    adds_allowed n (few + 1) (with_new s) (after true w (add_command s)) (omega (arith, room)) made in
     before_allowed (few + suc n) w (add_command s) (adds n (with_new s)) (add_allowed w body masks nobodys h.header (omega (arith, many, count, room)))
-    (subst (λ k. IsAllowed k (after w (add_command s)) (adds n (with_new s))) {x = few + 1 + n} {y = few + suc n} (omega arith) rest)
+    (subst (λ k. IsAllowed k (after true w (add_command s)) (adds n (with_new s))) {x = few + 1 + n} {y = few + suc n} (omega arith) rest)
 
 moves_allowed : (n slot boxes : ℕ) (s : Stage) (w : World) → IsMade boxes s w → IsAllowed boxes w (moves n slot s)
 moves_allowed zero slot boxes s w h = record { allowed = tt; made = h }
 moves_allowed (suc n) slot boxes s w h =
     let body = moved (word s.generator) (body_at s slot) in
     before_allowed boxes w (move_command s slot) (moves n (slot + 1) (with_moved s slot)) (rw h.header refl)
-    (moves_allowed n (slot + 1) boxes (with_moved s slot) (after w (move_command s slot)) (record {
+    (moves_allowed n (slot + 1) boxes (with_moved s slot) (after true w (move_command s slot)) (record {
       header = h.header;
       bodies = length-set s.bodies slot body ∙ h.bodies;
       generations = h.generations;
-      table = moved_follows s.generations w.table (handle_at s slot) body h.table;
+      table = moved_follows s.generations w.time.now.table (handle_at s slot) body h.table;
     }))
 
 replacement_allowed : (slot boxes : ℕ) (s : Stage) (w : World) → slot < boxes → boxes ≤ SLOTS → IsMade boxes s w
@@ -84,17 +84,17 @@ replacement_allowed : (slot boxes : ℕ) (s : Stage) (w : World) → slot < boxe
 replacement_allowed slot boxes s w low few h =
     let body = next_bounds s.generator in
     let masks = next_masks s.generator in
-    let left = after w (Remove (handle_at s slot)) in
+    let left = after true w (Remove (handle_at s slot)) in
     let count : length s.generations ≡ boxes = h.generations in
     let within : slot < length s.generations = omega (arith, count, low) in
-    let many : length left.table.entries + 1 ≡ length s.generations = fewer_follow s.generations w.table slot h.table within in
+    let many : length left.time.now.table.entries + 1 ≡ length s.generations = fewer_follow s.generations w.time.now.table slot h.table within in
     record {
       allowed = (rw h.header refl, (add_allowed left body masks nobodys h.header (omega (arith, many, count, few)), tt));
       made = record {
         header = h.header;
         bodies = length-set s.bodies slot body ∙ h.bodies;
         generations = length-set s.generations slot (get_or s.generations slot 0 + 1) ∙ count;
-        table = replaced_follows s.generations w.table slot body masks nobodys h.table within;
+        table = replaced_follows s.generations w.time.now.table slot body masks nobodys h.table within;
       };
     }
 
@@ -128,10 +128,10 @@ frames_allowed (suc n) boxes s w some few h =
 
 -- the world once a header was read
 abbrev begun : World
-begun = after opening (Header One)
+begun = after true opening (Header One)
 
 pub scene_allowed : (seed boxes count : ℕ) → 1 ≤ boxes → boxes ≤ SLOTS
-    → AreAllowed opening (made_scene seed boxes count) × ((after_all opening (made_scene seed boxes count)).header ≡ true)
+    → AreAllowed opening (made_scene seed boxes count) × ((after_all opening (made_scene seed boxes count)).version ≡ Some One)
 scene_allowed seed boxes count some few =
     let made : IsMade 0 (start seed) begun = record { header = refl; bodies = refl; generations = refl; table = record { entries = tt; gives = refl } } in
     let all : IsAllowed boxes begun (adds boxes (start seed) then frames count) =

@@ -3,10 +3,10 @@ use Rattle.std.specs.Prelude.{◌≡◌, ℕ, ◌<◌, Bool, List, length, true,
 use Rattle.std.specs.Io.KnownBytes.{append_known}
 use Rattle.scene_lines.specs.SceneLines.{lines}
 use Rattle.scene_lines.specs.declared.TheConstants.{MOST_LINES}
-use Rattle.frame_player.specs.declared.status.Status.{Status}
-use Rattle.frame_player.specs.declared.status.Status.TheVariants.{Done, WriteFault, NoMemory}
-use Rattle.frame_player.specs.Outcome.{IsBegun}
-use Rattle.frame_player.specs.Play.{report}
+use Rattle.play_rules.specs.declared.status.Status.{Status}
+use Rattle.play_rules.specs.declared.status.Status.TheVariants.{Done, WriteFault, NoMemory}
+use Rattle.play_rules.specs.Outcome.{IsBegun}
+use Rattle.play_rules.specs.Play.{report}
 use Rattle.made_scene.specs.MadeScene.{made_text}
 use Rattle.scene_drill.specs.Summary.{summary}
 use Rattle.scene_drill.specs.declared.load.Load.{Load}

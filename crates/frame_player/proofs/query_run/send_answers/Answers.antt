@@ -9,33 +9,30 @@ pub answers-preserved : goal.answers-preserved
 answers-preserved g c =
     let at = outlet_of g.K.Sink.written g.K.Sink.faults g.K.Sink.since in
     let entries = c.args.table.now.entries in
-    let line = answer_line entries c.in-Some.query.now c.in-Some-split_first.mask.now in
-    let later = answers entries c.in-Some.later.now c.in-Some-split_first.later_masks.now in
-    let asked : c.answers.asked.now ≡ c.in-Some.query.now ∷ c.in-Some.later.now = search rules in
-    let seen : c.answers.seen.now ≡ c.in-Some-split_first.mask.now ∷ c.in-Some-split_first.later_masks.now = search rules in
+    let line = answer_line entries c.in-Some.one.now in
+    let later = answers entries c.in-Some.later.now in
+    let asked : c.answers.rest.now ≡ c.in-Some.one.now ∷ c.in-Some.later.now = search rules in
     record {
-      same = search rules;
       lists = search rules;
       same_sink = c.in_ok-send_answer.ensures.0 ∙ c.answers.invariant.same_sink;
       handed = sent_next (at c.args.out.now) (at c.answers.out) (at c.send_answer.new.out)
-          (c.args.out.now.text.now.items ++ answers entries c.args.queries.now c.args.masks.now)
-          c.answers.out.text.now.items (answers entries c.answers.asked.now c.answers.seen.now) line later c.send_answer.new.out.text.now.items
-          c.answers.invariant.handed (rw (asked, seen) refl) c.in_ok-send_answer.ensures.1;
+          (c.args.out.now.text.now.items ++ answers entries c.args.asked.now)
+          c.answers.out.text.now.items (answers entries c.answers.rest.now) line later c.send_answer.new.out.text.now.items
+          c.answers.invariant.handed (rw asked refl) c.in_ok-send_answer.ensures.1;
     }
 
 pub returns-in_err-send_answer : goal.returns-in_err-send_answer
 returns-in_err-send_answer g c =
     let at = outlet_of g.K.Sink.written g.K.Sink.faults g.K.Sink.since in
     let entries = c.args.table.now.entries in
-    let line = answer_line entries c.in-Some.query.now c.in-Some-split_first.mask.now in
-    let later = answers entries c.in-Some.later.now c.in-Some-split_first.later_masks.now in
-    let asked : c.answers.asked.now ≡ c.in-Some.query.now ∷ c.in-Some.later.now = search rules in
-    let seen : c.answers.seen.now ≡ c.in-Some-split_first.mask.now ∷ c.in-Some-split_first.later_masks.now = search rules in
-    let start = c.args.out.now.text.now.items ++ answers entries c.args.queries.now c.args.masks.now in (
+    let line = answer_line entries c.in-Some.one.now in
+    let later = answers entries c.in-Some.later.now in
+    let asked : c.answers.rest.now ≡ c.in-Some.one.now ∷ c.in-Some.later.now = search rules in
+    let start = c.args.out.now.text.now.items ++ answers entries c.args.asked.now in (
       c.in_err-send_answer.ensures.0 ∙ c.answers.invariant.same_sink,
       stopped_so (at c.args.out.now) (at c.send_answer.new.out) start c.send_answer.new.out.text.now.items c.from_residual.result
           c.in_err-send_answer.field-0.0 c.from_residual.ensures.1
           (stopped_next (at c.args.out.now) (at c.answers.out) (at c.send_answer.new.out) start c.answers.out.text.now.items
-          (answers entries c.answers.asked.now c.answers.seen.now) line later c.in_err-send_answer.field-0.0 c.answers.invariant.handed
-          (rw (asked, seen) refl) c.in_err-send_answer.ensures.1),
+          (answers entries c.answers.rest.now) line later c.in_err-send_answer.field-0.0 c.answers.invariant.handed
+          (rw asked refl) c.in_err-send_answer.ensures.1),
     )

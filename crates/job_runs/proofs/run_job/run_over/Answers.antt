@@ -1,6 +1,6 @@
 -- Where there was no memory for the structure, nothing was read and nothing written. A drill calls the sink alone.
 use Rattle.std.proofs.Common.{refl}
-use Rattle.frame_player.specs.Outcome.{ends}
+use Rattle.play_rules.specs.Outcome.{ends}
 use Rattle.job_runs.proofs.TaskOutcomes.{uncalled_task}
 use Rattle.job_runs.proofs.run_job.run_over.Goals as goal
 

@@ -1,6 +1,6 @@
 -- Where memory runs out before the text is there, the sink is as it was.
 use Rattle.std.proofs.Common.{Some, [], refl}
-use Rattle.frame_player.specs.OutcomeLaws.{nothing_begun}
+use Rattle.play_rules.specs.OutcomeLaws.{nothing_begun}
 use Rattle.scene_drill.specs.Drill.{drill_text}
 use Rattle.scene_drill.proofs.drilling.drill.Goals as goal
 

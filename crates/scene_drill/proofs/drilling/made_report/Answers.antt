@@ -1,7 +1,8 @@
 -- What the sink in memory keeps of a play that is done is the whole report.
 use Rattle.std.proofs.Common.{ℕ, List, [], ◌++◌, Option, Some, None, ap, ◌∙◌}
-use Rattle.frame_player.specs.Outcome.{of_bytes}
-use Rattle.frame_player.specs.Play.{played, whole}
+use Rattle.play_rules.specs.Course.{whole}
+use Rattle.play_rules.specs.Outcome.{of_bytes}
+use Rattle.play_rules.specs.Play.{played}
 use Rattle.made_scene.specs.MadeScene.{made_text}
 use Rattle.scene_lines.specs.declared.TheConstants.{MOST_LINES}
 use Rattle.scene_drill.proofs.drilling.made_report.Goals as goal

@@ -1,5 +1,5 @@
 -- Each part of the scene is allowed; it has far fewer lines than a scene may have, and each is in range.
-use Rattle.std.proofs.Common.{◌+◌, ◌*◌, ◌≤◌, length, arith}
+use Rattle.std.proofs.Common.{◌+◌, ◌*◌, ◌≤◌, length, is_some, ap, arith}
 use Rattle.std.proofs.lemmas.Nat.{mul-le}
 use Rattle.scene_lines.specs.declared.TheConstants.{MOST_LINES}
 use Rattle.made_scene.specs.MadeScene.{made_scene}
@@ -20,4 +20,4 @@ returns-clause-done c shows seed boxes count some few frames =
     let product : count * (boxes + 7) ≤ 100 * 8199 = mul-le count (boxes + 7) 100 8199 frames (omega (arith, few)) in
     let short : length scene ≤ MOST_LINES = omega (arith, many, product, few) in
     c.printed_scene_ends.ensures shows MOST_LINES scene short (c.made_scene_laws.ensures.in_range seed boxes count few frames)
-    (c.made_scene_laws.ensures.of_one seed boxes count) ok.0 ok.1
+    (c.made_scene_laws.ensures.of_one seed boxes count) ok.0 (ap is_some ok.1)
