@@ -1,7 +1,6 @@
 //! Does what a command line asks for, over the structure that it names, from a source to a sink.
 #![tactic(auto)]
 
-mod named;
 mod run_job;
 
 pub use run_job::broadplay;

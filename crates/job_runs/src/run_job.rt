@@ -2,15 +2,16 @@ ghost use Rattle.std.specs.Prelude.{◌≡◌, ◌≢◌, ◌↔◌, ◌-◌, �
 ghost use Rattle.play_rules.specs.declared.status.Status.TheVariants.{Usage};
 ghost use Rattle.play_rules.specs.Outcome.{ends};
 ghost use Rattle.work_pieces.specs.declared.TheConstants.{MOST_WORKERS};
-ghost use Rattle.job_words.specs.JobWords.{counts, job, IsLoad};
+ghost use Rattle.named_index.specs.Structures.{counts};
+ghost use Rattle.job_words.specs.JobWords.{job, IsLoad};
 ghost use Rattle.job_runs.specs.JobOutcome.{IsJobDone, IsTaskDone, is_drill, reads_nothing};
 
-use crate::named::Named;
 use box_tree::BoxTree;
 use broad_index::{NoGate, PlainIndex};
 use frame_player::{Limits, Status, play};
 use hier_grid::HierGrid;
 use job_words::{Job, Structure, Task, read_words};
+use named_index::Named;
 use play_io::{Sink, Source};
 use scene_drill::{Load, drill};
 use scene_lines::MOST_LINES;

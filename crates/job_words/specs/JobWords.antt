@@ -3,10 +3,11 @@ use Rattle.std.specs.Prelude.{ℕ, ◌≤◌, Bool, true, false, not, ◌&&◌, 
 use Rattle.std.specs.Prelude.{is_some, unwrap_or, option_map, Option, Some, None}
 use Rattle.std.specs.Str.Parse.{digits_value}
 use Rattle.scene_words.specs.Values.{is_numeral}
+use Rattle.named_index.specs.declared.structure.Structure.{Structure}
+use Rattle.named_index.specs.declared.structure.Structure.TheVariants.{Plain, Sap, Tree, Grid}
+use Rattle.named_index.specs.Structures.{counts}
 use Rattle.job_words.specs.declared.job.Choices.{Choices}
 use Rattle.job_words.specs.declared.job.Job.{Job}
-use Rattle.job_words.specs.declared.job.Structure.{Structure}
-use Rattle.job_words.specs.declared.job.Structure.TheVariants.{Plain, Sap, Tree, Grid}
 use Rattle.job_words.specs.declared.job.Task.{Task}
 use Rattle.job_words.specs.declared.job.Task.TheVariants.{Play, Drill}
 
@@ -17,11 +18,6 @@ structure_of word =
     else (if bytes_eq word (codes "sap") then Some Sap
     else (if bytes_eq word (codes "tree") then Some Tree
     else (if bytes_eq word (codes "grid") then Some Grid else None)))
-
--- whether a structure counts exchanges
-abbrev pub counts : Structure → Bool
-counts Sap = true
-counts other = false
 
 -- one to `most` decimal digits with a value from `least` to `greatest`
 abbrev pub number_within : ℕ → ℕ → ℕ → List ℕ → Option ℕ

@@ -1,11 +1,13 @@
 ghost use Rattle.std.specs.Prelude.{◌≡◌, ◌≤◌, true, map, string_bytes, IfSome};
 ghost use Rattle.work_pieces.specs.declared.TheConstants.{MOST_WORKERS};
 ghost use Rattle.job_words.specs.JobWords.{job, drill_job, drill_of, with_options, job_of, IsLoad};
-ghost use Rattle.job_words.specs.JobWords.{choices_of, choose, choose_exchanges, no_choices, structure_of, workers_of, number_within, counts};
+ghost use Rattle.job_words.specs.JobWords.{choices_of, choose, choose_exchanges, no_choices, structure_of, workers_of, number_within};
+ghost use Rattle.named_index.specs.Structures.{counts};
 
 use fixed_box::SLOTS;
 use frame_player::Options;
 use made_scene::MOST_FRAMES;
+use named_index::Structure;
 use scene_words::numeral;
 use work_pieces::MOST_WORKERS;
 
@@ -16,19 +18,6 @@ pub enum Task {
     Play,
     /// Make a scene of 1 to `SLOTS` boxes and 1 to `MOST_FRAMES` frames, play it, and write a summary.
     Drill { seed: u64, boxes: u32, frames: u32 },
-}
-
-/// By which structure the boxes are kept.
-#[derive(Clone, Copy, Debug, PartialEq, Eq)]
-pub enum Structure {
-    /// A list that tests all pairs.
-    Plain,
-    /// Sweep and prune over three sorted lists of endpoints.
-    Sap,
-    /// A balanced tree of fat boxes.
-    Tree,
-    /// A hashed hierarchical grid.
-    Grid,
 }
 
 /// What a command line asks for.

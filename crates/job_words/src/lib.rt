@@ -3,4 +3,5 @@
 
 mod job;
 
-pub use job::{Job, Structure, Task, read_words};
+pub use job::{Job, Task, read_words};
+pub use named_index::Structure;
