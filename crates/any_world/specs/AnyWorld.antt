@@ -1,0 +1,26 @@
+-- What a world is, whatever its structure is.
+use Rattle.std.specs.Prelude.{Bool}
+use Rattle.box_world.specs.Answers.{State}
+use Rattle.named_index.specs.declared.structure.Structure.{Structure}
+use Rattle.named_index.specs.declared.structure.Structure.TheVariants.{Plain as PlainName, Sap as SapName, Tree as TreeName, Grid as GridName}
+use Rattle.named_index.specs.Structures.{counts}
+use Rattle.any_world.specs.declared.any_world.AnyWorld.{AnyWorld}
+use Rattle.any_world.specs.declared.any_world.AnyWorld.TheVariants.{Plain, Sap, Tree, Grid}
+
+-- what a world stands for, whatever its structure is
+abbrev pub state_of : AnyWorld → State
+state_of (Plain w) = w
+state_of (Sap w) = w
+state_of (Tree w) = w
+state_of (Grid w) = w
+
+-- the structure that keeps the boxes
+abbrev pub structure_of : AnyWorld → Structure
+structure_of (Plain w) = PlainName
+structure_of (Sap w) = SapName
+structure_of (Tree w) = TreeName
+structure_of (Grid w) = GridName
+
+-- whether it counts exchanges: as its structure does
+abbrev pub counts_of : AnyWorld → Bool
+counts_of world = counts (structure_of world)

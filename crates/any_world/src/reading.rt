@@ -1,0 +1,186 @@
+ghost use Rattle.std.specs.Prelude.{◌≡◌, ◌++◌, true, false, length, min, OnOk, OnErr};
+ghost use Rattle.fixed_box.specs.declared.TheConstants.{SLOTS};
+ghost use Rattle.live_table.specs.Entries.{entry_at};
+ghost use Rattle.live_table.specs.Table.{IsTable};
+ghost use Rattle.live_queries.specs.Pairs.{hits_of};
+ghost use Rattle.live_queries.specs.Queries.{entered_of, cast_of, nearest_to};
+ghost use Rattle.any_world.specs.AnyWorld.{state_of, structure_of};
+
+use crate::AnyWorld;
+use box_cast::Cast;
+use broad_index::Query;
+use fixed_box::NoMemory;
+use live_queries::NearQuery;
+use live_table::{Handle, Live, LiveTable};
+use pair_events::{HPair, Told};
+use ray_slabs::Ray;
+
+impl AnyWorld {
+    /// The live box with the handle, and `None` where no live box has it. It is one look-up.
+    pub fn get(&self, handle: Handle) -> Option<Live>
+        ensures { result ≡ entry_at handle (state_of self.now).time.now.table.entries }
+    {
+        match self {
+            AnyWorld::Plain(world) => world.get(handle),
+            AnyWorld::Sap(world) => world.get(handle),
+            AnyWorld::Tree(world) => world.get(handle),
+            AnyWorld::Grid(world) => world.get(handle),
+        }
+    }
+
+    /// The number of live boxes.
+    pub fn len(&self) -> u32
+        ensures { result ≡ length (state_of self.now).time.now.table.entries }
+    {
+        match self {
+            AnyWorld::Plain(world) => world.len(),
+            AnyWorld::Sap(world) => world.len(),
+            AnyWorld::Tree(world) => world.len(),
+            AnyWorld::Grid(world) => world.len(),
+        }
+    }
+
+    /// The number of frames that have ended. A way back lowers it to what it was at the mark.
+    pub fn frames(&self) -> u32
+        ensures { result ≡ (state_of self.now).time.now.frames }
+    {
+        match self {
+            AnyWorld::Plain(world) => world.frames(),
+            AnyWorld::Sap(world) => world.frames(),
+            AnyWorld::Tree(world) => world.frames(),
+            AnyWorld::Grid(world) => world.frames(),
+        }
+    }
+
+    /// The exchanges of endpoints since the last frame, and 0 where the structure doesn't count them and in a spent world.
+    pub fn exchanges(&self) -> u64
+        ensures sound { (state_of self.now).spent ≡ false → result ≡ (state_of self.now).time.now.exchanges }
+        ensures spent { (state_of self.now).spent ≡ true → result ≡ 0 }
+    {
+        match self {
+            AnyWorld::Plain(world) => world.exchanges(),
+            AnyWorld::Sap(world) => world.exchanges(),
+            AnyWorld::Tree(world) => world.exchanges(),
+            AnyWorld::Grid(world) => world.exchanges(),
+        }
+    }
+
+    /// The number of marks that are held.
+    pub fn held(&self) -> u32
+        ensures { result ≡ length (state_of self.now).time.marks }
+    {
+        match self {
+            AnyWorld::Plain(world) => world.held(),
+            AnyWorld::Sap(world) => world.held(),
+            AnyWorld::Tree(world) => world.held(),
+            AnyWorld::Grid(world) => world.held(),
+        }
+    }
+
+    /// What was told of the last frame that ended: each pair of it, as it began or stayed, and then each pair that was over.
+    pub fn events(&self) -> &[Told]
+        ensures { result.now ≡ (state_of self.now).told }
+    {
+        match self {
+            AnyWorld::Plain(world) => world.events(),
+            AnyWorld::Sap(world) => world.events(),
+            AnyWorld::Tree(world) => world.events(),
+            AnyWorld::Grid(world) => world.events(),
+        }
+    }
+
+    /// The pairs of the last frame, by the slots of their boxes then. After a way back they are those of the last frame before
+    /// the mark.
+    pub fn pairs(&self) -> &[HPair]
+        ensures { result.now ≡ (state_of self.now).time.now.last }
+    {
+        match self {
+            AnyWorld::Plain(world) => world.pairs(),
+            AnyWorld::Sap(world) => world.pairs(),
+            AnyWorld::Tree(world) => world.pairs(),
+            AnyWorld::Grid(world) => world.pairs(),
+        }
+    }
+
+    /// The table of live boxes.
+    pub fn table(&self) -> &LiveTable
+        ensures same { result.now ≡ (state_of self.now).time.now.table }
+        ensures table { IsTable result.now }
+    {
+        match self {
+            AnyWorld::Plain(world) => world.table(),
+            AnyWorld::Sap(world) => world.table(),
+            AnyWorld::Tree(world) => world.table(),
+            AnyWorld::Grid(world) => world.table(),
+        }
+    }
+
+    /// Appends the handles of the live boxes that meet a query and are in one of the groups that `mask` has, by their slots.
+    /// After an `Err` `out` is as before. A spent world answers want of memory, here and in the queries below.
+    pub fn hits(&mut self, query: &Query, mask: u32, out: &mut Vec<Handle>) -> Result<(), NoMemory>
+        ensures sound { OnOk result ((state_of self.old).spent ≡ false) }
+        ensures ok { OnOk result (out.new.items ≡ out.old.items ++ hits_of (state_of self.old).time.now.table.entries query.now mask) }
+        ensures err { OnErr result (out.new.items ≡ out.old.items) }
+        ensures same { state_of self.new ≡ state_of self.old }
+        ensures structure { structure_of self.new ≡ structure_of self.old }
+    {
+        match self {
+            AnyWorld::Plain(world) => world.hits(query, mask, out),
+            AnyWorld::Sap(world) => world.hits(query, mask, out),
+            AnyWorld::Tree(world) => world.hits(query, mask, out),
+            AnyWorld::Grid(world) => world.hits(query, mask, out),
+        }
+    }
+
+    /// Appends the handles of the live boxes that a ray meets, of the groups that `mask` has, in the order in which it first
+    /// meets them; those that it meets at one place come by their slots. After an `Err` `out` is as before.
+    pub fn entered(&mut self, ray: &Ray, mask: u32, out: &mut Vec<Handle>) -> Result<(), NoMemory>
+        ensures sound { OnOk result ((state_of self.old).spent ≡ false) }
+        ensures ok { OnOk result (out.new.items ≡ out.old.items ++ entered_of (state_of self.old).time.now.table.entries ray.now mask) }
+        ensures err { OnErr result (out.new.items ≡ out.old.items) }
+        ensures same { state_of self.new ≡ state_of self.old }
+        ensures structure { structure_of self.new ≡ structure_of self.old }
+    {
+        match self {
+            AnyWorld::Plain(world) => world.entered(ray, mask, out),
+            AnyWorld::Sap(world) => world.entered(ray, mask, out),
+            AnyWorld::Tree(world) => world.entered(ray, mask, out),
+            AnyWorld::Grid(world) => world.entered(ray, mask, out),
+        }
+    }
+
+    /// Appends the handles of the live boxes that a box which is cast meets on its way, of the groups that `mask` has, in the
+    /// order in which it first meets them; those that it meets at one place come by their slots. After an `Err` `out` is as
+    /// before.
+    pub fn cast(&mut self, cast: &Cast, mask: u32, out: &mut Vec<Handle>) -> Result<(), NoMemory>
+        ensures sound { OnOk result ((state_of self.old).spent ≡ false) }
+        ensures ok { OnOk result (out.new.items ≡ out.old.items ++ cast_of (state_of self.old).time.now.table.entries cast.now mask) }
+        ensures err { OnErr result (out.new.items ≡ out.old.items) }
+        ensures same { state_of self.new ≡ state_of self.old }
+        ensures structure { structure_of self.new ≡ structure_of self.old }
+    {
+        match self {
+            AnyWorld::Plain(world) => world.cast(cast, mask, out),
+            AnyWorld::Sap(world) => world.cast(cast, mask, out),
+            AnyWorld::Tree(world) => world.cast(cast, mask, out),
+            AnyWorld::Grid(world) => world.cast(cast, mask, out),
+        }
+    }
+
+    /// Appends the handles of the live boxes that are nearest to a point, of the groups that the query's mask has: at most as
+    /// many as it wants and at most `SLOTS`, in rising order of the square of their distance and then of their slot. After an
+    /// `Err` `out` is as before.
+    pub fn nearest(&self, query: &NearQuery, out: &mut Vec<Handle>) -> Result<(), NoMemory>
+        ensures sound { OnOk result ((state_of self.now).spent ≡ false) }
+        ensures ok { OnOk result (out.new.items ≡ out.old.items
+            ++ nearest_to (state_of self.now).time.now.table.entries query.now.at (min query.now.want SLOTS) query.now.mask) }
+        ensures err { OnErr result (out.new.items ≡ out.old.items) }
+    {
+        match self {
+            AnyWorld::Plain(world) => world.nearest(query, out),
+            AnyWorld::Sap(world) => world.nearest(query, out),
+            AnyWorld::Tree(world) => world.nearest(query, out),
+            AnyWorld::Grid(world) => world.nearest(query, out),
+        }
+    }
+}
