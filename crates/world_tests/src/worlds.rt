@@ -1,8 +1,10 @@
+use any_world::{AnyWorld, Structure};
 use box_world::{BoxWorld, Refusal};
-use broad_index::{BroadPhase, NoGate, PlainIndex};
+use broad_index::{BroadPhase, NoGate, PlainIndex, Query};
 use fixed_box::{FBox, Point, SLOTS};
 use live_table::{Group, Masks};
 use pair_events::{Event, Told};
+use std::alloc::Global;
 use std::test::Fail;
 use sweep_prune::Sap;
 
@@ -139,5 +141,49 @@ fn a_frame_is_searched_by_any_number_of_workers(rt: HostRuntime) -> Result<(), F
     let mut world = BoxWorld::new(rt.alloc(), PlainIndex::new(rt.alloc())?)?;
     assert!(rt; world.end_frame(&rt, 0, &NoGate) == Ok(0));
     assert!(rt; world.end_frame(&rt, 99, &NoGate) == Ok(0));
+    Ok(())
+}
+
+// Two boxes that touch and one apart, which moves to them; a mark, two of them go or see nobody, a frame, and back. Answers
+// whether each call came to what it should.
+fn plays_a_scene(alloc: Global, structure: Structure) -> Result<bool, Fail> {
+    let mut world = AnyWorld::new(alloc, structure)?;
+    let first = world.add(unit(0, 0)?, SEEN, NOBODYS)?;
+    let second = world.add(unit(1, 0)?, SEEN, NOBODYS)?;
+    let third = world.add(unit(5, 5)?, SEEN, NOBODYS)?;
+    let exchanges = if structure == Structure::Sap { 3 } else { 0 };
+    let counted = world.exchanges() == exchanges;
+    let began = world.update()?;
+    world.shift(third, unit(2, 0)?)?;
+    let joined = world.update()?;
+    let marked = world.mark()?;
+    world.mask(second, Masks { is: 1, sees: 0 })?;
+    world.remove(first)?;
+    let parted = world.update()?;
+    let went = world.back()?;
+    let mut met = Vec::new(alloc);
+    world.hits(&Query::Region(unit(0, 0)?), 1, &mut met)?;
+    let found = met.len() == 2 && met[0] == first && met[1] == second;
+    Ok(
+        world.structure() == structure
+            && began == 1
+            && joined == 2
+            && marked
+            && parted == 0
+            && went
+            && world.pairs().len() == 2
+            && world.len() == 3
+            && world.frames() == 2
+            && found
+            && counted,
+    )
+}
+
+#[test]
+fn each_structure_plays_a_scene_alike(rt: HostRuntime) -> Result<(), Fail> {
+    assert!(rt; plays_a_scene(rt.alloc(), Structure::Plain)?);
+    assert!(rt; plays_a_scene(rt.alloc(), Structure::Sap)?);
+    assert!(rt; plays_a_scene(rt.alloc(), Structure::Tree)?);
+    assert!(rt; plays_a_scene(rt.alloc(), Structure::Grid)?);
     Ok(())
 }
