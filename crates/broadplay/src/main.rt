@@ -1,25 +1,28 @@
-//! Plays text scenes of boxes through a broad phase, from standard input to standard output, and makes such scenes to
-//! compare structures, machines and versions by.
+//! Plays text scenes of boxes through a broad phase, from standard input to standard output, makes such scenes to compare
+//! structures, machines and versions by, and writes scenes as scenes of version 2.
 #![tactic(auto)]
 
 use frame_player::Status;
 pub use job_runs::broadplay;
 pub use job_words::{Job, Structure, Task, read_words};
 pub use made_scene::drill_scene;
+use pair_report::put_refused;
 use play_io::{FileSink, FileSource};
 use std::env;
 use std::process::ExitCode;
 use std::rt::Env;
 
 const USAGE: &str =
-    "usage: broadplay play or drill SEED BOXES FRAMES, then --with plain, sap, tree or grid, --workers N, --exchanges";
+    "usage: broadplay upgrade, or play or drill SEED BOXES FRAMES, then --with plain, sap, tree or grid, --workers N, --exchanges";
 
 fn main(rt: HostRuntime) -> ExitCode {
     let status = match words_of(&rt) {
         Ok(words) => {
             let mut source = FileSource::new(rt.stdin());
             let mut sink = FileSink::new(rt.stdout());
-            broadplay(&rt, rt.alloc(), &words, &mut source, &mut sink)
+            let status = broadplay(&rt, rt.alloc(), &words, &mut source, &mut sink);
+            tell_refused(&rt, &words, status);
+            status
         }
         Err(status) => status,
     };
@@ -41,7 +44,7 @@ fn words_of(rt: &(impl Env + AllocGlobal)) -> Result<Vec<String>, Status> {
     Ok(words)
 }
 
-// Says on standard error why nothing, or not all, was played. A refusal is the report's last line.
+// Says on standard error why nothing, or not all, was done. A refused play says so in its report's last line.
 fn tell(rt: &impl Eprint, status: Status) {
     let text = match status {
         Status::Done | Status::Refused { .. } => return,
@@ -52,6 +55,29 @@ fn tell(rt: &impl Eprint, status: Status) {
     };
     // There is nowhere left to say that this failed.
     let _ = eprintln!(rt; "{text}");
+}
+
+// Says on standard error which line of a scene couldn't be upgraded, as the last line of a report has it. What is written is a scene,
+// and has no such line.
+fn tell_refused(rt: &(impl Eprint + AllocGlobal), words: &[String], status: Status) {
+    let Status::Refused { line, cause } = status else {
+        return;
+    };
+    let Some(
+        Job {
+            task: Task::Upgrade,
+            ..
+        },
+    ) = read_words(words)
+    else {
+        return;
+    };
+    let mut text = Vec::new(rt.alloc());
+    if put_refused(line, cause, &mut text).is_ok() {
+        if let Ok(text) = str::from_utf8(&text) {
+            let _ = eprint!(rt; "{text}");
+        }
+    }
 }
 
 fn exit_code(status: Status) -> u8 {

@@ -4,9 +4,10 @@ use Rattle.play_rules.specs.declared.status.Status.TheVariants.{NoMemory}
 use Rattle.play_rules.specs.Outcome.{Ends}
 use Rattle.play_rules.specs.OutcomeLaws.{append_known-nil, uncalled_ends}
 use Rattle.play_rules.specs.Play.{played}
+use Rattle.play_rules.specs.Upgrade.{upgraded}
 use Rattle.scene_lines.specs.declared.TheConstants.{MOST_LINES}
 use Rattle.job_words.specs.declared.job.Task.{Task}
-use Rattle.job_words.specs.declared.job.Task.TheVariants.{Play, Drill}
+use Rattle.job_words.specs.declared.job.Task.TheVariants.{Play, Drill, Upgrade}
 use Rattle.job_runs.specs.JobOutcome.{IsTaskDone}
 
 pub uncalled_task : (task : Task) (shows : Bool) (here : Ends) → IsTaskDone task shows here here NoMemory
@@ -16,3 +17,4 @@ uncalled_task (Drill seed boxes frames) shows here = record {
   left = refl;
   unread = refl;
 }
+uncalled_task Upgrade shows here = record { outcome = uncalled_ends (upgraded MOST_LINES) here; alike = λ done. absurd (cc) }

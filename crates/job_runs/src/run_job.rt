@@ -8,7 +8,7 @@ ghost use Rattle.job_runs.specs.JobOutcome.{IsJobDone, IsTaskDone, is_drill, rea
 
 use box_tree::BoxTree;
 use broad_index::{NoGate, PlainIndex};
-use frame_player::{Limits, Status, play};
+use frame_player::{Limits, Status, play, upgrade};
 use hier_grid::HierGrid;
 use job_words::{Job, Structure, Task, read_words};
 use named_index::Named;
@@ -19,8 +19,8 @@ use std::alloc::Global;
 use std::thread::Threads;
 use sweep_prune::Sap;
 
-/// Does what a command line asks for: plays the scene that a source has left, and writes its report, or makes a scene,
-/// plays it, and writes a summary of its report.
+/// Does what a command line asks for: plays the scene that a source has left, and writes its report; makes a scene,
+/// plays it, and writes a summary of its report; or writes the scene that a source has left as one of version 2.
 ///
 /// The report tells at each frame exactly the pairs of live boxes that meet and may, with what began, stayed and is
 /// over since the last frame, and for each query exactly the boxes that meet it. Which report that is, is a function of
@@ -29,7 +29,7 @@ use sweep_prune::Sap;
 /// the sink fails.
 ///
 /// A drill reads nothing, and is never refused: its summary is a function of its seed and its numbers of boxes and
-/// frames alone.
+/// frames alone. What an upgrade writes has the report of the scene that it was given.
 pub fn broadplay<R: Threads + Sync, S: Source, K: Sink>(
     rt: &R,
     alloc: Global,
@@ -84,12 +84,12 @@ fn run_over<R: Threads + Sync, B: Named, S: Source, K: Sink>(
     ensures uncalled { K.faults sink.old ≡ 0 → K.since sink.new ≡ K.since sink.old }
     ensures never_usage { result ≢ Usage }
 {
-    let Ok(index) = B::made(alloc) else {
-        return Status::NoMemory;
-    };
+    let limits = Limits { lines: MOST_LINES };
     match job.task {
         Task::Play => {
-            let limits = Limits { lines: MOST_LINES };
+            let Ok(index) = B::made(alloc) else {
+                return Status::NoMemory;
+            };
             play(rt, alloc, index, job.options, limits, &NoGate, source, sink)
         }
         Task::Drill {
@@ -97,6 +97,9 @@ fn run_over<R: Threads + Sync, B: Named, S: Source, K: Sink>(
             boxes,
             frames,
         } => {
+            let Ok(index) = B::made(alloc) else {
+                return Status::NoMemory;
+            };
             let load = Load {
                 seed,
                 boxes,
@@ -104,5 +107,6 @@ fn run_over<R: Threads + Sync, B: Named, S: Source, K: Sink>(
             };
             drill(rt, alloc, index, load, job.options, &NoGate, sink)
         }
+        Task::Upgrade => upgrade(alloc, limits, source, sink),
     }
 }

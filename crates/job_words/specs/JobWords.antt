@@ -9,7 +9,7 @@ use Rattle.named_index.specs.Structures.{counts}
 use Rattle.job_words.specs.declared.job.Choices.{Choices}
 use Rattle.job_words.specs.declared.job.Job.{Job}
 use Rattle.job_words.specs.declared.job.Task.{Task}
-use Rattle.job_words.specs.declared.job.Task.TheVariants.{Play, Drill}
+use Rattle.job_words.specs.declared.job.Task.TheVariants.{Play, Drill, Upgrade}
 
 -- a structure by its word
 abbrev pub structure_of : List ℕ → Option Structure
@@ -84,6 +84,7 @@ with_options task more = then_job task (choices_of no_choices more)
 -- a load that can be made
 abbrev pub IsLoad : Task → Type 0
 IsLoad Play = Unit {0}
+IsLoad Upgrade = Unit {0}
 IsLoad (Drill seed boxes frames) = (1 ≤ boxes) × (boxes ≤ 8192) × (1 ≤ frames) × (frames ≤ 100)
 
 -- the load of a drill: a seed of one to twenty digits within 64 bits, one to four digits of 1 to 8,192 boxes, one to three digits of 1
@@ -106,10 +107,16 @@ drill_job (seed ∷ []) = None
 drill_job (seed ∷ boxes ∷ []) = None
 drill_job (seed ∷ boxes ∷ frames ∷ more) = then_options (drill_of seed boxes frames) more
 
+-- an upgrade has no options
+abbrev pub upgrade_job : List (List ℕ) → Option Job
+upgrade_job [] = job_of Upgrade no_choices
+upgrade_job (word ∷ more) = None
+
 -- The word `play` and its options are the job to play a scene; the word `drill`, three numbers and options are the job to make and play
--- one. No other list of words has a meaning.
+-- one; the word `upgrade` alone is the job to write a scene as one of version 2. No other list of words has a meaning.
 abbrev pub job : List (List ℕ) → Option Job
 job [] = None
 job (word ∷ more) =
     if bytes_eq word (codes "play") then with_options Play more
-    else (if bytes_eq word (codes "drill") then drill_job more else None)
+    else (if bytes_eq word (codes "drill") then drill_job more
+    else (if bytes_eq word (codes "upgrade") then upgrade_job more else None))

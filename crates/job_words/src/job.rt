@@ -1,6 +1,6 @@
 ghost use Rattle.std.specs.Prelude.{◌≡◌, ◌≤◌, true, map, string_bytes, IfSome};
 ghost use Rattle.work_pieces.specs.declared.TheConstants.{MOST_WORKERS};
-ghost use Rattle.job_words.specs.JobWords.{job, drill_job, drill_of, with_options, job_of, IsLoad};
+ghost use Rattle.job_words.specs.JobWords.{job, drill_job, drill_of, upgrade_job, with_options, job_of, IsLoad};
 ghost use Rattle.job_words.specs.JobWords.{choices_of, choose, choose_exchanges, no_choices, structure_of, workers_of, number_within};
 ghost use Rattle.named_index.specs.Structures.{counts};
 
@@ -18,6 +18,8 @@ pub enum Task {
     Play,
     /// Make a scene of 1 to `SLOTS` boxes and 1 to `MOST_FRAMES` frames, play it, and write a summary.
     Drill { seed: u64, boxes: u32, frames: u32 },
+    /// Write the scene on standard input as a scene of version 2. It has no options.
+    Upgrade,
 }
 
 /// What a command line asks for.
@@ -50,7 +52,30 @@ pub fn read_words(words: &[String]) -> Option<Job>
     if word.as_str() == "drill" {
         return drill_job(more);
     }
+    if word.as_str() == "upgrade" {
+        return upgrade_job(more);
+    }
     None
+}
+
+// An upgrade, which has no options.
+fn upgrade_job(words: &[String]) -> Option<Job>
+    ensures job { result ≡ upgrade_job (map string_bytes words.now) }
+    ensures workers { IfSome result (λ j. (1 ≤ j.options.workers) × (j.options.workers ≤ MOST_WORKERS)) }
+    ensures counted { IfSome result (λ j. j.options.exchanges ≡ true → counts j.structure ≡ true) }
+    ensures loads { IfSome result (λ j. IsLoad j.task) }
+{
+    if !words.is_empty() {
+        return None;
+    }
+    job_of(
+        Task::Upgrade,
+        Choices {
+            structure: None,
+            workers: None,
+            exchanges: false,
+        },
+    )
 }
 
 // The three numbers of a drill, and its options.
