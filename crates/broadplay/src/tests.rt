@@ -93,7 +93,23 @@ fn written_by_threads<R: Threads + Sync + Abort>(
     )
 }
 
-// What each structure writes for a scene, with one thread, and the tree and the grid with several.
+// What a structure writes for a scene, with so many workers each.
+fn written_over<R: Threads + Sync + Abort>(
+    rt: &R,
+    alloc: Global,
+    structure: &str,
+    scene: &[u8],
+    report: &[u8],
+    status: Status,
+) -> Result<(), Fail> {
+    for workers in ["1", "4", "16"] {
+        let words = ["play", "--with", structure, "--workers", workers];
+        written(rt, alloc, &words, scene, report, status)?;
+    }
+    Ok(())
+}
+
+// What each structure writes for a scene, and the tree and the grid where several threads search whatever there is.
 fn written_by_all<R: Threads + Sync + Abort>(
     rt: &R,
     alloc: Global,
@@ -101,14 +117,8 @@ fn written_by_all<R: Threads + Sync + Abort>(
     report: &[u8],
     status: Status,
 ) -> Result<(), Fail> {
-    let words: [&[&str]; 4] = [
-        &["play"],
-        &["play", "--workers", "16", "--with", "plain"],
-        &["play", "--with", "tree"],
-        &["play", "--with", "grid"],
-    ];
-    for list in words {
-        written(rt, alloc, list, scene, report, status)?;
+    for structure in ["plain", "sap", "tree", "grid"] {
+        written_over(rt, alloc, structure, scene, report, status)?;
     }
     written_by_threads(rt, alloc, scene, report, status)
 }
@@ -216,6 +226,70 @@ fn scenes_give_their_reports(rt: HostRuntime) -> Result<(), Fail> {
             b"add 0:0\nadd 1:0\nframe 1 1\nbegin 0:0 1:0\nend 5 1 2\n",
             Status::Done,
         ),
+        (
+            b"scene 3\nframe\n",
+            b"refused 1 header\n",
+            refused(1, Cause::Header),
+        ),
+        (
+            b"scene 02\nframe\n",
+            b"refused 1 header\n",
+            refused(1, Cause::Header),
+        ),
+        (
+            b"scene 2\nadd 0 0 0 1 1 1 owner 5\nadd 0 0 0 1 1 1 owner 5\nadd 0 0 0 1 1 1 fixed\nadd 0 0 0 1 1 1 owner 0 fixed\n\
+                frame\n",
+            b"add 0:0\nadd 1:0\nadd 2:0\nadd 3:0\nframe 1 4\nbegin 0:0 2:0\nbegin 0:0 3:0\nbegin 1:0 2:0\nbegin 1:0 3:0\nend 6 1 4\n",
+            Status::Done,
+        ),
+        (
+            b"scene 2\nadd 5 0 0 6 1 1\nadd 2 0 0 3 1 1\nadd 2 0 0 9 1 1\nray 0 0.5 0.5 1 0 0\nray 0 0.5 0.5 1 0 0 entry\n\
+                ray 2.5 0.5 0.5 1 0 0 1 entry\n",
+            b"add 0:0\nadd 1:0\nadd 2:0\nray 3 0:0 1:0 2:0\nray 3 1:0 2:0 0:0\nray 3 1:0 2:0 0:0\nend 7 0 3\n",
+            Status::Done,
+        ),
+        (
+            b"scene 2\nadd 10 0 0 11 1 1\nadd 5 0 0 6 1 1\ncast 0 0 0 1 1 1 20 0 0\ncast 0 0 0 1 1 1 3.99998 0 0\n\
+                cast 0 0 0 1 1 1 4 0 0\n",
+            b"add 0:0\nadd 1:0\ncast 2 1:0 0:0\ncast 0\ncast 1 1:0\nend 6 0 2\n",
+            Status::Done,
+        ),
+        (
+            b"scene 2\nadd 32767 0 0 32767 0 0\ncast 32000 0 0 32000 0 0 32767 0 0\ncast 0 0 0 0 0 0 -32768 0 0\n",
+            b"add 0:0\ncast 1 0:0\ncast 0\nend 4 0 1\n",
+            Status::Done,
+        ),
+        (
+            b"scene 2\nadd 0 0 0 1 1 1\nadd 3 0 0 4 1 1\nadd -3 0 0 -2 1 1\nnear 0.5 0.5 0.5 2\nnear 0.5 0.5 0.5 8192\n\
+                near 0.5 0.5 0.5 3 2\n",
+            b"add 0:0\nadd 1:0\nadd 2:0\nnear 2 0:0 1:0\nnear 3 0:0 1:0 2:0\nnear 0\nend 7 0 3\n",
+            Status::Done,
+        ),
+        (
+            b"scene 2\nadd 32767.99999 -32766 -32768 32767.99999 -32766 -32768\nadd -32768 -32768 -32766 -32768 -32768 -32766\n\
+                near -32768 -32768 -32768 1\n",
+            b"add 0:0\nadd 1:0\nnear 1 1:0\nend 4 0 2\n",
+            Status::Done,
+        ),
+        (
+            b"scene 2\nadd 0 0 0 1 1 1\nadd 1 0 0 2 1 1\nframe\nmark\nremove 0:0\nadd 5 5 5 6 6 6\nframe\nback\nframe\nback\n",
+            b"add 0:0\nadd 1:0\nframe 1 1\nbegin 0:0 1:0\nmark 1\nadd 0:1\nframe 2 0\nover 0:0 1:0\nback 0\nframe 2 1\n\
+                stay 0:0 1:0\nnomark 0\nend 11 2 2\n",
+            Status::Done,
+        ),
+        (
+            b"scene 2\nmark\nmark\nmark\nmark\nmark\nmark\nmark\nmark\nmark\nmark\nmark\nmark\nmark\nmark\nmark\nmark\nmark\nmark\n\
+                mark\nmark\nmark\nmark\nmark\nmark\nmark\nmark\nmark\nmark\nmark\nmark\nmark\nmark\nmark\nmark\nmark\nmark\nmark\n\
+                mark\nmark\nmark\nmark\nmark\nmark\nmark\nmark\nmark\nmark\nmark\nmark\nmark\nmark\nmark\nmark\nmark\nmark\nmark\n\
+                mark\nmark\nmark\nmark\nmark\nmark\nmark\nmark\nmark\n",
+            b"mark 1\nmark 2\nmark 3\nmark 4\nmark 5\nmark 6\nmark 7\nmark 8\nmark 9\nmark 10\nmark 11\nmark 12\nmark 13\nmark 14\n\
+                mark 15\nmark 16\nmark 17\nmark 18\nmark 19\nmark 20\nmark 21\nmark 22\nmark 23\nmark 24\nmark 25\nmark 26\nmark 27\n\
+                mark 28\nmark 29\nmark 30\nmark 31\nmark 32\nmark 33\nmark 34\nmark 35\nmark 36\nmark 37\nmark 38\nmark 39\nmark 40\n\
+                mark 41\nmark 42\nmark 43\nmark 44\nmark 45\nmark 46\nmark 47\nmark 48\nmark 49\nmark 50\nmark 51\nmark 52\nmark 53\n\
+                mark 54\nmark 55\nmark 56\nmark 57\nmark 58\nmark 59\nmark 60\nmark 61\nmark 62\nmark 63\nmark 64\nnomark 64\n\
+                end 66 0 0\n",
+            Status::Done,
+        ),
     ];
     for (scene, report, status) in rows {
         written_by_all(&rt, rt.alloc(), scene, report, status)?;
@@ -226,21 +300,62 @@ fn scenes_give_their_reports(rt: HostRuntime) -> Result<(), Fail> {
 #[test]
 fn bad_lines_are_refused(rt: HostRuntime) -> Result<(), Fail> {
     let rows = [
-        ("scene 1", "header", Cause::Header),
-        ("mov 0:0", "word", Cause::Word),
-        ("frame 1", "count", Cause::Count),
-        ("add 1 0 0 0 1", "count", Cause::Count),
-        ("move 0-0 x 0 0 1 1 1", "handle", Cause::Handle),
-        ("remove 4294967296:0", "handle", Cause::Handle),
-        ("add x 99999 0 1 1 1", "number", Cause::Number),
-        ("add 99999 x 0 1 1 1", "range", Cause::Range),
-        ("mask 0:0 g 1", "mask", Cause::Mask),
-        ("add 1 0 0 0 1 1 123456789", "mask", Cause::Mask),
-        ("move 0:0 1 0 0 0 1 1", "inverted", Cause::Inverted),
+        ("scene 1", "scene 1", "header", Cause::Header),
+        ("scene 1", "mov 0:0", "word", Cause::Word),
+        ("scene 1", "frame 1", "count", Cause::Count),
+        ("scene 1", "add 1 0 0 0 1", "count", Cause::Count),
+        ("scene 1", "move 0-0 x 0 0 1 1 1", "handle", Cause::Handle),
+        ("scene 1", "remove 4294967296:0", "handle", Cause::Handle),
+        ("scene 1", "add x 99999 0 1 1 1", "number", Cause::Number),
+        ("scene 1", "add 99999 x 0 1 1 1", "range", Cause::Range),
+        ("scene 1", "mask 0:0 g 1", "mask", Cause::Mask),
+        ("scene 1", "add 1 0 0 0 1 1 123456789", "mask", Cause::Mask),
+        (
+            "scene 1",
+            "move 0:0 1 0 0 0 1 1",
+            "inverted",
+            Cause::Inverted,
+        ),
+        ("scene 1", "add 0 0 0 1 1 1 fixed", "mask", Cause::Mask),
+        ("scene 1", "ray 0 0 0 1 0 0 entry", "mask", Cause::Mask),
+        ("scene 1", "cast 0 0 0 1 1 1 0 0 0", "word", Cause::Word),
+        ("scene 1", "near 0 0 0 1", "word", Cause::Word),
+        ("scene 1", "mark", "word", Cause::Word),
+        ("scene 1", "back", "word", Cause::Word),
+        ("scene 2", "scene 2", "header", Cause::Header),
+        ("scene 2", "add 0 0 0 1 1 1 owner x", "owner", Cause::Owner),
+        (
+            "scene 2",
+            "add 0 0 0 1 1 1 owner 4294967296",
+            "owner",
+            Cause::Owner,
+        ),
+        (
+            "scene 2",
+            "add 0 0 0 1 1 1 fixed owner 5",
+            "mask",
+            Cause::Mask,
+        ),
+        (
+            "scene 2",
+            "add 0 0 0 1 1 1 owner 5 fixed fixed",
+            "count",
+            Cause::Count,
+        ),
+        (
+            "scene 2",
+            "cast 1 0 0 0 1 1 0 0 0",
+            "inverted",
+            Cause::Inverted,
+        ),
+        ("scene 2", "near 0 0 0 0", "range", Cause::Range),
+        ("scene 2", "near 0 0 0 9000", "range", Cause::Range),
+        ("scene 2", "near 0 0 0 x", "number", Cause::Number),
+        ("scene 2", "near 0 0 0 12345", "number", Cause::Number),
     ];
-    for (line, word, cause) in rows {
-        let mut scene = String::from_str(rt.alloc(), "scene 1\n")?;
-        writeln!(scene, "{line}")?;
+    for (header, line, word, cause) in rows {
+        let mut scene = String::new(rt.alloc());
+        writeln!(scene, "{header}\n{line}")?;
         let mut report = String::new(rt.alloc());
         writeln!(report, "refused 2 {word}")?;
         let status = refused(2, cause);
@@ -388,6 +503,16 @@ fn exchanges_are_told_at_each_frame(rt: HostRuntime) -> Result<(), Fail> {
             list,
             b"scene 1\nadd 0 0 0 1 1 1\nadd 1 0 0 2 1 1\nframe\nmove 0:0 3 0 0 4 1 1\nframe\n",
             b"add 0:0\nadd 1:0\nframe 1 1\nbegin 0:0 1:0\nexchanges 3\nframe 2 0\nover 0:0 1:0\nexchanges 3\nend 6 2 2\n",
+            Status::Done,
+        )?;
+        // A way back brings the number at its mark again.
+        written(
+            &rt,
+            rt.alloc(),
+            list,
+            b"scene 2\nadd 0 0 0 1 1 1\nadd 1 0 0 2 1 1\nframe\nmark\nremove 0:0\nadd 5 5 5 6 6 6\nframe\nback\nframe\nback\n",
+            b"add 0:0\nadd 1:0\nframe 1 1\nbegin 0:0 1:0\nexchanges 3\nmark 1\nadd 0:1\nframe 2 0\nover 0:0 1:0\nexchanges 0\n\
+                back 0\nframe 2 1\nstay 0:0 1:0\nexchanges 0\nnomark 0\nend 11 2 2\n",
             Status::Done,
         )?;
     }
@@ -707,6 +832,12 @@ const LEVEL: &[u8] =
     add 2.5 1 2.5 3.5 2 3.5 2 7\nadd 10 0.5 10 10.8 2.3 10.8 4 3\nframe\nmove 3:0 3 0.5 3 3.8 2.3 3.8\n\
     ray 0 1.5 3 1 0 0 4\nframe\nremove 2:0\nframe\n";
 
+// Each command of version 2, and a way back behind a change of each kind.
+const MARKED: &[u8] =
+    b"scene 2\nadd 0 -1 0 8 0 8 1 6 fixed\nadd 2 0 2 3 1 3 2 7 owner 5\nadd 2.5 1 2.5 3.5 2 3.5 2 7 owner 5\nframe\nmark\n\
+    move 1:0 3 0 2 4 1 3\nmask 2:0 2 4\nremove 2:0\nadd 1 0 2 2 1 3 2\nframe\nbox 0 0 0 8 2 8\npoint 3 0 2 2\n\
+    ray 0 0.5 2.5 1 0 0 entry\nseg 0 0.5 2.5 8 0.5 2.5\ncast 0 0 2 1 1 3 8 0 0 2\nnear 4 4 4 2 2\nback\nframe\nback\n";
+
 // What is written of a scene that is read to its end.
 fn report_of<R: Threads + Sync + Abort>(
     rt: &R,
@@ -753,16 +884,17 @@ fn lines_before(bytes: &[u8], but: usize) -> &[u8] {
     rest
 }
 
-// The level where the read of such a number fails. A play knows no structure, so that one stands for all.
+// A scene where the read of such a number fails. A play knows no structure, so that one stands for all.
 fn read_fails<R: Threads + Sync + Abort>(
     rt: &R,
     alloc: Global,
     words: &[String],
+    scene: &[u8],
     k: u32,
 ) -> Result<(), Fail> {
-    let taken = LEVEL.split_at((k as usize).min(LEVEL.len())).0;
+    let taken = scene.split_at((k as usize).min(scene.len())).0;
     let report = report_for(rt, alloc, words, lines_before(taken, 0))?;
-    let done = read_fails_after(rt, alloc, words, k, lines_before(&report, 1));
+    let done = read_fails_after(rt, alloc, words, scene, k, lines_before(&report, 1));
     drop(report);
     done
 }
@@ -771,10 +903,11 @@ fn read_fails_after<R: Threads + Sync + Abort>(
     rt: &R,
     alloc: Global,
     words: &[String],
+    scene: &[u8],
     k: u32,
     report: &[u8],
 ) -> Result<(), Fail> {
-    let mut source = MemSource::new(alloc, LEVEL, 1, &[k])?;
+    let mut source = MemSource::new(alloc, scene, 1, &[k])?;
     let mut sink = MemSink::new(alloc, 1024, &[])?;
     let answer = broadplay(rt, alloc, words, &mut source, &mut sink);
     same_status(rt, answer, Status::ReadFault);
@@ -783,34 +916,44 @@ fn read_fails_after<R: Threads + Sync + Abort>(
     Ok(())
 }
 
+// Each byte is a read of its own, and one more finds the end.
 fn each_read_fails<R: Threads + Sync + Abort>(
     rt: &R,
     alloc: Global,
     words: &[String],
+    scene: &[u8],
 ) -> Result<(), Fail> {
-    for k in 0..LEVEL.len() + 1 {
-        read_fails(rt, alloc, words, k as u32)?;
+    // The scene is shorter than so many bytes.
+    for k in 0..1_000 {
+        if k as usize > scene.len() {
+            return Ok(());
+        }
+        read_fails(rt, alloc, words, scene, k)?;
     }
-    Ok(())
+    Err("a scene without a fault".into())
 }
 
 #[test]
 fn each_read_that_fails_ends_a_play(rt: HostRuntime) -> Result<(), Fail> {
-    let list = list_of(rt.alloc(), &["play", "--with", "tree"])?;
-    let done = each_read_fails(&rt, rt.alloc(), &list);
-    drop(list);
-    done
+    for scene in [LEVEL, MARKED] {
+        let list = list_of(rt.alloc(), &["play", "--with", "tree"])?;
+        let done = each_read_fails(&rt, rt.alloc(), &list, scene);
+        drop(list);
+        done?;
+    }
+    Ok(())
 }
 
-// The level where the call of the sink of such a number fails, and whether the play came to its end.
+// A scene where the call of the sink of such a number fails, and whether the play came to its end.
 fn write_fails<R: Threads + Sync + Abort>(
     rt: &R,
     alloc: Global,
     words: &[String],
+    scene: &[u8],
     report: &[u8],
     k: u32,
 ) -> Result<bool, Fail> {
-    let mut source = HonestSource::new(alloc, LEVEL, 1024)?;
+    let mut source = HonestSource::new(alloc, scene, 1024)?;
     let mut sink = MemSink::new(alloc, 1, &[k])?;
     let answer = broadplay(rt, alloc, words, &mut source, &mut sink);
     let written = (k as usize).min(report.len());
@@ -828,11 +971,12 @@ fn each_write_fails<R: Threads + Sync + Abort>(
     rt: &R,
     alloc: Global,
     words: &[String],
+    scene: &[u8],
     report: &[u8],
 ) -> Result<(), Fail> {
     // The report is shorter than so many bytes, each of which is a write of its own before the flush.
     for k in 0..1_000 {
-        if write_fails(rt, alloc, words, report, k)? {
+        if write_fails(rt, alloc, words, scene, report, k)? {
             assert_eq!(rt; k as usize, report.len() + 1);
             return Ok(());
         }
@@ -844,19 +988,23 @@ fn each_write_fails_in_turn<R: Threads + Sync + Abort>(
     rt: &R,
     alloc: Global,
     words: &[String],
+    scene: &[u8],
 ) -> Result<(), Fail> {
-    let report = report_for(rt, alloc, words, LEVEL)?;
-    let done = each_write_fails(rt, alloc, words, &report);
+    let report = report_for(rt, alloc, words, scene)?;
+    let done = each_write_fails(rt, alloc, words, scene, &report);
     drop(report);
     done
 }
 
 #[test]
 fn each_write_that_fails_ends_a_play(rt: HostRuntime) -> Result<(), Fail> {
-    let list = list_of(rt.alloc(), &["play", "--with", "tree"])?;
-    let done = each_write_fails_in_turn(&rt, rt.alloc(), &list);
-    drop(list);
-    done
+    for scene in [LEVEL, MARKED] {
+        let list = list_of(rt.alloc(), &["play", "--with", "tree"])?;
+        let done = each_write_fails_in_turn(&rt, rt.alloc(), &list, scene);
+        drop(list);
+        done?;
+    }
+    Ok(())
 }
 
 // A read fails while answers are owed, and the sink fails on them.

@@ -46,11 +46,57 @@ const REPORT: &[u8] = b"add 0:0\n\
     over 2:0 3:0\n\
     end 12 3 3\n";
 
-// What a play of the level answers, with what it writes, where memory runs out in such a call of its index.
-fn level_without_memory<R: Threads + Sync>(
+// Each command of version 2, and a way back behind a change of each kind. Memory can run out in four adds, a move, three frames,
+// four queries, the search of a cast, one search or more for the nearest boxes, and two of the changes that are undone.
+const MARKED: &[u8] = b"scene 2\n\
+    add 0 -1 0 8 0 8 1 6 fixed\n\
+    add 2 0 2 3 1 3 2 7 owner 5\n\
+    add 2.5 1 2.5 3.5 2 3.5 2 7 owner 5\n\
+    frame\n\
+    mark\n\
+    move 1:0 3 0 2 4 1 3\n\
+    mask 2:0 2 4\n\
+    remove 2:0\n\
+    add 1 0 2 2 1 3 2\n\
+    frame\n\
+    box 0 0 0 8 2 8\n\
+    point 3 0 2 2\n\
+    ray 0 0.5 2.5 1 0 0 entry\n\
+    seg 0 0.5 2.5 8 0.5 2.5\n\
+    cast 0 0 2 1 1 3 8 0 0 2\n\
+    near 4 4 4 2 2\n\
+    back\n\
+    frame\n\
+    back\n";
+
+const MARKED_REPORT: &[u8] = b"add 0:0\n\
+    add 1:0\n\
+    add 2:0\n\
+    frame 1 1\n\
+    begin 0:0 1:0\n\
+    mark 1\n\
+    add 2:1\n\
+    frame 2 2\n\
+    stay 0:0 1:0\n\
+    begin 0:0 2:1\n\
+    box 3 0:0 1:0 2:1\n\
+    point 1 1:0\n\
+    ray 2 2:1 1:0\n\
+    seg 2 1:0 2:1\n\
+    cast 2 2:1 1:0\n\
+    near 2 1:0 2:1\n\
+    back 0\n\
+    frame 2 1\n\
+    stay 0:0 1:0\n\
+    nomark 0\n\
+    end 20 2 3\n";
+
+// What a play of a scene answers, with what it writes, where memory runs out in such a call of its index.
+fn played_without_memory<R: Threads + Sync>(
     rt: &R,
     alloc: Global,
     workers: u32,
+    scene: &[u8],
     failing: u32,
 ) -> Result<(Status, Vec<u8>), Fail>
     requires { (1 ≤ workers) × (workers ≤ MOST_WORKERS) }
@@ -60,8 +106,8 @@ fn level_without_memory<R: Threads + Sync>(
         workers,
         exchanges: false,
     };
-    let limits = Limits { lines: 20 };
-    let mut source = HonestSource::new(alloc, LEVEL, 1024)?;
+    let limits = Limits { lines: 40 };
+    let mut source = HonestSource::new(alloc, scene, 1024)?;
     let mut sink = HonestSink::new(alloc, 1024);
     let answer = play(
         rt,
@@ -76,29 +122,34 @@ fn level_without_memory<R: Threads + Sync>(
     Ok((answer, Vec::from_slice(alloc, sink.bytes())?))
 }
 
-// Memory runs out in each call of the index in turn, until it runs out in none.
+// Memory runs out in each call of the index in turn, until it runs out in none, which are at least so many.
 fn each_call_without_memory<R: Threads + Sync + Abort>(
     rt: &R,
     alloc: Global,
     workers: u32,
+    scene: &[u8],
+    report: &[u8],
+    calls: u32,
 ) -> Result<(), Fail>
     requires { (1 ≤ workers) × (workers ≤ MOST_WORKERS) }
 {
     for failing in 0..100 {
-        let (answer, text) = level_without_memory(rt, alloc, workers, failing)?;
+        let (answer, text) = played_without_memory(rt, alloc, workers, scene, failing)?;
         if answer == Status::Done {
-            assert_eq!(rt; text.as_slice(), REPORT);
-            assert!(rt; failing >= 9);
+            assert_eq!(rt; text.as_slice(), report);
+            assert!(rt; failing >= calls);
             return Ok(());
         }
         assert_eq!(rt; answer, Status::NoMemory);
-        assert!(rt; REPORT.starts_with(&text));
+        assert!(rt; report.starts_with(&text));
     }
     Err("a play with memory enough".into())
 }
 
 #[test]
 fn want_of_memory_in_an_index_ends_a_play(rt: HostRuntime) -> Result<(), Fail> {
-    each_call_without_memory(&rt, rt.alloc(), 1)?;
-    each_call_without_memory(&rt, rt.alloc(), 4)
+    each_call_without_memory(&rt, rt.alloc(), 1, LEVEL, REPORT, 9)?;
+    each_call_without_memory(&rt, rt.alloc(), 4, LEVEL, REPORT, 9)?;
+    each_call_without_memory(&rt, rt.alloc(), 1, MARKED, MARKED_REPORT, 16)?;
+    each_call_without_memory(&rt, rt.alloc(), 4, MARKED, MARKED_REPORT, 16)
 }
