@@ -641,9 +641,42 @@ fn boxes_alike_pass_one_another(rt: HostRuntime) -> Result<(), Fail> {
     boxes_alike(&rt, rt.alloc(), &["play", "--exchanges"], &alike)
 }
 
+// Numbers, masks and ends of lines are written in one form, blank lines stay, and comments go. No box is kept, so none is too many.
+#[test]
+fn scenes_are_written_as_scenes_of_version_2(rt: HostRuntime) -> Result<(), Fail> {
+    let rows = [
+        (
+            b"scene 1\n\nadd 0 0 0 1 1 1 # a\r\nframe".as_slice(),
+            b"scene 2\n\nadd 0.00000 0.00000 0.00000 1.00000 1.00000 1.00000 1 ffffffff\nframe\n".as_slice(),
+            Status::Done,
+        ),
+        (
+            b"scene 1\nframe\nmov",
+            b"scene 2\nframe\n",
+            refused(3, Cause::Word),
+        ),
+        (b"", b"", refused(1, Cause::Header)),
+        (
+            b"scene 2\nadd 0 0 0 1 1 1 owner 5\nray 0 0 0 1 0 0 entry\ncast 0 0 0 1 1 1 -2 0 0 3\nnear 0 0 0 8\nmark\nback\n",
+            b"scene 2\nadd 0.00000 0.00000 0.00000 1.00000 1.00000 1.00000 1 ffffffff owner 5\n\
+            ray 0.00000 0.00000 0.00000 1.00000 0.00000 0.00000 ffffffff entry\n\
+            cast 0.00000 0.00000 0.00000 1.00000 1.00000 1.00000 -2.00000 0.00000 0.00000 3\n\
+            near 0.00000 0.00000 0.00000 8 ffffffff\nmark\nback\n",
+            Status::Done,
+        ),
+    ];
+    for (scene, upgraded, status) in rows {
+        written(&rt, rt.alloc(), UPGRADED, scene, upgraded, status)?;
+        if status == Status::Done {
+            written(&rt, rt.alloc(), UPGRADED, upgraded, upgraded, status)?;
+        }
+    }
+    Ok(())
+}
+
 #[test]
 fn other_command_lines_touch_nothing(rt: HostRuntime) -> Result<(), Fail> {
-    let rows: [&[&str]; 36] = [
+    let rows: [&[&str]; 39] = [
         &[],
         &["--help"],
         &["play", "play"],
@@ -680,6 +713,9 @@ fn other_command_lines_touch_nothing(rt: HostRuntime) -> Result<(), Fail> {
         &["drill", "1", "1", "1", "1"],
         &["drill", "--with", "tree", "1", "1", "1"],
         &["drill", "1", "1", "1", "--with", "grid", "--exchanges"],
+        &["upgrade", "--with", "tree"],
+        &["upgrade", "upgrade"],
+        &["play", "upgrade"],
     ];
     for words in rows {
         written(
@@ -826,6 +862,11 @@ fn a_slot_that_is_free_again_takes_the_next_box(rt: HostRuntime) -> Result<(), F
     crowd_written(&rt, rt.alloc(), 8192, later, Status::Done)
 }
 
+// Command lines.
+const PLAYED_BY_TREE: &[&str] = &["play", "--with", "tree"];
+
+const UPGRADED: &[&str] = &["upgrade"];
+
 // A level with a floor, two crates and a player, and what is reported of it.
 const LEVEL: &[u8] =
     b"scene 1\n# floor, two crates, a player\nadd -100 -1 -100 100 0 100 1 6\nadd 2 0 2 3 1 3 2 7\n\
@@ -891,10 +932,11 @@ fn read_fails<R: Threads + Sync + Abort>(
     words: &[String],
     scene: &[u8],
     k: u32,
+    last: usize,
 ) -> Result<(), Fail> {
     let taken = scene.split_at((k as usize).min(scene.len())).0;
     let report = report_for(rt, alloc, words, lines_before(taken, 0))?;
-    let done = read_fails_after(rt, alloc, words, scene, k, lines_before(&report, 1));
+    let done = read_fails_after(rt, alloc, words, scene, k, lines_before(&report, last));
     drop(report);
     done
 }
@@ -916,28 +958,34 @@ fn read_fails_after<R: Threads + Sync + Abort>(
     Ok(())
 }
 
-// Each byte is a read of its own, and one more finds the end.
+// Each byte is a read of its own, and one more finds the end. A report ends with one last line, and a scene with none.
 fn each_read_fails<R: Threads + Sync + Abort>(
     rt: &R,
     alloc: Global,
     words: &[String],
     scene: &[u8],
+    last: usize,
 ) -> Result<(), Fail> {
     // The scene is shorter than so many bytes.
     for k in 0..1_000 {
         if k as usize > scene.len() {
             return Ok(());
         }
-        read_fails(rt, alloc, words, scene, k)?;
+        read_fails(rt, alloc, words, scene, k, last)?;
     }
     Err("a scene without a fault".into())
 }
 
 #[test]
-fn each_read_that_fails_ends_a_play(rt: HostRuntime) -> Result<(), Fail> {
-    for scene in [LEVEL, MARKED] {
-        let list = list_of(rt.alloc(), &["play", "--with", "tree"])?;
-        let done = each_read_fails(&rt, rt.alloc(), &list, scene);
+fn each_read_that_fails_ends_a_job(rt: HostRuntime) -> Result<(), Fail> {
+    let rows = [
+        (PLAYED_BY_TREE, LEVEL, 1),
+        (PLAYED_BY_TREE, MARKED, 1),
+        (UPGRADED, LEVEL, 0),
+    ];
+    for (words, scene, last) in rows {
+        let list = list_of(rt.alloc(), words)?;
+        let done = each_read_fails(&rt, rt.alloc(), &list, scene, last);
         drop(list);
         done?;
     }
@@ -997,9 +1045,14 @@ fn each_write_fails_in_turn<R: Threads + Sync + Abort>(
 }
 
 #[test]
-fn each_write_that_fails_ends_a_play(rt: HostRuntime) -> Result<(), Fail> {
-    for scene in [LEVEL, MARKED] {
-        let list = list_of(rt.alloc(), &["play", "--with", "tree"])?;
+fn each_write_that_fails_ends_a_job(rt: HostRuntime) -> Result<(), Fail> {
+    let rows = [
+        (PLAYED_BY_TREE, LEVEL),
+        (PLAYED_BY_TREE, MARKED),
+        (UPGRADED, LEVEL),
+    ];
+    for (words, scene) in rows {
+        let list = list_of(rt.alloc(), words)?;
         let done = each_write_fails_in_turn(&rt, rt.alloc(), &list, scene);
         drop(list);
         done?;
