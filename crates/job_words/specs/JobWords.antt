@@ -1,5 +1,5 @@
 -- What a command line asks for.
-use Rattle.std.specs.Prelude.{ℕ, ◌≤◌, Bool, true, false, not, ◌&&◌, nat_le, List, [], ◌∷◌, codes, bytes_eq, if◌then◌else◌}
+use Rattle.std.specs.Prelude.{ℕ, ◌≤◌, true, false, not, ◌&&◌, nat_le, List, [], ◌∷◌, codes, bytes_eq, if◌then◌else◌}
 use Rattle.std.specs.Prelude.{is_some, unwrap_or, option_map, Option, Some, None}
 use Rattle.std.specs.Str.Parse.{digits_value}
 use Rattle.scene_words.specs.Values.{is_numeral}
