@@ -1,5 +1,5 @@
 -- What comes next of a scene's bytes.
-use Rattle.std.specs.Prelude.{◌≡◌, ℕ, ◌+◌, ◌≤◌, Bool, true, false, List, [], ◌∷◌, ◌++◌, length, take, Option, Result, Ok, Err}
+use Rattle.std.specs.Prelude.{◌≡◌, ℕ, ◌+◌, ◌≤◌, Bool, true, false, List, [], ◌∷◌, ◌++◌, length, take, Option, Some, None, Result, Ok, Err}
 use Rattle.std.specs.List.{count_by}
 use Rattle.pair_report.specs.declared.cause.Cause.{Cause}
 use Rattle.scene_lines.specs.declared.TheConstants.{LONGEST_LINE}
@@ -11,6 +11,11 @@ use Rattle.scene_steps.specs.declared.step.Step.{Step}
 use Rattle.scene_steps.specs.declared.step.Step.TheVariants as what
 use Rattle.play_rules.specs.Course.{within_limits}
 use Rattle.play_rules.specs.Readable.{readable, unless_full}
+
+-- a command that passes, or the cause why it doesn't
+abbrev pub passes_unless : Command → Option Cause → Result Command Cause
+passes_unless c None = Ok c
+passes_unless c (Some why) = Err why
 
 -- what line number n comes to, by what it says
 abbrev pub step_for : ℕ → Result Command Cause → Step

@@ -1,54 +1,49 @@
-ghost use Rattle.std.specs.Prelude.{◌≡◌, IfOk};
-ghost use Rattle.scene_words.specs.Ranges.{IsPrintable};
-ghost use Rattle.play_rules.specs.Readable.{allowed_first, allowed_later, cause_of, readable, unless_full};
+ghost use Rattle.std.specs.Prelude.{◌≡◌, Ok, Err};
+ghost use Rattle.play_rules.specs.Readable.{allowed_in, cause_of, reads_under, unless_full};
+ghost use Rattle.scene_steps.specs.Step.{passes_unless};
 
 use fixed_box::SLOTS;
 use pair_report::Cause;
-use scene_words::{Command, LineFault, Version, read_command};
+use scene_words::{Command, LineFault, Version};
 
-// What a line says under the version that a header named, or the first cause why it is refused, room for boxes aside.
-pub(crate) fn read_line(version: Option<Version>, line: &[u8]) -> Result<Command, Cause>
-    ensures readable { result ≡ readable version line.now }
-    ensures printable { IfOk result IsPrintable }
+// The version that a line is read under: that of the header, and before it version 1.
+#[inline(always)]
+pub(crate) fn reads_under(version: Option<Version>) -> Version
+    ensures { result ≡ reads_under version }
 {
     match version {
-        None => allow_first(read_command(Version::One, line)),
-        Some(version) => allow_later(read_command(version, line)),
+        None => Version::One,
+        Some(version) => version,
     }
 }
 
-// No box passes for which there is no slot, where so many are live.
-pub(crate) fn unless_full(live: u32, said: Result<Command, Cause>) -> Result<Command, Cause>
-    ensures full { result ≡ unless_full live said }
-    ensures printable { IfOk said IsPrintable → IfOk result IsPrintable }
+// Why a command doesn't pass where it stands: before a header only that and blank lines do, later no second header does, nor does
+// a box for which there is no slot, where so many are live. It looks at the command where it is, since a copy costs more than
+// the question.
+#[inline(always)]
+pub(crate) fn refusal(version: Option<Version>, live: u32, command: &Command) -> Option<Cause>
+    ensures { unless_full live (allowed_in version (Ok command.now)) ≡ passes_unless command.now result }
 {
-    match said {
-        Ok(Command::Add { .. }) if live >= SLOTS => Err(Cause::Full),
-        said => said,
+    match version {
+        None => match command {
+            Command::Blank | Command::Header { .. } => None,
+            _ => Some(Cause::Header),
+        },
+        Some(_) => match command {
+            Command::Header { .. } => Some(Cause::Header),
+            Command::Add { .. } if live >= SLOTS => Some(Cause::Full),
+            _ => None,
+        },
     }
 }
 
-// Before a header only that and blank lines pass.
-fn allow_first(said: Result<Command, LineFault>) -> Result<Command, Cause>
-    ensures allowed { result ≡ allowed_first said }
-    ensures printable { IfOk result IsPrintable }
+// The cause for which a line of a fault is refused: before a header that it is none.
+pub(crate) fn cause_for(version: Option<Version>, fault: LineFault) -> Cause
+    ensures { allowed_in version (Err fault) ≡ Err result }
 {
-    match said {
-        Ok(Command::Blank) => Ok(Command::Blank),
-        Ok(Command::Header { version }) => Ok(Command::Header { version }),
-        _ => Err(Cause::Header),
-    }
-}
-
-// Later no second header passes.
-fn allow_later(said: Result<Command, LineFault>) -> Result<Command, Cause>
-    ensures allowed { result ≡ allowed_later said }
-    ensures printable { IfOk said IsPrintable → IfOk result IsPrintable }
-{
-    match said {
-        Ok(Command::Header { .. }) => Err(Cause::Header),
-        Ok(command) => Ok(command),
-        Err(fault) => Err(cause_of(fault)),
+    match version {
+        None => Cause::Header,
+        Some(_) => cause_of(fault),
     }
 }
 

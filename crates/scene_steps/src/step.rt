@@ -6,11 +6,11 @@ ghost use Rattle.scene_words.specs.Ranges.{IsPrintable};
 ghost use Rattle.play_rules.specs.Readable.{allowed_in, unless_full};
 ghost use Rattle.scene_steps.specs.Step.{step_for, IsStepOf, IsPast, IsAhead, IfCommand, IfEnd, OnCommand, OnRefused, OnStop, OnReadFault, UnlessReadFault};
 
-use crate::allowed::{read_line, unless_full};
+use crate::allowed::{cause_for, reads_under, refusal};
 use pair_report::Cause;
 use play_io::Source;
 use scene_lines::{LineReader, Next, line_laws};
-use scene_words::{Command, Version};
+use scene_words::{Command, LineFault, Version, read_command};
 
 /// What comes next of a scene.
 #[derive(Clone, Copy)]
@@ -33,6 +33,7 @@ pub enum Step {
 ///
 /// After a command the reader stands behind its line, and may go on. Any other answer is the last: behind a refused line little
 /// more is taken from the source than that line, and after `End` and `ReadFault` the bytes to come are as before.
+#[inline(always)]
 pub fn next_step<S: Source>(
     reader: &mut LineReader,
     source: &mut S,
@@ -79,7 +80,9 @@ pub fn next_step<S: Source>(
     match reader.next(source) {
         Next::Line => step_for(
             reader.number(),
-            unless_full(live, read_line(version, reader.line())),
+            version,
+            live,
+            read_command(reads_under(version), reader.line()),
         ),
         Next::Long => Step::Refused {
             line: reader.number(),
@@ -96,13 +99,25 @@ pub fn next_step<S: Source>(
     }
 }
 
-// A line that was read.
-fn step_for(line: u32, said: Result<Command, Cause>) -> Step
-    ensures step { result ≡ step_for line said }
+// What a line comes to that said this where it stands.
+#[inline(always)]
+fn step_for(
+    line: u32,
+    version: Option<Version>,
+    live: u32,
+    said: Result<Command, LineFault>,
+) -> Step
+    ensures step { result ≡ step_for line (unless_full live (allowed_in version said)) }
     ensures printable { IfOk said IsPrintable → IfCommand result IsPrintable }
 {
     match said {
-        Ok(command) => Step::Command(command),
-        Err(cause) => Step::Refused { line, cause },
+        Ok(command) => match refusal(version, live, &command) {
+            None => Step::Command(command),
+            Some(cause) => Step::Refused { line, cause },
+        },
+        Err(fault) => Step::Refused {
+            line,
+            cause: cause_for(version, fault),
+        },
     }
 }

@@ -1,8 +1,11 @@
 -- Each answer of the reader says what the next line comes to.
-use Rattle.std.proofs.Common.{◌≡◌, ◌+◌, sym, ap, subst, ◌∙◌, IfSome, Ok}
+use Rattle.std.proofs.Common.{◌≡◌, ◌+◌, refl, sym, ap, subst, ◌∙◌, IfSome, Result, Ok}
+use Rattle.pair_report.specs.declared.cause.Cause.{Cause}
 use Rattle.scene_lines.specs.Reading.{coming}
+use Rattle.scene_words.specs.declared.command.Command.{Command}
+use Rattle.scene_words.specs.declared.line_fault.LineFault.{LineFault}
 use Rattle.scene_words.specs.SceneWords.{command}
-use Rattle.play_rules.specs.Readable.{allowed_in, reads_under, readable, unless_full}
+use Rattle.play_rules.specs.Readable.{allowed_in, reads_under, unless_full}
 use Rattle.scene_steps.specs.declared.step.Step.{Step}
 use Rattle.scene_steps.specs.Step.{IsAhead, IsPast, IsStepOf, IfCommand, OnCommand, OnRefused, UnlessReadFault}
 use Rattle.scene_steps.proofs.Steps.{line_says, long_says, too_many_says, line_past, line_cut, nothing_cut, command_again, where_commanded, where_refused}
@@ -13,11 +16,13 @@ returns-in-Line-clause-says g c =
     let reader = c.args.reader.now in
     let o = coming reader.held (g.S.Source.left c.args.source.now) in
     let P : Step → Type 0 = λ s. UnlessReadFault s (IfSome o (λ bytes. IsStepOf c.args.version c.args.live reader.limit (reader.number + 1) bytes s)) in
+    let comes : Result Command LineFault → Result Command Cause = λ read. unless_full c.args.live (allowed_in c.args.version read) in
+    let read : c.read_command.result ≡ command (reads_under c.args.version) c.next.new.self.line =
+    c.read_command.ensures.command ∙ ap (λ v. command v c.line.result.now) c.reads_under.ensures
+    ∙ ap (command (reads_under c.args.version)) c.line.ensures.value in
     subst P (sym c.step_for.ensures.step)
     (line_says c.line_laws.ensures.first c.args.version c.args.live reader.limit reader.number c.number.result (c.number.ensures.value ∙ c.in-Line.ensures.number)
-    o c.next.new.self.line c.unless_full.result
-    (c.unless_full.ensures.full ∙ ap (unless_full c.args.live) (c.read_line.ensures.readable ∙ ap (readable c.args.version) c.line.ensures.value))
-    c.in-Line.ensures.line c.in-Line.ensures.exact)
+    o c.next.new.self.line (comes c.read_command.result) (ap comes read) c.in-Line.ensures.line c.in-Line.ensures.exact)
 
 pub returns-in-Long-clause-says : goal.returns-in-Long-clause-says
 returns-in-Long-clause-says g c =
@@ -37,8 +42,7 @@ returns-in-Line-clause-allowed g c =
     let live = c.args.live in
     let P : Step → Type 0 = λ s. IfCommand s (λ said. unless_full live (allowed_in version (Ok said)) ≡ Ok said) in
     subst P (sym c.step_for.ensures.step)
-    (command_again version live c.number.result (command (reads_under version) c.line.result.now) c.unless_full.result
-    (c.unless_full.ensures.full ∙ ap (unless_full live) c.read_line.ensures.readable))
+    (command_again version live c.number.result c.read_command.result (unless_full live (allowed_in version c.read_command.result)) refl)
 
 pub returns-in-Line-clause-past : goal.returns-in-Line-clause-past
 returns-in-Line-clause-past g c =
@@ -47,7 +51,7 @@ returns-in-Line-clause-past g c =
     let Q : Type 0 = IfSome o (λ bytes. IsPast bytes over) in
     let P : Step → Type 0 = λ s. OnCommand s Q in
     subst P (sym c.step_for.ensures.step)
-    (where_commanded c.number.result c.unless_full.result Q
+    (where_commanded c.number.result (unless_full c.args.live (allowed_in c.args.version c.read_command.result)) Q
     (line_past c.line_laws.ensures.one_feed c.line_laws.ensures.ended o over c.in-Line.ensures.last_at_end))
 
 pub returns-in-Line-clause-ahead : goal.returns-in-Line-clause-ahead
@@ -57,7 +61,7 @@ returns-in-Line-clause-ahead g c =
     let held = c.next.new.self.held in
     let P : Step → Type 0 = λ s. OnRefused s (IsAhead o held now) in
     subst P (sym c.step_for.ensures.step)
-    (where_refused c.number.result c.unless_full.result (IsAhead o held now)
+    (where_refused c.number.result (unless_full c.args.live (allowed_in c.args.version c.read_command.result)) (IsAhead o held now)
     (line_cut c.line_laws.ensures.in_parts c.line_laws.ensures.near o now held c.next.new.self.line c.in-Line.ensures.rest c.in-Line.ensures.line
     c.in-Line.ensures.short))
 
