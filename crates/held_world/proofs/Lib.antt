@@ -1,0 +1,3 @@
+pub mod BatchUnderWay
+pub mod MoveAnswered
+pub mod RoomFilled

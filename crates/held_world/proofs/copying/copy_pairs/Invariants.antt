@@ -1,0 +1,11 @@
+-- The items are copied one after another, up to the end of either list.
+use Rattle.std.proofs.Common.{length, drop}
+use Rattle.held_world.specs.Plain.{pair_out}
+use Rattle.held_world.proofs.RoomFilled.{IsCopying}
+use Rattle.held_world.proofs.copying.copy_pairs.Given as goal
+
+abbrev pub invariant-copies : goal.invariant-copies
+invariant-copies l = IsCopying pair_out (drop l.from l.items) l.rest l.count l.fn.out l.out
+
+abbrev pub decreases-copies : goal.decreases-copies
+decreases-copies l = length l.rest

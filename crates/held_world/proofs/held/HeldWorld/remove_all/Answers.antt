@@ -1,0 +1,16 @@
+-- One box more goes.
+use Rattle.std.proofs.Common.{◌≡◌, ◌∷◌, ◌∙◌, rules}
+use Rattle.any_world.specs.AnyWorld.{state_of}
+use Rattle.held_world.specs.Changes.{removes}
+use Rattle.held_world.proofs.BatchUnderWay.{batch_goes_on}
+use Rattle.held_world.proofs.held.HeldWorld.remove_all.Goals as goal
+
+pub removes-preserved : goal.removes-preserved
+removes-preserved c =
+    let first : c.removes.rest.now ≡ c.in-Some.next.now ∷ c.in-Some.more.now = search rules in record {
+      batch = batch_goes_on removes c.args.handles.now c.removes.rest.now c.in-Some.more.now c.in-Some.next.now c.removes.count
+          (state_of c.args.self.now.world) (state_of c.removes.self.world) (state_of c.remove.new.self.world) c.removes.invariant.batch first
+          c.in-Ok.ensures.step;
+      structure = c.in-Ok.ensures.structure ∙ c.removes.invariant.structure;
+      found = c.in-Ok.ensures.found ∙ c.removes.invariant.found;
+    }

@@ -1,0 +1,230 @@
+ghost use Rattle.std.specs.Prelude.{◌≡◌, ◌≢◌, ◌↔◌, ◌⊎◌, ◌<◌, ◌≤◌, ◌-◌, ◌++◌, [], false, min, length, map};
+ghost use Rattle.std.specs.Prelude.{zip, take, drop, Some, None, Ok, Err, IfOk, IfErr};
+ghost use Rattle.box_world.specs.Answers.{opened};
+ghost use Rattle.any_world.specs.AnyWorld.{state_of, structure_of, counts_of};
+ghost use Rattle.live_queries.specs.Pairs.{hits_of};
+ghost use Rattle.live_table.specs.Table.{next_handle};
+ghost use Rattle.broad_index.specs.declared.query.Query.{Query};
+ghost use Rattle.held_world.specs.declared.TheConstants.{OK, NO_MEMORY, ARGUMENT};
+ghost use Rattle.held_world.specs.Batches.{IsBatch};
+ghost use Rattle.held_world.specs.Changes.{adds, moves, removes, handles_given};
+ghost use Rattle.held_world.specs.Copies.{copied};
+ghost use Rattle.held_world.specs.Plain.{handle_out, pair_out, told_out, query_in, structure_in};
+ghost use Rattle.held_world.specs.Steps.{Stepped};
+
+use crate::answers::status_of;
+use crate::copying::{copy_handles, copy_pairs, copy_told};
+use crate::plain::{body_of, handle_of, handle_out, query_of, structure_of};
+use crate::{ARGUMENT, INVERTED, NO_MEMORY, OK, PwBox, PwHandle, PwPair, PwQuery, PwTold, Reply};
+use any_world::AnyWorld;
+use live_table::{Group, Handle, Masks};
+use std::alloc::Global;
+
+/// What stands behind a world that C holds: the world, and room for the answer to one query.
+///
+/// A batch does its steps in order, up to the first that is refused, whose status it tells with the number of those before it.
+/// Those stay done.
+#[derive(Drop)]
+pub struct HeldWorld {
+    pub world: AnyWorld,
+    pub found: Vec<Handle>,
+}
+
+impl HeldWorld {
+    /// The opening world over the structure of this number. `ARGUMENT` comes where none has it, and else only `NO_MEMORY`.
+    pub fn new(alloc: Global, structure: u32) -> Result<HeldWorld, u32>
+        ensures opened { IfOk result (λ held. state_of held.world ≡ opened) }
+        ensures named { IfOk result (λ held. structure_in structure ≡ Some (structure_of held.world)) }
+        ensures argument { (result ≡ Err ARGUMENT) ↔ (structure_in structure ≡ None) }
+        ensures err { IfErr result (λ status. (status ≡ ARGUMENT) ⊎ (status ≡ NO_MEMORY)) }
+    {
+        let Some(structure) = structure_of(structure) else {
+            return Err(ARGUMENT);
+        };
+        match AnyWorld::new(alloc, structure) {
+            Ok(world) => Ok(HeldWorld {
+                world,
+                found: Vec::new(alloc),
+            }),
+            Err(_) => Err(NO_MEMORY),
+        }
+    }
+
+    /// Boxes come, in order, with the same masks and group. The handles of those that came are the first of `out`; the rest of it
+    /// is as before. `ARGUMENT` comes where `out` has less room than there are boxes, and then nothing changes.
+    pub fn add_all(
+        &mut self,
+        boxes: &[PwBox],
+        masks: Masks,
+        group: Group,
+        out: &mut [PwHandle],
+    ) -> Reply
+        ensures short { length out.old < length boxes.now
+            → (result ≡ record { status = ARGUMENT; count = 0 }) × (state_of self.new.world ≡ state_of self.old.world) × (out.new ≡ out.old) }
+        ensures added { length boxes.now ≤ length out.old → IsBatch (adds (counts_of self.old.world) masks group) boxes.now
+            result.count result.status (state_of self.old.world) (state_of self.new.world) }
+        ensures handles { let given = handles_given (counts_of self.old.world) masks group (state_of self.old.world).time.now boxes.now in
+            length boxes.now ≤ length out.old → out.new ≡ map handle_out (take result.count given) ++ drop result.count out.old }
+        ensures structure { structure_of self.new.world ≡ structure_of self.old.world }
+        ensures found { self.new.found ≡ self.old.found }
+    {
+        if out.len() < boxes.len() {
+            return Reply {
+                status: ARGUMENT,
+                count: 0,
+            };
+        }
+        let mut count = 0;
+        let mut rest = boxes;
+        'adds: while let Some((next, more)) = rest.split_first() {
+            match self.add(next, masks, group) {
+                Ok(handle) => out[count] = handle_out(&handle),
+                Err(status) => return Reply { status, count },
+            }
+            count += 1;
+            rest = more;
+        }
+        Reply { status: OK, count }
+    }
+
+    /// Boxes move, in order, each with its handle. `ARGUMENT` comes where there are more of the one than of the other, and then
+    /// nothing changes.
+    pub fn move_all(&mut self, handles: &[PwHandle], boxes: &[PwBox]) -> Reply
+        ensures uneven { length handles.now ≢ length boxes.now
+            → (result ≡ record { status = ARGUMENT; count = 0 }) × (state_of self.new.world ≡ state_of self.old.world) }
+        ensures moved { length handles.now ≡ length boxes.now → IsBatch (moves (counts_of self.old.world)) (zip handles.now boxes.now)
+            result.count result.status (state_of self.old.world) (state_of self.new.world) }
+        ensures structure { structure_of self.new.world ≡ structure_of self.old.world }
+        ensures found { self.new.found ≡ self.old.found }
+    {
+        if handles.len() != boxes.len() {
+            return Reply {
+                status: ARGUMENT,
+                count: 0,
+            };
+        }
+        let mut count = 0;
+        let mut rest = handles;
+        'moves: while let Some((next, more)) = rest.split_first() {
+            match self.shift(next, &boxes[count]) {
+                Ok(()) => {}
+                Err(status) => return Reply { status, count },
+            }
+            count += 1;
+            rest = more;
+        }
+        Reply { status: OK, count }
+    }
+
+    /// Boxes go, in order.
+    pub fn remove_all(&mut self, handles: &[PwHandle]) -> Reply
+        ensures removed { IsBatch removes handles.now result.count result.status (state_of self.old.world) (state_of self.new.world) }
+        ensures structure { structure_of self.new.world ≡ structure_of self.old.world }
+        ensures found { self.new.found ≡ self.old.found }
+    {
+        let mut count = 0;
+        let mut rest = handles;
+        'removes: while let Some((next, more)) = rest.split_first() {
+            match self.remove(next) {
+                Ok(()) => {}
+                Err(status) => return Reply { status, count },
+            }
+            count += 1;
+            rest = more;
+        }
+        Reply { status: OK, count }
+    }
+
+    /// Copies the pairs of the last frame from number `from` on, as many as there is room for, and answers how many those are.
+    pub fn copy_pairs(&self, from: usize, out: &mut [PwPair]) -> usize
+        ensures copied { out.new ≡ copied pair_out (drop from (state_of self.now.world).time.now.last) out.old }
+        ensures count { result ≡ min (length (state_of self.now.world).time.now.last - from) (length out.old) }
+    {
+        copy_pairs(self.world.pairs(), from, out)
+    }
+
+    /// Copies what was told of the last frame that ended from number `from` on, as many as there is room for, and answers how many
+    /// those are.
+    pub fn copy_events(&self, from: usize, out: &mut [PwTold]) -> usize
+        ensures copied { out.new ≡ copied told_out (drop from (state_of self.now.world).told) out.old }
+        ensures count { result ≡ min (length (state_of self.now.world).told - from) (length out.old) }
+    {
+        copy_told(self.world.events(), from, out)
+    }
+
+    /// Copies the handles of the live boxes that meet a question, by their slots, as many as there is room for, and tells how many
+    /// there are in all. `ARGUMENT` comes where it is no question. After `ARGUMENT` and `NO_MEMORY` the count is 0 and `out` is as
+    /// before.
+    pub fn hits(&mut self, query: &PwQuery, out: &mut [PwHandle]) -> Reply
+        ensures argument { (result.status ≡ ARGUMENT) ↔ (query_in query.now ≡ None) }
+        ensures statuses { (result.status ≡ OK) ⊎ ((result.status ≡ ARGUMENT) ⊎ (result.status ≡ NO_MEMORY)) }
+        ensures found { (asked : Query) → result.status ≡ OK → query_in query.now ≡ Some asked
+            → let hits = hits_of (state_of self.old.world).time.now.table.entries asked query.now.mask in
+            ((state_of self.old.world).spent ≡ false) × (result.count ≡ length hits) × (out.new ≡ copied handle_out hits out.old) }
+        ensures none { result.status ≢ OK → (result.count ≡ 0) × (out.new ≡ out.old) }
+        ensures same { state_of self.new.world ≡ state_of self.old.world }
+        ensures structure { structure_of self.new.world ≡ structure_of self.old.world }
+    {
+        let Some(asked) = query_of(query) else {
+            return Reply {
+                status: ARGUMENT,
+                count: 0,
+            };
+        };
+        self.found.clear();
+        match self.world.hits(&asked, query.mask, &mut self.found) {
+            Ok(()) => {
+                copy_handles(&self.found, out);
+                Reply {
+                    status: OK,
+                    count: self.found.len(),
+                }
+            }
+            Err(_) => Reply {
+                status: NO_MEMORY,
+                count: 0,
+            },
+        }
+    }
+
+    // One box comes.
+    fn add(&mut self, body: &PwBox, masks: Masks, group: Group) -> Result<Handle, u32>
+        ensures step { Stepped (adds (counts_of self.old.world) masks group) body.now result (state_of self.old.world) (state_of self.new.world) }
+        ensures handle { IfOk result (λ handle. handle ≡ next_handle (state_of self.old.world).time.now.table) }
+        ensures structure { structure_of self.new.world ≡ structure_of self.old.world }
+        ensures found { self.new.found ≡ self.old.found }
+    {
+        if self.world.is_spent() {
+            return Err(NO_MEMORY);
+        }
+        let body = body_of(body).ok_or(INVERTED)?;
+        self.world.add(body, masks, group).map_err(status_of)
+    }
+
+    // One box moves.
+    fn shift(&mut self, handle: &PwHandle, body: &PwBox) -> Result<(), u32>
+        ensures step { Stepped (moves (counts_of self.old.world)) (handle.now, body.now) result (state_of self.old.world) (state_of self.new.world) }
+        ensures structure { structure_of self.new.world ≡ structure_of self.old.world }
+        ensures found { self.new.found ≡ self.old.found }
+    {
+        if self.world.is_spent() {
+            return Err(NO_MEMORY);
+        }
+        let Some(body) = body_of(body) else {
+            return Err(INVERTED);
+        };
+        match self.world.shift(handle_of(handle), body) {
+            Ok(()) => Ok(()),
+            Err(refusal) => Err(status_of(refusal)),
+        }
+    }
+
+    // One box goes.
+    fn remove(&mut self, handle: &PwHandle) -> Result<(), u32>
+        ensures step { Stepped removes handle.now result (state_of self.old.world) (state_of self.new.world) }
+        ensures structure { structure_of self.new.world ≡ structure_of self.old.world }
+        ensures found { self.new.found ≡ self.old.found }
+    {
+        self.world.remove(handle_of(handle)).map_err(status_of)
+    }
+}

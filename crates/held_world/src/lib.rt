@@ -1,0 +1,72 @@
+//! A world of live boxes as a caller in C holds it: its boxes, handles and questions as plain structs, its calls with many of
+//! them at once, and what they came to as numbers.
+#![tactic(auto)]
+
+mod answers;
+mod copying;
+mod held;
+mod plain;
+
+pub use answers::{Reply, number_law, status};
+pub use held::HeldWorld;
+pub use plain::{
+    PwBox, PwGroup, PwHandle, PwMasks, PwPair, PwPoint, PwQuery, PwTold, body_of, group_of,
+    handle_of, handle_out, masks_of, query_of, structure_of,
+};
+
+/// The call did what it is for.
+pub const OK: u32 = 0;
+
+/// No live box has the handle.
+pub const STALE: u32 = 1;
+
+/// All slots are taken.
+pub const FULL: u32 = 2;
+
+/// Memory ran out. The world is as before, or it is spent and answers nothing else from then on.
+pub const NO_MEMORY: u32 = 3;
+
+/// A box's lower corner isn't at most its upper one.
+pub const INVERTED: u32 = 4;
+
+/// The world isn't open.
+pub const CLOSED: u32 = 5;
+
+/// A number names nothing, or there is too little room for the answers.
+pub const ARGUMENT: u32 = 6;
+
+/// A number of the world is at its end.
+pub const EXHAUSTED: u32 = 7;
+
+/// A list that tests all pairs.
+pub const PLAIN: u32 = 0;
+
+/// Sweep and prune.
+pub const SAP: u32 = 1;
+
+/// The tree of fat boxes.
+pub const TREE: u32 = 2;
+
+/// The hashed grid.
+pub const GRID: u32 = 3;
+
+/// A pair began.
+pub const BEGIN: u32 = 0;
+
+/// A pair stayed.
+pub const STAY: u32 = 1;
+
+/// A pair is over.
+pub const OVER: u32 = 2;
+
+/// Which boxes meet the one from `a` to `b`.
+pub const REGION: u32 = 0;
+
+/// Which boxes hold the point `a`.
+pub const POINT: u32 = 1;
+
+/// Which boxes the ray from `a` with the direction `b` meets.
+pub const RAY: u32 = 2;
+
+/// Which boxes the segment from `a` to `b` meets.
+pub const SEGMENT: u32 = 3;
