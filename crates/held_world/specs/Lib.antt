@@ -1,6 +1,10 @@
 pub mod Answers
+pub mod Asks
 pub mod Batches
-pub mod Copies
-pub mod Plain
-pub mod Steps
 pub mod Changes
+pub mod Copies
+pub mod Floats
+pub mod Plain
+pub mod Reading
+pub mod Steps
+pub mod Tells

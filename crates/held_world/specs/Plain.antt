@@ -3,10 +3,14 @@ use Rattle.std.specs.Prelude.{ℕ, not, ◌==◌, if◌then◌else◌, Option, S
 use Rattle.fixed_box.specs.declared.point.Point.{Point}
 use Rattle.fixed_box.specs.Bounds.{Bounds}
 use Rattle.fixed_box.specs.Point.{is_at_most}
+use Rattle.ray_slabs.specs.declared.ray.Ray.{Ray}
 use Rattle.ray_slabs.specs.Vector.{widened}
+use Rattle.box_cast.specs.declared.cast.Cast.{Cast}
 use Rattle.live_table.specs.declared.group.Group.{Group}
 use Rattle.live_table.specs.declared.handle.Handle.{Handle}
+use Rattle.live_table.specs.declared.live.Live.{Live}
 use Rattle.live_table.specs.declared.masks.Masks.{Masks}
+use Rattle.live_queries.specs.declared.nearest.NearQuery.{NearQuery}
 use Rattle.pair_events.specs.declared.hpair.HPair.{HPair}
 use Rattle.pair_events.specs.declared.told.Event.{Event}
 use Rattle.pair_events.specs.declared.told.Event.TheVariants.{Begin, Stay, Over}
@@ -20,10 +24,14 @@ use Rattle.held_world.specs.declared.plain.PwPoint.{PwPoint}
 use Rattle.held_world.specs.declared.plain.PwBox.{PwBox}
 use Rattle.held_world.specs.declared.plain.PwGroup.{PwGroup}
 use Rattle.held_world.specs.declared.plain.PwHandle.{PwHandle}
+use Rattle.held_world.specs.declared.plain.PwLive.{PwLive}
 use Rattle.held_world.specs.declared.plain.PwMasks.{PwMasks}
 use Rattle.held_world.specs.declared.plain.PwPair.{PwPair}
 use Rattle.held_world.specs.declared.plain.PwQuery.{PwQuery}
 use Rattle.held_world.specs.declared.plain.PwTold.{PwTold}
+use Rattle.held_world.specs.declared.questions.PwCast.{PwCast}
+use Rattle.held_world.specs.declared.questions.PwNear.{PwNear}
+use Rattle.held_world.specs.declared.questions.PwRay.{PwRay}
 
 abbrev pub point_in : PwPoint → Point
 point_in p = record { x = p.x; y = p.y; z = p.z }
@@ -47,6 +55,20 @@ handle_in h = record { slot = h.slot; generation = h.generation }
 
 abbrev pub handle_out : Handle → PwHandle
 handle_out h = record { slot = h.slot; generation = h.generation }
+
+abbrev pub point_out : Point → PwPoint
+point_out p = record { x = p.x; y = p.y; z = p.z }
+
+abbrev pub box_out : Bounds → PwBox
+box_out b = record { lo = point_out b.lo; hi = point_out b.hi }
+
+-- a live box: its handle is known to who asks
+abbrev pub live_out : Live → PwLive
+live_out l = record {
+  body = box_out l.body;
+  masks = record { is = l.masks.is; sees = l.masks.sees };
+  group = record { owner = l.group.owner; fixed = if l.group.fixed then 1 else 0 };
+}
 
 abbrev pub pair_out : HPair → PwPair
 pair_out p = record { a = handle_out p.a; b = handle_out p.b }
@@ -74,3 +96,19 @@ structure_in number =
     else (if number == SAP then Some Sap
     else (if number == TREE then Some Tree
     else (if number == GRID then Some Grid else None)))
+
+abbrev pub structure_out : Structure → ℕ
+structure_out Plain = PLAIN
+structure_out Sap = SAP
+structure_out Tree = TREE
+structure_out Grid = GRID
+
+abbrev pub ray_in : PwRay → Ray
+ray_in r = record { from = widened (point_in r.from); dir = widened (point_in r.direction) }
+
+-- a box that isn't inverted, with its way
+abbrev pub cast_in : PwCast → Option Cast
+cast_in c = option_map (λ body. record { body = body; by = point_in c.by }) (body_in c.body)
+
+abbrev pub near_in : PwNear → NearQuery
+near_in n = record { at = point_in n.at; want = n.want; mask = n.mask }

@@ -1,5 +1,6 @@
 ghost use Rattle.std.specs.Prelude.{◌≡◌};
 ghost use Rattle.held_world.specs.declared.TheConstants.{OK, STALE, FULL, NO_MEMORY, INVERTED, CLOSED, ARGUMENT, EXHAUSTED};
+ghost use Rattle.held_world.specs.declared.TheConstants.{NO_MARK, NOT_A_NUMBER, OUT_OF_RANGE};
 ghost use Rattle.held_world.specs.declared.TheConstants.{PLAIN, SAP, TREE, GRID, BEGIN, STAY, OVER, REGION, POINT, RAY, SEGMENT};
 ghost use Rattle.held_world.specs.Answers.{status, status_of};
 
@@ -37,7 +38,8 @@ pub(crate) fn status_of(refusal: Refusal) -> u32
 /// A law for proofs, with nothing to run: with other numbers, which a header in C has too, this crate has no proof.
 pub fn number_law()
     ensures statuses { (OK ≡ 0) × (STALE ≡ 1) × (FULL ≡ 2) × (NO_MEMORY ≡ 3)
-        × (INVERTED ≡ 4) × (CLOSED ≡ 5) × (ARGUMENT ≡ 6) × (EXHAUSTED ≡ 7) }
+        × (INVERTED ≡ 4) × (CLOSED ≡ 5) × (ARGUMENT ≡ 6) × (EXHAUSTED ≡ 7)
+        × (NO_MARK ≡ 8) × (NOT_A_NUMBER ≡ 9) × (OUT_OF_RANGE ≡ 10) }
     ensures structures { (PLAIN ≡ 0) × (SAP ≡ 1) × (TREE ≡ 2) × (GRID ≡ 3) }
     ensures events { (BEGIN ≡ 0) × (STAY ≡ 1) × (OVER ≡ 2) }
     ensures kinds { (REGION ≡ 0) × (POINT ≡ 1) × (RAY ≡ 2) × (SEGMENT ≡ 3) }

@@ -1,21 +1,19 @@
-ghost use Rattle.std.specs.Prelude.{◌≡◌, ◌≢◌, ◌↔◌, ◌⊎◌, ◌<◌, ◌≤◌, ◌-◌, ◌++◌, [], false, min, length, map};
-ghost use Rattle.std.specs.Prelude.{zip, take, drop, Some, None, Ok, Err, IfOk, IfErr};
+ghost use Rattle.std.specs.Prelude.{◌≡◌, ◌≢◌, ◌↔◌, ◌⊎◌, ◌<◌, ◌≤◌, ◌-◌, ◌++◌, min, length, map, zip, take, drop};
+ghost use Rattle.std.specs.Prelude.{Some, None, Err, IfOk, IfErr};
 ghost use Rattle.box_world.specs.Answers.{opened};
 ghost use Rattle.any_world.specs.AnyWorld.{state_of, structure_of, counts_of};
-ghost use Rattle.live_queries.specs.Pairs.{hits_of};
 ghost use Rattle.live_table.specs.Table.{next_handle};
-ghost use Rattle.broad_index.specs.declared.query.Query.{Query};
-ghost use Rattle.held_world.specs.declared.TheConstants.{OK, NO_MEMORY, ARGUMENT};
+ghost use Rattle.held_world.specs.declared.TheConstants.{NO_MEMORY, ARGUMENT};
 ghost use Rattle.held_world.specs.Batches.{IsBatch};
 ghost use Rattle.held_world.specs.Changes.{adds, moves, removes, handles_given};
 ghost use Rattle.held_world.specs.Copies.{copied};
-ghost use Rattle.held_world.specs.Plain.{handle_out, pair_out, told_out, query_in, structure_in};
+ghost use Rattle.held_world.specs.Plain.{handle_out, pair_out, told_out, structure_in};
 ghost use Rattle.held_world.specs.Steps.{Stepped};
 
 use crate::answers::status_of;
-use crate::copying::{copy_handles, copy_pairs, copy_told};
-use crate::plain::{body_of, handle_of, handle_out, query_of, structure_of};
-use crate::{ARGUMENT, INVERTED, NO_MEMORY, OK, PwBox, PwHandle, PwPair, PwQuery, PwTold, Reply};
+use crate::copying::{copy_pairs, copy_told};
+use crate::plain::{body_of, handle_of, handle_out, structure_of};
+use crate::{ARGUMENT, INVERTED, NO_MEMORY, OK, PwBox, PwHandle, PwPair, PwTold, Reply};
 use any_world::AnyWorld;
 use live_table::{Group, Handle, Masks};
 use std::alloc::Global;
@@ -150,41 +148,6 @@ impl HeldWorld {
         ensures count { result ≡ min (length (state_of self.now.world).told - from) (length out.old) }
     {
         copy_told(self.world.events(), from, out)
-    }
-
-    /// Copies the handles of the live boxes that meet a question, by their slots, as many as there is room for, and tells how many
-    /// there are in all. `ARGUMENT` comes where it is no question. After `ARGUMENT` and `NO_MEMORY` the count is 0 and `out` is as
-    /// before.
-    pub fn hits(&mut self, query: &PwQuery, out: &mut [PwHandle]) -> Reply
-        ensures argument { (result.status ≡ ARGUMENT) ↔ (query_in query.now ≡ None) }
-        ensures statuses { (result.status ≡ OK) ⊎ ((result.status ≡ ARGUMENT) ⊎ (result.status ≡ NO_MEMORY)) }
-        ensures found { (asked : Query) → result.status ≡ OK → query_in query.now ≡ Some asked
-            → let hits = hits_of (state_of self.old.world).time.now.table.entries asked query.now.mask in
-            ((state_of self.old.world).spent ≡ false) × (result.count ≡ length hits) × (out.new ≡ copied handle_out hits out.old) }
-        ensures none { result.status ≢ OK → (result.count ≡ 0) × (out.new ≡ out.old) }
-        ensures same { state_of self.new.world ≡ state_of self.old.world }
-        ensures structure { structure_of self.new.world ≡ structure_of self.old.world }
-    {
-        let Some(asked) = query_of(query) else {
-            return Reply {
-                status: ARGUMENT,
-                count: 0,
-            };
-        };
-        self.found.clear();
-        match self.world.hits(&asked, query.mask, &mut self.found) {
-            Ok(()) => {
-                copy_handles(&self.found, out);
-                Reply {
-                    status: OK,
-                    count: self.found.len(),
-                }
-            }
-            Err(_) => Reply {
-                status: NO_MEMORY,
-                count: 0,
-            },
-        }
     }
 
     // One box comes.

@@ -3,16 +3,24 @@
 #![tactic(auto)]
 
 mod answers;
+mod asking;
+mod changing;
 mod copying;
+mod floats;
 mod held;
 mod plain;
+mod questions;
+mod reading;
 
 pub use answers::{Reply, number_law, status};
+pub use floats::{PwBits32, PwBits64, box_around_32, box_around_64, fault_of};
 pub use held::HeldWorld;
 pub use plain::{
-    PwBox, PwGroup, PwHandle, PwMasks, PwPair, PwPoint, PwQuery, PwTold, body_of, group_of,
+    PwBox, PwGroup, PwHandle, PwLive, PwMasks, PwPair, PwPoint, PwQuery, PwTold, body_of, group_of,
     handle_of, handle_out, masks_of, query_of, structure_of,
 };
+pub use questions::{PwCast, PwNear, PwRay};
+pub use reading::{PwCounts, PwInfo};
 
 /// The call did what it is for.
 pub const OK: u32 = 0;
@@ -20,7 +28,7 @@ pub const OK: u32 = 0;
 /// No live box has the handle.
 pub const STALE: u32 = 1;
 
-/// All slots are taken.
+/// All slots are taken, or all marks are held.
 pub const FULL: u32 = 2;
 
 /// Memory ran out. The world is as before, or it is spent and answers nothing else from then on.
@@ -37,6 +45,15 @@ pub const ARGUMENT: u32 = 6;
 
 /// A number of the world is at its end.
 pub const EXHAUSTED: u32 = 7;
+
+/// No mark is held to go back to.
+pub const NO_MARK: u32 = 8;
+
+/// A float is a NaN.
+pub const NOT_A_NUMBER: u32 = 9;
+
+/// A float is an infinity, or its raw number doesn't fit 32 bits.
+pub const OUT_OF_RANGE: u32 = 10;
 
 /// A list that tests all pairs.
 pub const PLAIN: u32 = 0;

@@ -1,11 +1,11 @@
-ghost use Rattle.std.specs.Prelude.{◌≡◌};
+ghost use Rattle.std.specs.Prelude.{◌≡◌, Some};
 ghost use Rattle.held_world.specs.Plain.{point_in, body_in, masks_in, group_in, handle_in, query_in, structure_in};
-ghost use Rattle.held_world.specs.Plain.{handle_out, pair_out, told_out, event_out};
+ghost use Rattle.held_world.specs.Plain.{handle_out, point_out, box_out, live_out, pair_out, told_out, event_out, structure_out};
 
 use crate::{BEGIN, GRID, OVER, PLAIN, POINT, RAY, REGION, SAP, SEGMENT, STAY, TREE};
 use broad_index::Query;
 use fixed_box::{FBox, Point};
-use live_table::{Group, Handle, Masks};
+use live_table::{Group, Handle, Live, Masks};
 use named_index::Structure;
 use pair_events::{Event, HPair, Told};
 use ray_slabs::{Ray, Seg, WPoint};
@@ -51,6 +51,15 @@ pub struct PwHandle {
     pub generation: u32,
 }
 
+/// A live box.
+#[repr(C)]
+#[derive(Clone, Copy)]
+pub struct PwLive {
+    pub body: PwBox,
+    pub masks: PwMasks,
+    pub group: PwGroup,
+}
+
 /// Two live boxes that may touch, `a`'s slot below `b`'s.
 #[repr(C)]
 #[derive(Clone, Copy)]
@@ -78,7 +87,7 @@ pub struct PwQuery {
     pub b: PwPoint,
 }
 
-fn point_of(at: &PwPoint) -> Point
+pub(crate) fn point_of(at: &PwPoint) -> Point
     ensures { result ≡ point_in at.now }
 {
     Point {
@@ -133,6 +142,41 @@ pub fn handle_out(handle: &Handle) -> PwHandle
     PwHandle {
         slot: handle.slot,
         generation: handle.generation,
+    }
+}
+
+fn point_out(at: Point) -> PwPoint
+    ensures { result ≡ point_out at }
+{
+    PwPoint {
+        x: at.x,
+        y: at.y,
+        z: at.z,
+    }
+}
+
+pub(crate) fn box_out(body: &FBox) -> PwBox
+    ensures { result ≡ box_out body.now }
+{
+    PwBox {
+        lo: point_out(body.lo()),
+        hi: point_out(body.hi()),
+    }
+}
+
+pub(crate) fn live_out(live: &Live) -> PwLive
+    ensures { result ≡ live_out live.now }
+{
+    PwLive {
+        body: box_out(&live.body),
+        masks: PwMasks {
+            is: live.masks.is,
+            sees: live.masks.sees,
+        },
+        group: PwGroup {
+            owner: live.group.owner,
+            fixed: u32::from(live.group.fixed),
+        },
     }
 }
 
@@ -201,5 +245,18 @@ pub fn structure_of(number: u32) -> Option<Structure>
         Some(Structure::Grid)
     } else {
         None
+    }
+}
+
+/// The number of a structure, so that `structure_of` gives it back.
+pub(crate) fn structure_out(structure: Structure) -> u32
+    ensures out { result ≡ structure_out structure }
+    ensures back { structure_in result ≡ Some structure }
+{
+    match structure {
+        Structure::Plain => PLAIN,
+        Structure::Sap => SAP,
+        Structure::Tree => TREE,
+        Structure::Grid => GRID,
     }
 }

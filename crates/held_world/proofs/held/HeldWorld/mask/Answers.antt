@@ -1,0 +1,21 @@
+-- The status of what the world answers.
+use Rattle.std.proofs.Common.{ℕ, sym, subst}
+use Rattle.live_table.specs.declared.handle.Handle.{Handle}
+use Rattle.live_table.specs.declared.masks.Masks.{Masks}
+use Rattle.box_world.specs.World.{masked}
+use Rattle.box_world.specs.Answers.{Answers, with_world, change_refusal}
+use Rattle.any_world.specs.AnyWorld.{state_of}
+use Rattle.held_world.specs.Plain.{handle_in, masks_in}
+use Rattle.held_world.specs.Tells.{Tells}
+use Rattle.held_world.proofs.Told.{told}
+use Rattle.held_world.proofs.held.HeldWorld.mask.Goals as goal
+
+pub returns-clause-answer : goal.returns-clause-answer
+returns-clause-answer c =
+    let old = state_of c.args.self.now.world in let new = state_of c.mask.new.self in let w = old.time.now in
+    let cause = change_refusal w (handle_in c.args.handle.now) in
+    let after = with_world old (masked w (handle_in c.args.handle.now) (masks_in c.args.masks.now)) in
+    let answers = subst (λ (m : Masks). Answers cause (with_world old (masked w (handle_in c.args.handle.now) m)) c.mask.result old new) c.masks_of.ensures
+    (subst (λ (h : Handle). Answers (change_refusal w h) (with_world old (masked w h c.masks_of.result)) c.mask.result old new) c.handle_of.ensures
+    c.mask.ensures.answer) in
+    subst (λ (n : ℕ). Tells cause after n old new) (sym c.status.ensures) (told cause after c.mask.result old new answers)

@@ -1,0 +1,81 @@
+ghost use Rattle.std.specs.Prelude.{◌≡◌, ◌≢◌, ◌↔◌, [], false, None, length};
+ghost use Rattle.box_world.specs.World.{masked, marked, gone_back};
+ghost use Rattle.box_world.specs.Answers.{with_world, with_time, after_frame, change_refusal, frame_refusal};
+ghost use Rattle.any_world.specs.AnyWorld.{state_of, structure_of};
+ghost use Rattle.held_world.specs.declared.TheConstants.{OK, NO_MARK};
+ghost use Rattle.held_world.specs.Plain.{handle_in, masks_in};
+ghost use Rattle.held_world.specs.Tells.{Tells, mark_refusal};
+
+use crate::answers::{status, status_of};
+use crate::plain::{PwHandle, PwMasks, handle_of, masks_of};
+use crate::reading::PwCounts;
+use crate::{FULL, HeldWorld, NO_MARK, OK};
+
+impl HeldWorld {
+    /// The handle's box gets other masks.
+    pub fn mask(&mut self, handle: &PwHandle, masks: &PwMasks) -> u32
+        ensures answer { let old = state_of self.old.world in let world = old.time.now in
+            Tells (change_refusal world (handle_in handle.now)) (with_world old (masked world (handle_in handle.now) (masks_in masks.now)))
+            result old (state_of self.new.world) }
+        ensures same { result ≢ OK → state_of self.new.world ≡ state_of self.old.world }
+        ensures structure { structure_of self.new.world ≡ structure_of self.old.world }
+    {
+        status(&self.world.mask(handle_of(handle), masks_of(masks)))
+    }
+
+    /// The frame ends, and `counts` tells how many pairs and events it has: none where it doesn't end, and then all is as before.
+    pub fn update(&mut self, counts: &mut PwCounts) -> u32
+        ensures answer { let old = state_of self.old.world in
+            Tells (frame_refusal old.time.now) (after_frame old) result old (state_of self.new.world) }
+        ensures counts { let new = state_of self.new.world in
+            result ≡ OK → counts.new ≡ record { pairs = length new.time.now.last; events = length new.told } }
+        ensures none { result ≢ OK → counts.new ≡ record { pairs = 0; events = 0 } }
+        ensures same { result ≢ OK → state_of self.new.world ≡ state_of self.old.world }
+        ensures structure { structure_of self.new.world ≡ structure_of self.old.world }
+    {
+        match self.world.update() {
+            Ok(_) => {
+                *counts = PwCounts {
+                    pairs: self.world.pairs().len(),
+                    events: self.world.events().len(),
+                };
+                OK
+            }
+            Err(refusal) => {
+                *counts = PwCounts {
+                    pairs: 0,
+                    events: 0,
+                };
+                status_of(refusal)
+            }
+        }
+    }
+
+    /// Marks the world as it stands. `FULL` comes where `MOST_MARKS` are held.
+    pub fn mark(&mut self) -> u32
+        ensures answer { let old = state_of self.old.world in
+            Tells (mark_refusal old.time) (with_time old (marked old.time)) result old (state_of self.new.world) }
+        ensures structure { structure_of self.new.world ≡ structure_of self.old.world }
+    {
+        match self.world.mark() {
+            Ok(true) => OK,
+            Ok(false) => FULL,
+            Err(refusal) => status_of(refusal),
+        }
+    }
+
+    /// Goes back to the newest mark, which is then gone. `NO_MARK` comes where none is held, and then nothing changes.
+    pub fn back(&mut self) -> u32
+        ensures no_mark { let old = state_of self.old.world in (result ≡ NO_MARK) ↔ ((old.spent ≡ false) × (old.time.marks ≡ [])) }
+        ensures kept { result ≡ NO_MARK → state_of self.new.world ≡ state_of self.old.world }
+        ensures answer { let old = state_of self.old.world in
+            result ≢ NO_MARK → Tells None (with_time old (gone_back old.time)) result old (state_of self.new.world) }
+        ensures structure { structure_of self.new.world ≡ structure_of self.old.world }
+    {
+        match self.world.back() {
+            Ok(true) => OK,
+            Ok(false) => NO_MARK,
+            Err(refusal) => status_of(refusal),
+        }
+    }
+}

@@ -1,0 +1,55 @@
+ghost use Rattle.std.specs.Prelude.{◌≡◌, option_map};
+ghost use Rattle.live_table.specs.Entries.{entry_at};
+ghost use Rattle.any_world.specs.AnyWorld.{state_of};
+ghost use Rattle.held_world.specs.Plain.{handle_in, live_out};
+ghost use Rattle.held_world.specs.Reading.{info_of};
+
+use crate::HeldWorld;
+use crate::plain::{PwHandle, PwLive, handle_of, live_out, structure_out};
+
+/// How many pairs the frame that ended last has, and how many events.
+#[repr(C)]
+#[derive(Clone, Copy)]
+pub struct PwCounts {
+    pub pairs: usize,
+    pub events: usize,
+}
+
+/// What a world is: its structure's number, whether it is spent (1, or 0), the numbers of its live boxes, of the frames that ended
+/// and of the marks that are held, and the exchanges of endpoints since the last frame, where its structure counts them.
+#[repr(C)]
+#[derive(Clone, Copy)]
+pub struct PwInfo {
+    pub structure: u32,
+    pub spent: u32,
+    pub boxes: u32,
+    pub frames: u32,
+    pub marks: u32,
+    pub exchanges: u64,
+}
+
+impl HeldWorld {
+    /// The live box with the handle, and `None` where no live box has it.
+    pub fn get(&self, handle: &PwHandle) -> Option<PwLive>
+        ensures { result ≡ option_map live_out (entry_at (handle_in handle.now) (state_of self.now.world).time.now.table.entries) }
+    {
+        match self.world.get(handle_of(handle)) {
+            Some(live) => Some(live_out(&live)),
+            None => None,
+        }
+    }
+
+    /// What the world is. A spent world has no exchanges.
+    pub fn info(&self) -> PwInfo
+        ensures { result ≡ info_of self.now.world }
+    {
+        PwInfo {
+            structure: structure_out(self.world.structure()),
+            spent: u32::from(self.world.is_spent()),
+            boxes: self.world.len(),
+            frames: self.world.frames(),
+            marks: self.world.held(),
+            exchanges: self.world.exchanges(),
+        }
+    }
+}
