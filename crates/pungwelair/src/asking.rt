@@ -1,0 +1,110 @@
+ghost use Rattle.std.specs.Prelude.{◌≡◌, min, Some, option_map};
+ghost use Rattle.fixed_box.specs.declared.TheConstants.{SLOTS};
+ghost use Rattle.live_queries.specs.Pairs.{hits_of};
+ghost use Rattle.live_queries.specs.Queries.{entered_of, cast_of, nearest_to};
+ghost use Rattle.any_world.specs.AnyWorld.{state_of};
+ghost use Rattle.held_world.specs.declared.TheConstants.{ARGUMENT, INVERTED};
+ghost use Rattle.held_world.specs.Asks.{Asks};
+ghost use Rattle.held_world.specs.Plain.{query_in, ray_in, cast_in, near_in};
+ghost use Rattle.held_world.specs.declared.answers.Reply.{Reply};
+ghost use Rattle.pungwelair.specs.Exports.{Calls, IsClosed, IsKept};
+
+use crate::world::PwWorld;
+use held_world::{CLOSED, PwCast, PwHandle, PwNear, PwQuery, PwRay};
+use std::alloc::Global;
+
+/// The live boxes that meet a question, by their slots: how many there are in all, and the first of them in `out`.
+#[unsafe(no_mangle)]
+pub extern "C" fn pw_hits(
+    alloc: Global,
+    world: &mut PwWorld,
+    query: &PwQuery,
+    out: &mut [PwHandle],
+    count: &mut usize,
+) -> u32
+    ensures { let reply : Reply = record { status = result; count = count.new } in
+        Calls (λ was now. IsKept was.world now.world × (let old = state_of was.world in let entries = old.time.now.table.entries in
+        Asks ARGUMENT (option_map (λ asked. hits_of entries asked query.now.mask) (query_in query.now)) old.spent reply out.old out.new))
+        (IsClosed reply out.old out.new) world.old.held.inner world.new.held.inner }
+{
+    let Some(mut held) = world.take(alloc) else {
+        *count = 0;
+        return CLOSED;
+    };
+    let reply = held.hits(query, out);
+    world.put(held);
+    *count = reply.count;
+    reply.status
+}
+
+/// The same for the boxes that a ray meets, in the order in which it first meets them.
+#[unsafe(no_mangle)]
+pub extern "C" fn pw_ray_hits(
+    alloc: Global,
+    world: &mut PwWorld,
+    ray: &PwRay,
+    out: &mut [PwHandle],
+    count: &mut usize,
+) -> u32
+    ensures { let reply : Reply = record { status = result; count = count.new } in
+        Calls (λ was now. IsKept was.world now.world × (let old = state_of was.world in let entries = old.time.now.table.entries in
+        Asks ARGUMENT (Some (entered_of entries (ray_in ray.now) ray.now.mask)) old.spent reply out.old out.new))
+        (IsClosed reply out.old out.new) world.old.held.inner world.new.held.inner }
+{
+    let Some(mut held) = world.take(alloc) else {
+        *count = 0;
+        return CLOSED;
+    };
+    let reply = held.entered(ray, out);
+    world.put(held);
+    *count = reply.count;
+    reply.status
+}
+
+/// The same for the boxes that a moved box meets on its way, in the order in which it first meets them.
+#[unsafe(no_mangle)]
+pub extern "C" fn pw_cast_hits(
+    alloc: Global,
+    world: &mut PwWorld,
+    cast: &PwCast,
+    out: &mut [PwHandle],
+    count: &mut usize,
+) -> u32
+    ensures { let reply : Reply = record { status = result; count = count.new } in
+        Calls (λ was now. IsKept was.world now.world × (let old = state_of was.world in let entries = old.time.now.table.entries in
+        Asks INVERTED (option_map (λ asked. cast_of entries asked cast.now.mask) (cast_in cast.now)) old.spent reply out.old out.new))
+        (IsClosed reply out.old out.new) world.old.held.inner world.new.held.inner }
+{
+    let Some(mut held) = world.take(alloc) else {
+        *count = 0;
+        return CLOSED;
+    };
+    let reply = held.cast(cast, out);
+    world.put(held);
+    *count = reply.count;
+    reply.status
+}
+
+/// The same for the boxes that are nearest to a place, the nearest first.
+#[unsafe(no_mangle)]
+pub extern "C" fn pw_nearest(
+    alloc: Global,
+    world: &mut PwWorld,
+    near: &PwNear,
+    out: &mut [PwHandle],
+    count: &mut usize,
+) -> u32
+    ensures { let reply : Reply = record { status = result; count = count.new } in
+        Calls (λ was now. IsKept was.world now.world × (let old = state_of was.world in let entries = old.time.now.table.entries in
+        Asks ARGUMENT (Some (nearest_to entries (near_in near.now).at (min near.now.want SLOTS) near.now.mask)) old.spent reply out.old out.new))
+        (IsClosed reply out.old out.new) world.old.held.inner world.new.held.inner }
+{
+    let Some(mut held) = world.take(alloc) else {
+        *count = 0;
+        return CLOSED;
+    };
+    let reply = held.nearest(near, out);
+    world.put(held);
+    *count = reply.count;
+    reply.status
+}

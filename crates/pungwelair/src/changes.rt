@@ -1,0 +1,71 @@
+ghost use Rattle.std.specs.Prelude.{◌≡◌};
+ghost use Rattle.held_world.specs.declared.TheConstants.{CLOSED};
+ghost use Rattle.held_world.specs.Plain.{handle_in, masks_in};
+ghost use Rattle.pungwelair.specs.Exports.{Calls, SetsMasks, Updates, Marks, GoesBack};
+
+use crate::world::PwWorld;
+use held_world::{CLOSED, PwCounts, PwHandle, PwMasks};
+use std::alloc::Global;
+
+/// A box gets other masks.
+#[unsafe(no_mangle)]
+pub extern "C" fn pw_mask(
+    alloc: Global,
+    world: &mut PwWorld,
+    handle: PwHandle,
+    masks: PwMasks,
+) -> u32
+    ensures { Calls (λ was now. SetsMasks (handle_in handle) (masks_in masks) result was.world now.world) (result ≡ CLOSED)
+        world.old.held.inner world.new.held.inner }
+{
+    let Some(mut held) = world.take(alloc) else {
+        return CLOSED;
+    };
+    let status = held.mask(&handle, &masks);
+    world.put(held);
+    status
+}
+
+/// Ends the frame, and tells how many pairs and events it has.
+#[unsafe(no_mangle)]
+pub extern "C" fn pw_update(alloc: Global, world: &mut PwWorld, counts: &mut PwCounts) -> u32
+    ensures { Calls (λ was now. Updates result counts.new was.world now.world) ((result ≡ CLOSED) × (counts.new ≡ record { pairs = 0; events = 0 }))
+        world.old.held.inner world.new.held.inner }
+{
+    let Some(mut held) = world.take(alloc) else {
+        *counts = PwCounts {
+            pairs: 0,
+            events: 0,
+        };
+        return CLOSED;
+    };
+    let status = held.update(counts);
+    world.put(held);
+    status
+}
+
+/// Marks the world as it stands.
+#[unsafe(no_mangle)]
+pub extern "C" fn pw_mark(alloc: Global, world: &mut PwWorld) -> u32
+    ensures { Calls (λ was now. Marks result was.world now.world) (result ≡ CLOSED) world.old.held.inner world.new.held.inner }
+{
+    let Some(mut held) = world.take(alloc) else {
+        return CLOSED;
+    };
+    let status = held.mark();
+    world.put(held);
+    status
+}
+
+/// Goes back to the newest mark.
+#[unsafe(no_mangle)]
+pub extern "C" fn pw_back(alloc: Global, world: &mut PwWorld) -> u32
+    ensures { Calls (λ was now. GoesBack result was.world now.world) (result ≡ CLOSED) world.old.held.inner world.new.held.inner }
+{
+    let Some(mut held) = world.take(alloc) else {
+        return CLOSED;
+    };
+    let status = held.back();
+    world.put(held);
+    status
+}

@@ -1,0 +1,48 @@
+ghost use Rattle.std.specs.Prelude.{◌≡◌, Option, Some, None, is_some, true};
+ghost use Rattle.held_world.specs.declared.held.HeldWorld.{HeldWorld};
+ghost use Rattle.pungwelair.specs.Held.{held};
+
+use held_world::HeldWorld;
+use raw_box::RawBox;
+use std::alloc::Global;
+use std::marker::Model;
+
+// A world's box as the pointer that C holds, and the world, where there is one.
+#[repr(C)]
+#[derive(Drop)]
+pub struct HeldBox {
+    at: *mut u8,
+    ghost inner: { Option HeldWorld },
+}
+
+impl Model for HeldBox {
+    ghost also_owns = { λ h. held h.at h.inner };
+}
+
+impl HeldBox {
+    pub(crate) fn none() -> HeldBox
+        ensures { result.inner ≡ None }
+    {
+        HeldBox {
+            at: std::ptr::null_mut(),
+        }
+    }
+
+    pub(crate) fn of(raw: RawBox<HeldWorld, Global>) -> HeldBox
+        ensures { result.inner ≡ Some raw.value }
+    {
+        let RawBox { at, alloc: _alloc } = raw;
+        HeldBox { at: at as *mut u8 }
+    }
+
+    pub(crate) fn into_raw_box(self, alloc: Global) -> RawBox<HeldWorld, Global>
+        requires { is_some self.inner ≡ true }
+        ensures { Some result.value ≡ self.inner }
+    {
+        let HeldBox { at } = self;
+        RawBox {
+            at: at as *mut HeldWorld,
+            alloc,
+        }
+    }
+}

@@ -1,0 +1,50 @@
+ghost use Rattle.std.specs.Prelude.{◌≡◌, ◌==◌, None, Some, is_some, option_map};
+
+use crate::held::HeldBox;
+use held_world::HeldWorld;
+use raw_box::RawBox;
+use std::alloc::Global;
+
+/// A world as C holds it: two words, zero where none is open.
+#[repr(C)]
+#[derive(Drop)]
+pub struct PwWorld {
+    pub(crate) state: u32,
+    pub(crate) held: HeldBox,
+    ghost tied: { is_some held.inner ≡ (state == 1) },
+}
+
+impl PwWorld {
+    // Takes out what is open, until it is put back.
+    pub(crate) fn take(&mut self, alloc: Global) -> Option<Box<HeldWorld>>
+        ensures taken { option_map (λ held. held.value) result ≡ self.old.held.inner }
+        ensures emptied { self.new.held.inner ≡ None }
+    {
+        if self.state != 1 {
+            return None;
+        }
+        let was = std::mem::replace(self, closed());
+        let PwWorld { state: _, held } = was;
+        Some(held.into_raw_box(alloc).into_box())
+    }
+
+    // Over an open world it would lose that without freeing it.
+    pub(crate) fn put(&mut self, held: Box<HeldWorld>)
+        requires empty { self.old.held.inner ≡ None }
+        ensures held { self.new.held.inner ≡ Some held.value }
+    {
+        *self = PwWorld {
+            state: 1,
+            held: HeldBox::of(RawBox::of(held)),
+        };
+    }
+}
+
+fn closed() -> PwWorld
+    ensures { result.held.inner ≡ None }
+{
+    PwWorld {
+        state: 0,
+        held: HeldBox::none(),
+    }
+}
