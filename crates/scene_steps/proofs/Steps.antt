@@ -1,6 +1,6 @@
 -- What a reader's answer says of the line that comes next.
-use Rattle.std.proofs.Common.{◌≡◌, ℕ, ◌+◌, ◌≤◌, ◌<◌, Bool, true, false, cond, ◌==◌, nat_lt, nat_le, List, [], ◌∷◌, ◌++◌, length, take}
-use Rattle.std.proofs.Common.{Option, Some, None, IfSome, option_map, Result, Ok, Err, refl, sym, ap, ◌∙◌, arith, length-take}
+use Rattle.std.proofs.Common.{◌≡◌, ℕ, ◌+◌, ◌≤◌, ◌<◌, Bool, true, false, cond, ◌==◌, nat_lt, nat_le, List, [], ◌∷◌, ◌++◌}
+use Rattle.std.proofs.Common.{length, take, Option, Some, None, IfSome, option_map, Result, Ok, Err, refl, sym, ap, ◌∙◌, arith, length-take}
 use Rattle.std.specs.List.{count_by}
 use Rattle.std.proofs.lemmas.Bool.{ltb-false}
 use Rattle.std.proofs.lemmas.Bool.Decides.{nat_tests}
@@ -35,13 +35,15 @@ next_past : (limit number : ℕ) → nat_le limit number ≡ true → limit < nu
 next_past limit number h = grind (arith, nat_tests)
 
 -- which tests an answer comes by
-line_when : (a b c : Bool) → next.Line ≡ cond a next.End (cond b next.TooMany (cond c next.Long next.Line)) → (a ≡ false) × (b ≡ false) × (c ≡ false)
+line_when : (a b c : Bool) → next.Line ≡ cond a next.End (cond b next.TooMany (cond c next.Long next.Line))
+    → (a ≡ false) × (b ≡ false) × (c ≡ false)
 line_when true b c h = absurd (cc)
 line_when false true c h = absurd (cc)
 line_when false false true h = absurd (cc)
 line_when false false false h = (refl, refl, refl)
 
-long_when : (a b c : Bool) → next.Long ≡ cond a next.End (cond b next.TooMany (cond c next.Long next.Line)) → (a ≡ false) × (b ≡ false) × (c ≡ true)
+long_when : (a b c : Bool) → next.Long ≡ cond a next.End (cond b next.TooMany (cond c next.Long next.Line))
+    → (a ≡ false) × (b ≡ false) × (c ≡ true)
 long_when true b c h = absurd (cc)
 long_when false true c h = absurd (cc)
 long_when false false true h = (refl, refl, refl)
@@ -58,7 +60,8 @@ module _ (law : FirstLine) (version : Option Version) (live limit number k : ℕ
   says line = unless_full live (readable version line)
 
   -- the line that comes, by what is said of it
-  comes : (bytes : List ℕ) (said : Result Command Cause) → 0 < length bytes → said ≡ within_limits limit (number + 1) (line_ahead bytes) (says (line_ahead bytes))
+  comes : (bytes : List ℕ) (said : Result Command Cause) → 0 < length bytes
+      → said ≡ within_limits limit (number + 1) (line_ahead bytes) (says (line_ahead bytes))
       → Line version live limit (number + 1) bytes (step_for k said)
   comes bytes said some is = record { first = law bytes some; is = ap (λ j. step_for j said) named ∙ ap (step_for (number + 1)) is }
 
@@ -72,7 +75,8 @@ module _ (law : FirstLine) (version : Option Version) (live limit number k : ℕ
   unless_read (Err c) P p = p
 
   handed : (o : Option (List ℕ)) (line : List ℕ) (said : Result Command Cause) → said ≡ says line → IfSome o (λ bytes. line ≡ line_ahead bytes)
-      → IfSome o (λ bytes. next.Line ≡ answer_at limit number bytes) → IfSome o (λ bytes. IsStepOf version live limit (number + 1) bytes (step_for k said))
+      → IfSome o (λ bytes. next.Line ≡ answer_at limit number bytes)
+      → IfSome o (λ bytes. IsStepOf version live limit (number + 1) bytes (step_for k said))
   handed None line said is same exact = tt
   handed (Some bytes) line said is same exact =
       let when = line_when (length bytes == 0) (nat_le limit number) (nat_lt LONGEST_LINE (length (line_ahead bytes))) exact in
@@ -81,8 +85,8 @@ module _ (law : FirstLine) (version : Option Version) (live limit number k : ℕ
       (ltb-false LONGEST_LINE (length (line_ahead bytes)) when.2))))
 
   -- a line that is handed out
-  pub line_says : (o : Option (List ℕ)) (line : List ℕ) (said : Result Command Cause) → said ≡ says line → IfSome o (λ bytes. line ≡ line_ahead bytes)
-      → IfSome o (λ bytes. next.Line ≡ answer_at limit number bytes)
+  pub line_says : (o : Option (List ℕ)) (line : List ℕ) (said : Result Command Cause) → said ≡ says line
+      → IfSome o (λ bytes. line ≡ line_ahead bytes) → IfSome o (λ bytes. next.Line ≡ answer_at limit number bytes)
       → UnlessReadFault (step_for k said) (IfSome o (λ bytes. IsStepOf version live limit (number + 1) bytes (step_for k said)))
   line_says o line said is same exact =
       unless_read said (IfSome o (λ bytes. IsStepOf version live limit (number + 1) bytes (step_for k said))) (handed o line said is same exact)
@@ -114,7 +118,8 @@ abbrev pub OneFeed : Type 0
 OneFeed = (bytes : List ℕ) → count_by is_feed (take (length_ahead bytes + 1) bytes) ≤ 1
 
 abbrev pub LineEnds : Type 0
-LineEnds = (bytes more : List ℕ) → has_feed bytes ≡ true → lines (take (length_ahead bytes + 1) bytes ++ more) false ≡ line_ahead bytes ∷ lines more false
+LineEnds = (bytes more : List ℕ) → has_feed bytes ≡ true
+    → lines (take (length_ahead bytes + 1) bytes ++ more) false ≡ line_ahead bytes ∷ lines more false
 
 missing : (a b : Bool) → (a ≡ false → b ≡ true) → b ≡ false → a ≡ true
 missing true b h isnt = refl

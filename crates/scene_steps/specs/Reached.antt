@@ -10,8 +10,8 @@ use Rattle.play_rules.specs.Outcome.{IsReplyTo, IsReadUpTo}
 
 -- Where line number n comes next in a state: the replies so far before the run over what is left are what all that was given comes to.
 -- While the input may go on, the same holds of whatever follows the bytes of the lines that were read. These hold fewer than n ends of lines.
-pub record IsReached {W : Type 0} (course : Course W) (play : List (List ℕ) → Played) (limit : ℕ) (given : List ℕ) (left : Option (List ℕ)) (held : List ℕ)
-    (over : Bool) (w : W) (n : ℕ) (out : List ℕ) : Type 0 where
+pub record IsReached {W : Type 0} (course : Course W) (play : List (List ℕ) → Played) (limit : ℕ) (given : List ℕ) (left : Option (List ℕ))
+    (held : List ℕ) (over : Bool) (w : W) (n : ℕ) (out : List ℕ) : Type 0 where
   pub bytes : List ℕ
   pub coming : coming held left ≡ Some bytes
   pub so_far : reply_first out (run_from course limit w n (lines bytes true)) ≡ play (lines given true)

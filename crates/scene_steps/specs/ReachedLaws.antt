@@ -1,6 +1,6 @@
 -- Serves proofs alone: what each answer of the reading makes of a run over the lines of a scene, for any course.
 use Rattle.std.specs.Prelude.{◌≡◌, ℕ, ◌+◌, ◌-◌, ◌≤◌, ◌<◌, Bool, true, false, nat_lt, List, [], ◌∷◌, ◌++◌, length, take}
-use Rattle.std.specs.Prelude.{Option, Some, None, IfSome, option_map, is_some, Result, Ok, Err, IfOk, is_ok}
+use Rattle.std.specs.Prelude.{Option, Some, None, IfSome, option_map, is_some, Result, Ok, Err, IfOk}
 use Rattle.std.specs.Io.KnownBytes.{prepend_known}
 use Rattle.std.specs.List.{count_by}
 use Rattle.std.proofs.Common.{refl, sym, ap, subst, cond, ◌∙◌}
@@ -20,20 +20,20 @@ use Rattle.scene_words.specs.declared.command.Command.TheVariants.{Blank, Header
 use Rattle.scene_words.specs.declared.command.Command.TheVariants.{Back}
 use Rattle.scene_words.specs.declared.line_fault.LineFault.{LineFault}
 use Rattle.scene_words.specs.declared.version.Version.{Version}
-use Rattle.scene_words.specs.SceneWords.{command}
 use Rattle.play_rules.specs.declared.status.Status.{Status}
 use Rattle.play_rules.specs.declared.status.Status.TheVariants.{Done, Refused, ReadFault}
 use Rattle.play_rules.specs.Course.{Course, Played, within_limits, refused_at, ended_at, reply_first, step, run_from, whole}
 use Rattle.play_rules.specs.CourseLaws.{both_first, no_replies, replies_begin}
 use Rattle.play_rules.specs.Outcome.{READ_AHEAD, IsReadUpTo}
-use Rattle.play_rules.specs.Readable.{allowed_first, allowed_later, allowed_in, reads_under, readable, unless_full}
+use Rattle.play_rules.specs.Readable.{allowed_first, allowed_later, allowed_in, readable, unless_full}
 use Rattle.scene_steps.specs.declared.step.Step.{Step}
 use Rattle.scene_steps.specs.declared.step.Step.TheVariants as what
 use Rattle.scene_steps.specs.Step.{step_for, Line, IsStepOf, IsPast, IsAhead}
 use Rattle.scene_steps.specs.Reached.{IsReached, IsTextOf}
 
 -- a command that passes before a header passes there again
-kept_first : (live : ℕ) (said : Result Command LineFault) → IfOk (unless_full live (allowed_first said)) (λ c. unless_full live (allowed_first (Ok c)) ≡ Ok c)
+kept_first : (live : ℕ) (said : Result Command LineFault)
+    → IfOk (unless_full live (allowed_first said)) (λ c. unless_full live (allowed_first (Ok c)) ≡ Ok c)
 kept_first live (Err f) = tt
 kept_first live (Ok Blank) = refl
 kept_first live (Ok (Header version)) = refl
@@ -52,7 +52,8 @@ kept_first live (Ok Mark) = tt
 kept_first live (Ok Back) = tt
 
 -- and so it does later
-kept_later : (live : ℕ) (said : Result Command LineFault) → IfOk (unless_full live (allowed_later said)) (λ c. unless_full live (allowed_later (Ok c)) ≡ Ok c)
+kept_later : (live : ℕ) (said : Result Command LineFault)
+    → IfOk (unless_full live (allowed_later said)) (λ c. unless_full live (allowed_later (Ok c)) ≡ Ok c)
 kept_later live (Err f) = tt
 kept_later live (Ok Blank) = refl
 kept_later live (Ok (Header version)) = tt
@@ -105,27 +106,10 @@ number_of_step : (n : ℕ) (said : Result Command Cause) → numbered n (step_fo
 number_of_step n (Ok c) = refl
 number_of_step n (Err c) = refl
 
--- a line that passes the limits too says what it comes to
-within_passed : (limit n : ℕ) (line : List ℕ) (said : Result Command Cause) (c : Command) → within_limits limit n line said ≡ Ok c → said ≡ Ok c
-unfolding within_limits
-within_passed limit n line said c = go (nat_lt limit n) (nat_lt LONGEST_LINE (length line))
-  where
-    go : (many long : Bool) → cond many (Err cause.Lines) (cond long (Err cause.Long) said) ≡ Ok c → said ≡ Ok c
-    go true long is = absurd (false≢true (ap is_ok is))
-    go false true is = absurd (false≢true (ap is_ok is))
-    go false false is = is
-
 asked : (version : Option Version) (live limit n : ℕ) (bytes : List ℕ) (s : Step) → Line version live limit n bytes s
     → within_limits limit n (line_ahead bytes) (unless_full live (readable version (line_ahead bytes))) ≡ said_by s
 asked version live limit n bytes s next =
     said_of_step n (within_limits limit n (line_ahead bytes) (unless_full live (readable version (line_ahead bytes)))) ∙ ap said_by (sym next.is)
-
-pub step_allowed : (version : Option Version) (live limit n : ℕ) (bytes : List ℕ) (c : Command) → IsStepOf version live limit n bytes (what.Command c)
-    → unless_full live (allowed_in version (Ok c)) ≡ Ok c
-step_allowed version live limit n bytes c next =
-    allowed_again version live (command (reads_under version) (line_ahead bytes)) c
-    (within_passed limit n (line_ahead bytes) (unless_full live (readable version (line_ahead bytes))) c
-    (asked version live limit n bytes (what.Command c) next))
 
 -- the bytes of two parts come as those of the first before the others
 in_parts : (front back : List ℕ) (left : Option (List ℕ)) → prepend_known (front ++ back) left ≡ prepend_known front (prepend_known back left)
@@ -136,8 +120,8 @@ feeds_joined : (xs ys : List ℕ) → count_by is_feed (xs ++ ys) ≡ count_by i
 feeds_joined xs ys = sum_by-append (λ b. cond {A = ℕ} (is_feed b) 1 0) xs ys
 
 -- the bytes taken, but for the last of them, hold no more ends of lines than those before the line
-read_up_to : (n : ℕ) (given front behind : List ℕ) (now : Option (List ℕ)) → Some given ≡ prepend_known (front ++ behind) now → count_by is_feed front < n
-    → length behind ≤ READ_AHEAD → IsReadUpTo n given now
+read_up_to : (n : ℕ) (given front behind : List ℕ) (now : Option (List ℕ))
+    → Some given ≡ prepend_known (front ++ behind) now → count_by is_feed front < n → length behind ≤ READ_AHEAD → IsReadUpTo n given now
 read_up_to n given front behind now split few short =
     let cut : ℕ = length (front ++ behind) - READ_AHEAD in
     let within : cut ≤ length front =
@@ -178,7 +162,8 @@ ended_with p out last status passed is = (sym (ap (λ q. q.status) is), ap (λ o
 -- the two ends of an input
 abbrev ended_or : {W : Type 0} → Course W → W → ℕ → Bool → Played
 ended_or course w n begun =
-    cond begun (record { replies = []; last = course.last w (n - 1); status = Done; passed = true }) (record (refused_at course n cause.Header) { passed = true })
+    cond begun (record { replies = []; last = course.last w (n - 1); status = Done; passed = true })
+    (record (refused_at course n cause.Header) { passed = true })
 
 -- every line that ended passed
 all_passed : {W : Type 0} (course : Course W) (w : W) (n : ℕ) → (ended_at course w n).passed ≡ true
@@ -189,8 +174,8 @@ all_passed course w n = go (course.is_begun w)
     go false = refl
 
 -- before the first line
-pub opened : {W : Type 0} (course : Course W) (play : List (List ℕ) → Played) (limit : ℕ) (start : W) (left : Option (List ℕ)) (reader : Reading) (w : W)
-    (out : List ℕ)
+pub opened : {W : Type 0} (course : Course W) (play : List (List ℕ) → Played) (limit : ℕ) (start : W) (left : Option (List ℕ)) (reader : Reading)
+    (w : W) (out : List ℕ)
     → ((ls : List (List ℕ)) → run_from course limit start 1 ls ≡ play ls)
     → reader ≡ record { limit = limit; line = []; number = 0; ended = false; over = false; held = [] } → w ≡ start → out ≡ []
     → IfSome left (λ given. IsReached course play limit given left reader.held reader.over w (reader.number + 1) out)
@@ -208,26 +193,13 @@ opened course play limit start (Some given) reader w out runs fresh starts none 
       feeds = lt-add-one 0;
     })))
 
-module _ {W : Type 0} {course : Course W} {play : List (List ℕ) → Played} {limit : ℕ} {given : List ℕ} {left : Option (List ℕ)} {held : List ℕ} {over : Bool}
-    {w : W} {n : ℕ} {out : List ℕ} (reached : IsReached course play limit given left held over w n out) where
+module _ {W : Type 0} {course : Course W} {play : List (List ℕ) → Played} {limit : ℕ} {given : List ℕ} {left : Option (List ℕ)} {held : List ℕ}
+    {over : Bool} {w : W} {n : ℕ} {out : List ℕ} (reached : IsReached course play limit given left held over w n out) where
   -- what was replied begins the text of all
   pub replied_within : IsPrefix out (whole (play (lines given true)))
   replied_within =
       let p = run_from course limit w n (lines reached.bytes true) in
       (p.replies ++ p.last, sym (ap whole reached.so_far) ∙ append_assoc out p.replies p.last)
-
-  -- another state from which each run is the same
-  pub reached_alike : (v : W) → ((ls : List (List ℕ)) → run_from course limit v n ls ≡ run_from course limit w n ls)
-      → IsReached course play limit given left held over v n out
-  reached_alike v same = record {
-    bytes = reached.bytes;
-    coming = reached.coming;
-    so_far = ap (reply_first out) (same (lines reached.bytes true)) ∙ reached.so_far;
-    front = reached.front;
-    split = reached.split;
-    ahead = λ goes more. ap (reply_first out) (same (lines more false)) ∙ reached.ahead goes more;
-    feeds = reached.feeds;
-  }
 
   -- what is known of the bytes that are coming
   of_coming : (P : List ℕ → Type 0) → IfSome (coming held left) P → P reached.bytes
@@ -235,18 +207,21 @@ module _ {W : Type 0} {course : Course W} {play : List (List ℕ) → Played} {l
 
   -- where the next line is this, so is the rest of the run
   at_line : (line : List ℕ) (more : List (List ℕ)) (said : Result Command Cause) → within_limits limit n line (course.asks w line) ≡ said
-      → reply_first out (step course w n said (λ next. run_from course limit next (n + 1) more)) ≡ reply_first out (run_from course limit w n (line ∷ more))
+      → reply_first out (step course w n said (λ next. run_from course limit next (n + 1) more))
+      ≡ reply_first out (run_from course limit w n (line ∷ more))
   at_line line more said is = ap (λ r. reply_first out (step course w n r (λ next. run_from course limit next (n + 1) more))) (sym is)
 
   module _ (version : Option Version) (live : ℕ) (asks : (line : List ℕ) → course.asks w line ≡ unless_full live (readable version line)) where
     comes_to : (s : Step) → Line version live limit n reached.bytes s
         → within_limits limit n (line_ahead reached.bytes) (course.asks w (line_ahead reached.bytes)) ≡ said_by s
-    comes_to s next = ap (within_limits limit n (line_ahead reached.bytes)) (asks (line_ahead reached.bytes)) ∙ asked version live limit n reached.bytes s next
+    comes_to s next =
+        ap (within_limits limit n (line_ahead reached.bytes)) (asks (line_ahead reached.bytes)) ∙ asked version live limit n reached.bytes s next
 
     -- a line that passes: the run has come one line further
     pub line_played : (c : Command) (later : List ℕ) (now : Option (List ℕ)) (over' : Bool)
         → IfSome (coming held left) (λ bytes. IsStepOf version live limit n bytes (what.Command c))
-        → coming later now ≡ option_map past_line (coming held left) → IfSome (coming held left) (λ bytes. IsPast bytes over') → (over ≡ true → over' ≡ true)
+        → coming later now ≡ option_map past_line (coming held left) → IfSome (coming held left) (λ bytes. IsPast bytes over')
+        → (over ≡ true → over' ≡ true)
         → IsReached course play limit given now later over' (course.after w c) (n + 1) (out ++ course.text w c)
     line_played c later now over' says rest past stays =
         let bytes = reached.bytes in
@@ -263,7 +238,8 @@ module _ {W : Type 0} {course : Course W} {play : List (List ℕ) → Played} {l
           coming = rest ∙ ap (option_map past_line) reached.coming;
           so_far = goes_on (lines (past_line bytes) true) ∙ ap (λ ls. reply_first out (run_from course limit w n ls)) (sym next.first) ∙ reached.so_far;
           front = front ++ cut;
-          split = reached.split ∙ ap (λ b. front ++ b) (sym (take-append-drop (length_ahead bytes + 1) bytes)) ∙ sym (append_assoc front cut (past_line bytes));
+          split = reached.split ∙ ap (λ b. front ++ b) (sym (take-append-drop (length_ahead bytes + 1) bytes))
+              ∙ sym (append_assoc front cut (past_line bytes));
           ahead = λ goes more.
               goes_on (lines more false) ∙ ap (λ ls. reply_first out (run_from course limit w n ls)) (sym (behind.ended goes more))
               ∙ reached.ahead (still_going over over' stays goes) (cut ++ more) ∙ ap (λ b. play (lines b false)) (sym (append_assoc front cut more));
@@ -294,7 +270,8 @@ module _ {W : Type 0} {course : Course W} {play : List (List ℕ) → Played} {l
         )
 
   -- what was taken behind the bytes of the lines that were read, where nothing was handed out
-  kept_behind : (later : List ℕ) (now : Option (List ℕ)) → coming later now ≡ coming held left → Some given ≡ prepend_known (reached.front ++ later) now
+  kept_behind : (later : List ℕ) (now : Option (List ℕ)) → coming later now ≡ coming held left
+      → Some given ≡ prepend_known (reached.front ++ later) now
   kept_behind later now kept =
       ap Some reached.split ∙ ap (prepend_known reached.front) (sym (kept ∙ reached.coming)) ∙ sym (in_parts reached.front later now)
 
@@ -331,7 +308,8 @@ module _ {W : Type 0} {course : Course W} {play : List (List ℕ) → Played} {l
         )
 
     -- the input ends where none came
-    pub input_unbegun : (later : List ℕ) (now : Option (List ℕ)) → coming later now ≡ coming held left → length later ≤ BUFFER_LEN → course.is_begun w ≡ false
+    pub input_unbegun : (later : List ℕ) (now : Option (List ℕ)) → coming later now ≡ coming held left → length later ≤ BUFFER_LEN
+        → course.is_begun w ≡ false
         → IsTextOf play given now (out ++ course.last_refused (k + 1) cause.Header) (Refused (k + 1) cause.Header)
     input_unbegun later now kept small begun =
         let none = of_coming (λ b. IsStepOf version live limit n b (what.End k)) ends in

@@ -1,6 +1,6 @@
 ghost use Rattle.std.specs.Prelude.{◌≡◌, ◌+◌, ◌-◌, ◌^◌, ◌<◌, ◌≤◌, [], length, true, false, option_map, Ok, IfOk, IfSome};
 ghost use Rattle.scene_lines.specs.Reading.{coming};
-ghost use Rattle.scene_lines.specs.SceneLines.{lines, has_feed, past_line};
+ghost use Rattle.scene_lines.specs.SceneLines.{lines, past_line};
 ghost use Rattle.scene_lines.specs.declared.TheConstants.{BUFFER_LEN};
 ghost use Rattle.scene_words.specs.Ranges.{IsPrintable};
 ghost use Rattle.play_rules.specs.Readable.{allowed_in, unless_full};
@@ -55,7 +55,6 @@ pub fn next_step<S: Source>(
     ensures number { OnCommand result (reader.new.number ≡ reader.old.number + 1) }
     ensures within { OnCommand result (reader.new.number ≤ reader.new.limit) }
     ensures open { OnCommand result (reader.new.ended ≡ false) }
-    ensures last_at_end { OnCommand result (IfSome (coming reader.old.held (S.left source.old)) (λ bytes. has_feed bytes ≡ false → reader.new.over ≡ true)) }
     ensures past { OnCommand result (IfSome (coming reader.old.held (S.left source.old)) (λ bytes. IsPast bytes reader.new.over)) }
 
     // Little more is read than a line that is refused.
@@ -66,7 +65,6 @@ pub fn next_step<S: Source>(
     ensures counted { IfEnd result (λ lines. lines ≡ reader.old.number) }
     ensures fault { OnReadFault result (S.faults source.old < S.faults source.new) }
     ensures no_fault { UnlessReadFault result (S.faults source.new ≡ S.faults source.old) }
-    ensures unfinished { OnReadFault result (has_feed reader.new.held ≡ false) }
     ensures none_ended { OnReadFault result (lines reader.new.held false ≡ []) }
     ensures going_on { OnReadFault result (reader.old.over ≡ false) }
 

@@ -21,8 +21,9 @@ returns-in-Line-clause-says g c =
     c.read_command.ensures.command ∙ ap (λ v. command v c.line.result.now) c.reads_under.ensures
     ∙ ap (command (reads_under c.args.version)) c.line.ensures.value in
     subst P (sym c.step_for.ensures.step)
-    (line_says c.line_laws.ensures.first c.args.version c.args.live reader.limit reader.number c.number.result (c.number.ensures.value ∙ c.in-Line.ensures.number)
-    o c.next.new.self.line (comes c.read_command.result) (ap comes read) c.in-Line.ensures.line c.in-Line.ensures.exact)
+    (line_says c.line_laws.ensures.first c.args.version c.args.live reader.limit reader.number c.number.result
+    (c.number.ensures.value ∙ c.in-Line.ensures.number) o c.next.new.self.line (comes c.read_command.result) (ap comes read) c.in-Line.ensures.line
+    c.in-Line.ensures.exact)
 
 pub returns-in-Long-clause-says : goal.returns-in-Long-clause-says
 returns-in-Long-clause-says g c =
@@ -67,7 +68,8 @@ returns-in-Line-clause-ahead g c =
 
 pub returns-in-Long-clause-ahead : goal.returns-in-Long-clause-ahead
 returns-in-Long-clause-ahead g c =
-    nothing_cut (coming c.args.reader.now.held (g.S.Source.left c.args.source.now)) (g.S.Source.left c.next.new.source) c.next.new.self.held c.in-Long.ensures.kept
+    nothing_cut (coming c.args.reader.now.held (g.S.Source.left c.args.source.now)) (g.S.Source.left c.next.new.source) c.next.new.self.held
+    c.in-Long.ensures.kept
 
 pub returns-in-TooMany-clause-ahead : goal.returns-in-TooMany-clause-ahead
 returns-in-TooMany-clause-ahead g c =
