@@ -1,12 +1,12 @@
 -- What writing the text of a run over the lines of a scene comes to.
-use Rattle.std.proofs.Common.{◌^◌, ◌-◌, ◌≡◌, ℕ, ◌<◌, true, false, List, [], length}
-use Rattle.std.proofs.Common.{◌++◌, Option, Some, None, IfSome, OnOk, Result, Ok, Err, option_map, sym, ap, subst, ◌∙◌, arith}
-use Rattle.std.specs.Io.KnownBytes.{append_known, prepend_known}
+use Rattle.std.proofs.Common.{◌^◌, ◌-◌, ◌≡◌, ℕ, ◌<◌, true, List, [], length}
+use Rattle.std.proofs.Common.{◌++◌, Option, IfSome, OnOk, Result, Ok, Err, option_map, sym, ap, subst, ◌∙◌, arith}
+use Rattle.std.specs.Io.KnownBytes.{append_known}
 use Rattle.std.proofs.lemmas.List.{append-nil}
 use Rattle.play_io.specs.Source.{CountsFault}
 use Rattle.play_io.specs.declared.sink.SinkFault.{SinkFault}
 use Rattle.play_io.specs.declared.sink.SinkFault.TheVariants as why
-use Rattle.scene_lines.specs.SceneLines.{lines, IsPrefix}
+use Rattle.scene_lines.specs.SceneLines.{lines}
 use Rattle.play_rules.specs.declared.status.Status.{Status}
 use Rattle.play_rules.specs.declared.status.Status.TheVariants.{Done, Refused, ReadFault}
 use Rattle.play_rules.specs.Course.{Played, whole}

@@ -11,7 +11,8 @@ use Rattle.play_rules.specs.World.{World, live_in, reply}
 use Rattle.frame_player.specs.Owed.{asked_by, answer_line, answers, query_for}
 
 -- one more query is held
-answers_push : (entries : List Live) (run : List Asked) (asked : Asked) → answers entries (run ++ asked ∷ []) ≡ answers entries run ++ answer_line entries asked
+answers_push : (entries : List Live) (run : List Asked) (asked : Asked)
+    → answers entries (run ++ asked ∷ []) ≡ answers entries run ++ answer_line entries asked
 answers_push entries [] asked = append-nil _
 answers_push entries (first ∷ run) asked =
     ap (λ t. answer_line entries first ++ t) (answers_push entries run asked)

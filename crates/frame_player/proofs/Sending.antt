@@ -40,7 +40,8 @@ handed_on a b c text held left first second = record {
   uncalled = uncalled_on a b c first.unfailed first.uncalled second.uncalled;
 }
 
-pub stopped_on : (a b c : Outlet) (text held : List ℕ) (fault : SinkFault) → IsHanded a b text held → IsStopped b c held fault → IsStopped a c text fault
+pub stopped_on : (a b c : Outlet) (text held : List ℕ) (fault : SinkFault)
+    → IsHanded a b text held → IsStopped b c held fault → IsStopped a c text fault
 stopped_on a b c text held fault first second = record {
   begun = record {
     part = first.part ++ second.begun.part;
@@ -88,8 +89,8 @@ handed_as a b text held text' held' e f h = subst (λ t. IsHanded a b t held') e
 pub stopped_as : (a b : Outlet) (text text' : List ℕ) (fault : SinkFault) → text ≡ text' → IsStopped a b text fault → IsStopped a b text' fault
 stopped_as a b text text' fault e s = subst (λ t. IsStopped a b t fault) e s
 
-pub sent_as : {T : Type 0} (a b : Outlet) (text held text' held' : List ℕ) (r : Result T SinkFault) → text ≡ text' → held ≡ held' → IsSent a b text held r
-    → IsSent a b text' held' r
+pub sent_as : {T : Type 0} (a b : Outlet) (text held text' held' : List ℕ) (r : Result T SinkFault)
+    → text ≡ text' → held ≡ held' → IsSent a b text held r → IsSent a b text' held' r
 sent_as a b text held text' held' (Ok _) e f s = handed_as a b text held text' held' e f s
 sent_as a b text held text' held' (Err fault) e f s = stopped_as a b text text' fault e s
 
@@ -113,7 +114,8 @@ said_on P Q a b c held piece left s h grows =
       whole = subst Q same (grows (s.done ++ held) s.whole);
     }
 
-pub said_map : (P Q : List ℕ → Type 0) (a b : Outlet) (held : List ℕ) → IsSaid a b held P → ((all : List ℕ) → P all → Q all) → IsSaid a b held Q
+pub said_map : (P Q : List ℕ → Type 0) (a b : Outlet) (held : List ℕ)
+    → IsSaid a b held P → ((all : List ℕ) → P all → Q all) → IsSaid a b held Q
 said_map P Q a b held s f = record { done = s.done; written = s.written; unfailed = s.unfailed; uncalled = s.uncalled; whole = f (s.done ++ held) s.whole }
 
 -- where the source tells its bytes
@@ -157,7 +159,8 @@ stopped_so a b text held (Ok x) fault is s = absurd is
 stopped_so a b text held (Err e) fault is s = subst (λ f. IsStopped a b text f) (sym is) s
 
 -- memory ran out before the sink was called
-pub out_of_memory : {T : Type 0} (a : Outlet) (text held : List ℕ) (r : Result T SinkFault) → IsErrAnd r (λ e. e ≡ why.NoMemory) → IsSent a a text held r
+pub out_of_memory : {T : Type 0} (a : Outlet) (text held : List ℕ) (r : Result T SinkFault)
+    → IsErrAnd r (λ e. e ≡ why.NoMemory) → IsSent a a text held r
 out_of_memory a text held r is = stopped_so a a text held r why.NoMemory is (stopped_here a text)
 
 -- the same of a report, whose sink goes by the name that it had

@@ -69,9 +69,11 @@ pub record IsCutShort (before now : Outlet) (fault : SinkFault) (begun : Type 0)
   pub uncalled : IsUncalled before now
 
 -- the same two of a report's sink
-abbrev pub IsSaidBy : {K : Type 0} → (K → Option (List ℕ)) → (K → ℕ) → (K → Option ℕ) → Report K → Report K → List ℕ → (List ℕ → Type 0) → Type 0
+abbrev pub IsSaidBy : {K : Type 0} → (K → Option (List ℕ)) → (K → ℕ) → (K → Option ℕ) → Report K → Report K
+    → List ℕ → (List ℕ → Type 0) → Type 0
 IsSaidBy written faults since before now held P = IsSaid (outlet_of written faults since before) (outlet_of written faults since now) held P
 
-abbrev pub IsCutShortBy : {K : Type 0} → (K → Option (List ℕ)) → (K → ℕ) → (K → Option ℕ) → Report K → Report K → SinkFault → Type 0 → Type 0
+abbrev pub IsCutShortBy : {K : Type 0} → (K → Option (List ℕ)) → (K → ℕ) → (K → Option ℕ) → Report K → Report K
+    → SinkFault → Type 0 → Type 0
 IsCutShortBy written faults since before now fault begun =
     IsCutShort (outlet_of written faults since before) (outlet_of written faults since now) fault begun

@@ -24,14 +24,18 @@ pub record HasRoom (w : Boxes) : Type 0 where
   pub shift : (handle : Handle) → shift_refusal w handle ≢ Some Exhausted
   pub frame : frame_refusal w ≢ Some Exhausted
 
+-- a command that is answered at once: neither a blank line nor a query that can wait
+abbrev pub IsAtOnce : Command → Type 0
+IsAtOnce Blank = ⊥
+IsAtOnce (BoxQ body mask) = ⊥
+IsAtOnce (PointQ at mask) = ⊥
+IsAtOnce (RayQ ray mask entry) = ⊥
+IsAtOnce (SegQ seg mask) = ⊥
+IsAtOnce (Cast cast mask) = ⊥
+IsAtOnce other = Unit {0}
+
 -- a command that changes the world at once, and replies in at most one line
 abbrev pub IsChange : Command → Type 0
-IsChange Blank = ⊥
 IsChange Frame = ⊥
-IsChange (BoxQ body mask) = ⊥
-IsChange (PointQ at mask) = ⊥
-IsChange (RayQ ray mask entry) = ⊥
-IsChange (SegQ seg mask) = ⊥
-IsChange (Cast cast mask) = ⊥
 IsChange (Near at want mask) = ⊥
-IsChange other = Unit {0}
+IsChange other = IsAtOnce other

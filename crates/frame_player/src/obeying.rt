@@ -5,7 +5,7 @@ ghost use Rattle.play_rules.specs.World.{after, allowed, reply};
 ghost use Rattle.scene_words.specs.Ranges.{IsPrintable, IsWanted};
 ghost use Rattle.frame_player.specs.Outlet.{IsAppended, IsSentBy};
 ghost use Rattle.frame_player.specs.Owed.{owed, IsRun};
-ghost use Rattle.frame_player.specs.Player.{world_of, live_in, HasRoom, IsChange};
+ghost use Rattle.frame_player.specs.Player.{world_of, live_in, HasRoom, IsAtOnce, IsChange};
 
 use crate::asked::Asked;
 use crate::player::Player;
@@ -42,17 +42,37 @@ pub(crate) fn obey<R: Threads + Sync, B: BroadPhase + Sync + Drop, G: Gate + Syn
         (out.new.text.now.items ++ owed (live_in player.new.world) run.new) result }
     ensures run { OnOk result (IsRun run.new) }
 {
+    if matches!(command, Command::Blank) {
+        return Ok(());
+    }
     if let Some(asked) = Asked::by(command) {
         return gather(setup, player, run, asked, out);
     }
+    settle(setup, player, run, out)?;
+    obey_now(setup, player, command, out)
+}
+
+// Does what a line asks for that is answered at once, where nothing is owed.
+fn obey_now<R: Threads + Sync, B: BroadPhase + Sync + Drop, G: Gate + Sync, K: Sink>(
+    setup: &Setup<'_, R, G>,
+    player: &mut Player<B>,
+    command: &Command,
+    out: &mut Report<'_, K>,
+) -> Result<(), SinkFault>
+    requires sound { player.old.world.spent ≡ false }
+    requires allowed { allowed (world_of player.old.version player.old.world) (Ok command.now) ≡ Ok command.now }
+    requires printable { IsPrintable command.now }
+    requires room { HasRoom player.old.world.time.now }
+    requires at_once { IsAtOnce command.now }
+    ensures obeyed { OnOk result (world_of player.new.version player.new.world
+        ≡ after B.COUNTS (world_of player.old.version player.old.world) command.now) }
+    ensures sound { OnOk result (player.new.world.spent ≡ false) }
+    ensures sent { IsAppended K.written K.faults K.since out.old out.new
+        (reply setup.now.options.exchanges (world_of player.old.version player.old.world) command.now) result }
+{
     match command {
-        Command::Blank => Ok(()),
-        Command::Frame => {
-            settle(setup, player, run, out)?;
-            player.end_frame(setup, out)
-        }
+        Command::Frame => player.end_frame(setup, out),
         Command::Near { at, want, mask } => {
-            settle(setup, player, run, out)?;
             let query = NearQuery {
                 at: *at,
                 want: *want,
@@ -60,10 +80,7 @@ pub(crate) fn obey<R: Threads + Sync, B: BroadPhase + Sync + Drop, G: Gate + Syn
             };
             send_nearest(player, &query, out)
         }
-        _ => {
-            settle(setup, player, run, out)?;
-            change(player, command, out)
-        }
+        _ => change(player, command, out),
     }
 }
 

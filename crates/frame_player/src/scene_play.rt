@@ -1,4 +1,5 @@
-ghost use Rattle.std.specs.Prelude.{◌≡◌, ◌≢◌, ◌-◌, ◌^◌, ◌<◌, ◌≤◌, ◌++◌, [], true, false, length, IfOk, IfErr, OnOk, OnErr, IfSome, option_map};
+ghost use Rattle.std.specs.Prelude.{◌≡◌, ◌≢◌, ◌-◌, ◌^◌, ◌<◌, ◌≤◌, ◌++◌, [], true, false, length};
+ghost use Rattle.std.specs.Prelude.{IfOk, IfErr, OnOk, OnErr, IfSome, option_map};
 ghost use Rattle.broad_index.specs.Fresh.{IsFresh};
 ghost use Rattle.scene_lines.specs.SceneLines.{lines};
 ghost use Rattle.work_pieces.specs.declared.TheConstants.{MOST_WORKERS};
@@ -66,20 +67,18 @@ pub fn play<R: Threads + Sync, B: BroadPhase + Sync + Drop, G: Gate + Sync, S: S
         return Status::NoMemory;
     };
     let mut run = QueryRun::new(alloc);
-    let setup = Setup { rt, gate, options };
+    let setup = Setup {
+        rt,
+        gate,
+        options,
+        limits,
+    };
     let mut text = Vec::new(alloc);
     let mut out = Report {
         sink,
         text: &mut text,
     };
-    match play_lines(
-        &setup,
-        limits.lines,
-        &mut player,
-        &mut run,
-        source,
-        &mut out,
-    ) {
+    match play_lines(&setup, &mut player, &mut run, source, &mut out) {
         Ok(last) => {
             let sent = finish(&setup, &player, &mut run, last, &mut out);
             ended(last.status(), sent)
@@ -93,7 +92,6 @@ pub fn play<R: Threads + Sync, B: BroadPhase + Sync + Drop, G: Gate + Sync, S: S
 // owed still.
 fn play_lines<R: Threads + Sync, B: BroadPhase + Sync + Drop, G: Gate + Sync, S: Source, K: Sink>(
     setup: &Setup<'_, R, G>,
-    limit: u32,
     player: &mut Player<B>,
     run: &mut QueryRun,
     source: &mut S,
@@ -102,8 +100,6 @@ fn play_lines<R: Threads + Sync, B: BroadPhase + Sync + Drop, G: Gate + Sync, S:
     requires opening { world_of player.old.version player.old.world ≡ opening }
     requires sound { player.old.world.spent ≡ false }
     requires shown { setup.now.options.exchanges ≡ true → B.COUNTS ≡ true }
-    requires some_lines { 1 ≤ limit }
-    requires most_lines { limit ≤ MOST_LINES }
     requires source_count { S.faults source.old < 2 ^ 64 - 1 }
     requires nothing { out.old.text.now.items ≡ [] }
     requires asked { run.old.asked.items ≡ [] }
@@ -112,16 +108,17 @@ fn play_lines<R: Threads + Sync, B: BroadPhase + Sync + Drop, G: Gate + Sync, S:
     ensures said { IfOk result (λ last. IsSaidBy K.written K.faults K.since out.old out.new
         (out.new.text.now.items ++ owed (live_in player.new.world) run.new)
         (λ all. IfSome (S.left source.old) (λ given.
-        IsTextOf (played setup.now.options.exchanges limit) given (S.left source.new) (all ++ last_line last) (status_of last)))) }
+        IsTextOf (played setup.now.options.exchanges setup.now.limits.lines) given (S.left source.new) (all ++ last_line last) (status_of last)))) }
     ensures count { IfOk result (λ last. IsCountedAs (S.faults source.old) (S.faults source.new) (status_of last)) }
     ensures sound { OnOk result (player.new.world.spent ≡ false) }
     ensures run { OnOk result (IsRun run.new) }
     ensures stopped { IfErr result (λ fault. IsCutShortBy K.written K.faults K.since out.old out.new fault
         (IfSome (S.left source.old) (λ given.
-        IsBegun (K.written out.old.sink.now) (K.written out.new.sink.now) (report setup.now.options.exchanges limit (lines given true))))) }
+        IsBegun (K.written out.old.sink.now) (K.written out.new.sink.now)
+        (report setup.now.options.exchanges setup.now.limits.lines (lines given true))))) }
     ensures unread { OnErr result (S.faults source.new ≡ S.faults source.old) }
 {
-    let mut reader = LineReader::new(player.alloc, limit)?;
+    let mut reader = LineReader::new(player.alloc, setup.limits.lines)?;
     count_laws();
     uncounted_law();
     'lines: loop {

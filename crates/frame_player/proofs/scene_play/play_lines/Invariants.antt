@@ -1,10 +1,10 @@
 use Rattle.std.proofs.Common.{◌≡◌, ◌+◌, ◌-◌, ◌≤◌, ◌++◌, true, false, [], IfSome}
 use Rattle.play_rules.specs.Counted.{IsCounted}
 use Rattle.play_rules.specs.Play.{playing, played}
-use Rattle.scene_steps.specs.Reached.{IsReached}
 use Rattle.frame_player.specs.Outlet.{IsSaidBy}
 use Rattle.frame_player.specs.Owed.{owed, IsRun}
 use Rattle.frame_player.specs.Player.{world_of, live_in}
+use Rattle.frame_player.proofs.LoopSteps.{IsAt}
 use Rattle.frame_player.proofs.scene_play.play_lines.Given as goal
 
 -- the play so far, whose text is written, held or owed, and how little its numbers are
@@ -13,18 +13,17 @@ invariant-lines g l = record {
   same_sink : l.out.sink.ghost_name ≡ l.fn.out.sink.ghost_name;
   said : IsSaidBy g.K.Sink.written g.K.Sink.faults g.K.Sink.since l.fn.out l.out
       (l.out.text.now.items ++ owed (live_in l.player.world) l.run)
-      (λ all. IfSome (g.S.Source.left l.fn.source) (λ given.
-      IsReached (playing g.B.BroadPhase.COUNTS l.setup.options.exchanges) (played l.setup.options.exchanges l.limit) l.limit given
-      (g.S.Source.left l.source) l.reader.held l.reader.over (world_of l.player.version l.player.world) (l.reader.number + 1) all));
+      (IsAt (playing g.B.BroadPhase.COUNTS l.setup.options.exchanges) (played l.setup.options.exchanges l.setup.limits.lines) l.setup.limits.lines
+      (g.S.Source.left l.fn.source) (g.S.Source.left l.source) l.reader (world_of l.player.version l.player.world));
   sound : l.player.world.spent ≡ false;
   counted : IsCounted l.reader.number l.player.world.time;
   run : IsRun l.run;
   going_on : l.reader.ended ≡ false;
   at_end : l.reader.over ≡ true → IfSome (g.S.Source.left l.source) (λ left. left ≡ []);
-  limit : l.reader.limit ≡ l.limit;
-  number : l.reader.number ≤ l.limit;
+  limit : l.reader.limit ≡ l.setup.limits.lines;
+  number : l.reader.number ≤ l.setup.limits.lines;
   count : g.S.Source.faults l.source ≡ g.S.Source.faults l.fn.source;
 }
 
 abbrev pub decreases-lines : goal.decreases-lines
-decreases-lines g l = l.limit + 1 - l.reader.number
+decreases-lines g l = l.setup.limits.lines + 1 - l.reader.number
