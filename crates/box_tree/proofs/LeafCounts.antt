@@ -8,7 +8,7 @@ use Rattle.fixed_box.specs.Bounds.{Bounds}
 use Rattle.slot_lists.specs.SlotMap.{entries_from, map_of}
 use Rattle.slot_lists.specs.SlotMapLaws.{entries_of_map}
 use Rattle.tree_nodes.specs.Tree.{Tree, leaves_in}
-use Rattle.box_tree.specs.Ties.{Ties, AreFat}
+use Rattle.box_tree.specs.Ties.{AreFat, Leafed}
 
 -- how many entries a list has doesn't depend on where its slots begin
 begun_anywhere : (n m : ℕ) (xs : List (Option Bounds)) → length (entries_from n xs) ≡ length (entries_from m xs)
@@ -37,10 +37,10 @@ as_many n (None ∷ xs) (Some b ∷ ys) l same = let no = same 0 in cc
 as_many n (Some a ∷ xs) (None ∷ ys) l same = let no = same 0 in cc
 as_many n (Some a ∷ xs) (Some b ∷ ys) l same = ap suc (as_many (n + 1) xs ys (omega arith) (λ k. same (suc k)))
 
-pub leaves_counted : (o : Option Tree) (bodies fats : List (Option Bounds)) (numbers : List ℕ) → Ties o fats numbers → AreFat fats bodies
-    → length bodies ≡ SLOTS → length fats ≡ SLOTS → length (leaves_in o) ≡ len (map_of bodies)
-leaves_counted o bodies fats numbers ties fat lb lf =
-    ties.counted
+pub leaves_counted : (o : Option Tree) (bodies fats : List (Option Bounds)) → Leafed o fats → AreFat fats bodies → length bodies ≡ SLOTS
+    → length (leaves_in o) ≡ len (map_of bodies)
+leaves_counted o bodies fats leafed fat lb =
+    leafed.counted
     ∙ sym (entries_counted fats)
-    ∙ as_many 0 fats bodies (lf ∙ sym lb) fat.same
+    ∙ as_many 0 fats bodies (leafed.fats_len ∙ sym lb) fat.same
     ∙ sym (len-entries (map_of bodies) ∙ ap length (entries_of_map bodies))

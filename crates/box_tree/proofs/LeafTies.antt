@@ -15,6 +15,7 @@ use Rattle.tree_nodes.specs.declared.node_view.NodeView.TheVariants.{Leaf as Lea
 use Rattle.tree_nodes.specs.Moved.{leaf_moved}
 use Rattle.tree_nodes.specs.Tree.{Tree, Leaf, leaves, leaves_in, one, count_of, view_at, view_in, IsTreeIn}
 use Rattle.box_tree.specs.Ties.{Ties}
+use Rattle.box_tree.proofs.Fats.{none_counted, within}
 
 abbrev flag : {X : Type 0} → Option X → ℕ
 flag o = cond (is_some o) 1 0
@@ -69,7 +70,7 @@ slots_apart : (o : Option Tree) → IsTreeIn o → (k : ℕ) → sum_by (λ (x :
 slots_apart None t k = omega arith
 slots_apart (Some t) is k = is.slots k
 
-abbrev LeafLaw : Type 0
+abbrev pub LeafLaw : Type 0
 LeafLaw = (t : Tree) (x : Leaf) → Contains (leaves t) x → ((k : ℕ) → count_of t k ≤ 1) → view_at t x.node ≡ Some (LeafNode x.slot x.fat)
 
 pub viewed : LeafLaw → (o : Option Tree) (x : Leaf) → IsTreeIn o → Contains (leaves_in o) x → view_in o x.node ≡ Some (LeafNode x.slot x.fat)
@@ -79,25 +80,32 @@ viewed law (Some t) x is h = law t x h is.apart
 some_same : (a b : Bounds) → ◌≡◌ {A = Option Bounds} (Some a) (Some b) → a ≡ b
 some_same a b e = cc
 
+-- a slot with a fat box has its leaf under its number
+pub own_leaf : (o : Option Tree) (fats : List (Option Bounds)) (numbers : List ℕ) → Ties o fats numbers → (k : ℕ) (f : Bounds)
+    → get_or fats k None ≡ Some f → Contains (leaves_in o) (record { node = get_or numbers k 0; slot = k; fat = f })
+own_leaf o fats numbers ties k f e =
+    let c = ties.leafed.whole k f e in
+    subst (λ n. Contains (leaves_in o) (record { node = n; slot = k; fat = f })) (sym (ties.number_is (record { node = c.0; slot = k; fat = f }) c.1)) c.1
+
 module _ (o : Option Tree) (fats : List (Option Bounds)) (numbers : List ℕ) (ties : Ties o fats numbers)
-    (fats_len : length fats ≡ SLOTS) (numbers_len : length numbers ≡ SLOTS) (slot : ℕ) (small : slot < SLOTS) where
+    (slot : ℕ) (small : slot < SLOTS) where
   in_fats : slot < length fats
-  in_fats = let a = fats_len in let b = small in omega (arith, a, b)
+  in_fats = let a = ties.leafed.fats_len in let b = small in omega (arith, a, b)
 
   in_numbers : slot < length numbers
-  in_numbers = let a = numbers_len in let b = small in omega (arith, a, b)
+  in_numbers = let a = ties.numbers_len in let b = small in omega (arith, a, b)
 
   module _ (absent : get_or fats slot None ≡ None) where
     pub few : (v : Bounds) → length (leaves_in o) < SLOTS
     few v =
         let a = count_below v fats slot in_fats absent in
-        let b = ties.counted in
-        let c = fats_len in
+        let b = ties.leafed.counted in
+        let c = ties.leafed.fats_len in
         omega (arith, a, b, c)
 
     other : (x : Leaf) → Contains (leaves_in o) x → x.slot ≢ slot
     other x c same =
-        let e : get_or fats slot None ≡ Some x.fat = subst (λ k. get_or fats k None ≡ Some x.fat) same (ties.fat_is x c) in
+        let e : get_or fats slot None ≡ Some x.fat = subst (λ k. get_or fats k None ≡ Some x.fat) same (ties.leafed.fat_is x c) in
         let f : None ≡ Some x.fat = sym absent ∙ e in
         cc
 
@@ -115,36 +123,43 @@ module _ (o : Option Tree) (fats : List (Option Bounds)) (numbers : List ℕ) (t
         (Contains-permutation (leaves_in p) (x ∷ leaves_in o) y (IsPermutation-sym (x ∷ leaves_in o) (leaves_in p) perm) c))
         in
         record {
-          is_tree = tree;
-          counted =
-              let a = length_permutation (x ∷ leaves_in o) (leaves_in p) perm in
-              let b = count_set fats slot (Some fat) in_fats in
-              let c = ties.counted in
-              let z : flag (get_or fats slot None) ≡ 0 = ap flag absent in
-              omega (arith, a, b, c, z);
-          fat_is = λ y c. ⊎_elim
-              (λ e. subst (λ (z : Leaf). get_or (set fats slot (Some fat)) z.slot None ≡ Some z.fat) (sym e)
-              (get_or-set_same fats slot (Some fat) None in_fats))
-              (λ h. get_or-set_other fats slot y.slot (Some fat) None (other y h) ∙ ties.fat_is y h) (before y c);
+          leafed = record {
+            is_tree = tree;
+            fats_len = length_set fats slot (Some fat) ∙ ties.leafed.fats_len;
+            counted =
+                let a = length_permutation (x ∷ leaves_in o) (leaves_in p) perm in
+                let b = count_set fats slot (Some fat) in_fats in
+                let c = ties.leafed.counted in
+                let z : flag (get_or fats slot None) ≡ 0 = ap flag absent in
+                omega (arith, a, b, c, z);
+            fat_is = λ y c. ⊎_elim
+                (λ e. subst (λ (z : Leaf). get_or (set fats slot (Some fat)) z.slot None ≡ Some z.fat) (sym e)
+                (get_or-set_same fats slot (Some fat) None in_fats))
+                (λ h. get_or-set_other fats slot y.slot (Some fat) None (other y h) ∙ ties.leafed.fat_is y h) (before y c);
+            whole = λ k f e. (
+              get_or (set numbers slot n) k 0,
+              ⊎_elim
+                  (λ same.
+                  let at : get_or (set fats slot (Some fat)) slot None ≡ Some f = subst (λ j. get_or (set fats slot (Some fat)) j None ≡ Some f) same e in
+                  let is : fat ≡ f = some_same fat f (sym (get_or-set_same fats slot (Some fat) None in_fats) ∙ at) in
+                  let here : Contains (leaves_in p) x = Contains-permutation (x ∷ leaves_in o) (leaves_in p) x perm (0, omega arith, refl) in
+                  let num : get_or (set numbers slot n) slot 0 ≡ n = get_or-set_same numbers slot n 0 in_numbers in
+                  subst (λ j. Contains (leaves_in p) (record { node = get_or (set numbers slot n) j 0; slot = j; fat = f })) (sym same)
+                  (subst (λ m. Contains (leaves_in p) (record { node = m; slot = slot; fat = f })) (sym num)
+                  (subst (λ b. Contains (leaves_in p) (record { node = n; slot = slot; fat = b })) is here)))
+                  (λ ne.
+                  let was : get_or fats k None ≡ Some f = sym (get_or-set_other fats slot k (Some fat) None ne) ∙ e in
+                  let y : Leaf = record { node = get_or numbers k 0; slot = k; fat = f } in
+                  let here : Contains (leaves_in p) y =
+                  Contains-permutation (x ∷ leaves_in o) (leaves_in p) y perm (Contains-append_right (x ∷ []) (leaves_in o) y (own_leaf o fats numbers ties k f was)) in
+                  subst (λ m. Contains (leaves_in p) (record { node = m; slot = k; fat = f })) (sym (get_or-set_other numbers slot k n 0 ne)) here)
+                  (cases_eq k slot),
+            );
+          };
+          numbers_len = length_set numbers slot n ∙ ties.numbers_len;
           number_is = λ y c. ⊎_elim
               (λ e. subst (λ (z : Leaf). get_or (set numbers slot n) z.slot 0 ≡ z.node) (sym e) (get_or-set_same numbers slot n 0 in_numbers))
               (λ h. get_or-set_other numbers slot y.slot n 0 (other y h) ∙ ties.number_is y h) (before y c);
-          whole = λ k f e. ⊎_elim
-              (λ same.
-              let at : get_or (set fats slot (Some fat)) slot None ≡ Some f = subst (λ j. get_or (set fats slot (Some fat)) j None ≡ Some f) same e in
-              let is : fat ≡ f = some_same fat f (sym (get_or-set_same fats slot (Some fat) None in_fats) ∙ at) in
-              let here : Contains (leaves_in p) x = Contains-permutation (x ∷ leaves_in o) (leaves_in p) x perm (0, omega arith, refl) in
-              let num : get_or (set numbers slot n) slot 0 ≡ n = get_or-set_same numbers slot n 0 in_numbers in
-              subst (λ j. Contains (leaves_in p) (record { node = get_or (set numbers slot n) j 0; slot = j; fat = f })) (sym same)
-              (subst (λ m. Contains (leaves_in p) (record { node = m; slot = slot; fat = f })) (sym num)
-              (subst (λ b. Contains (leaves_in p) (record { node = n; slot = slot; fat = b })) is here)))
-              (λ ne.
-              let was : get_or fats k None ≡ Some f = sym (get_or-set_other fats slot k (Some fat) None ne) ∙ e in
-              let y : Leaf = record { node = get_or numbers k 0; slot = k; fat = f } in
-              let here : Contains (leaves_in p) y =
-              Contains-permutation (x ∷ leaves_in o) (leaves_in p) y perm (Contains-append_right (x ∷ []) (leaves_in o) y (ties.whole k f was)) in
-              subst (λ m. Contains (leaves_in p) (record { node = m; slot = k; fat = f })) (sym (get_or-set_other numbers slot k n 0 ne)) here)
-              (cases_eq k slot);
         }
 
   module _ (f0 : Bounds) (present : get_or fats slot None ≡ Some f0) where
@@ -152,10 +167,10 @@ module _ (o : Option Tree) (fats : List (Option Bounds)) (numbers : List ℕ) (t
     own = record { node = get_or numbers slot 0; slot = slot; fat = f0 }
 
     pub own_there : Contains (leaves_in o) own
-    own_there = ties.whole slot f0 present
+    own_there = own_leaf o fats numbers ties slot f0 present
 
     pub own_viewed : LeafLaw → view_in o (get_or numbers slot 0) ≡ Some (LeafNode slot f0)
-    own_viewed law = viewed law o own ties.is_tree own_there
+    own_viewed law = viewed law o own ties.leafed.is_tree own_there
 
     -- a leaf that went
     pub tied_dropped : (p : Option Tree) → IsTreeIn p → IsPermutation (own ∷ leaves_in p) (leaves_in o) → Ties p (set fats slot None) numbers
@@ -165,7 +180,7 @@ module _ (o : Option Tree) (fats : List (Option Bounds)) (numbers : List ℕ) (t
         in
         let other : (y : Leaf) → Contains (leaves_in p) y → y.slot ≢ slot =
         λ y c same.
-        let all = slots_apart o ties.is_tree slot in
+        let all = slots_apart o ties.leafed.is_tree slot in
         let sum = sum_by_pushed (λ (x : Leaf). one x.slot slot) own (leaves_in p) (leaves_in o) perm in
         let here = in_sum (λ (x : Leaf). one x.slot slot) (leaves_in p) y c.0 c.1 c.2 in
         let a : one slot slot ≡ 1 = one_same slot in
@@ -173,27 +188,34 @@ module _ (o : Option Tree) (fats : List (Option Bounds)) (numbers : List ℕ) (t
         absurd (omega (arith, all, sum, here, a, b))
         in
         record {
-          is_tree = tree;
-          counted =
-              let a = length_permutation (own ∷ leaves_in p) (leaves_in o) perm in
-              let b = count_set fats slot None in_fats in
-              let c = ties.counted in
-              let z : flag (get_or fats slot None) ≡ 1 = ap flag present in
-              omega (arith, a, b, c, z);
-          fat_is = λ y c. get_or-set_other fats slot y.slot None None (other y c) ∙ ties.fat_is y (before y c);
+          leafed = record {
+            is_tree = tree;
+            fats_len = length_set fats slot None ∙ ties.leafed.fats_len;
+            counted =
+                let a = length_permutation (own ∷ leaves_in p) (leaves_in o) perm in
+                let b = count_set fats slot None in_fats in
+                let c = ties.leafed.counted in
+                let z : flag (get_or fats slot None) ≡ 1 = ap flag present in
+                omega (arith, a, b, c, z);
+            fat_is = λ y c. get_or-set_other fats slot y.slot None None (other y c) ∙ ties.leafed.fat_is y (before y c);
+            whole = λ k f e. (
+              get_or numbers k 0,
+              ⊎_elim
+                  (λ same.
+                  let at : get_or (set fats slot None) slot None ≡ Some f = subst (λ j. get_or (set fats slot None) j None ≡ Some f) same e in
+                  let none : ◌≡◌ {A = Option Bounds} None (Some f) = sym (get_or-set_same fats slot None None in_fats) ∙ at in
+                  cc)
+                  (λ ne.
+                  let was : get_or fats k None ≡ Some f = sym (get_or-set_other fats slot k None None ne) ∙ e in
+                  let y : Leaf = record { node = get_or numbers k 0; slot = k; fat = f } in
+                  ⊎_elim (λ a. absurd (ne (ap (λ (z : Leaf). z.slot) (only_one y own a)))) (λ b. b)
+                  (Contains-append_cases (own ∷ []) (leaves_in p) y
+                  (Contains-permutation (leaves_in o) (own ∷ leaves_in p) y (IsPermutation-sym (own ∷ leaves_in p) (leaves_in o) perm) (own_leaf o fats numbers ties k f was))))
+                  (cases_eq k slot),
+            );
+          };
+          numbers_len = ties.numbers_len;
           number_is = λ y c. ties.number_is y (before y c);
-          whole = λ k f e. ⊎_elim
-              (λ same.
-              let at : get_or (set fats slot None) slot None ≡ Some f = subst (λ j. get_or (set fats slot None) j None ≡ Some f) same e in
-              let none : ◌≡◌ {A = Option Bounds} None (Some f) = sym (get_or-set_same fats slot None None in_fats) ∙ at in
-              cc)
-              (λ ne.
-              let was : get_or fats k None ≡ Some f = sym (get_or-set_other fats slot k None None ne) ∙ e in
-              let y : Leaf = record { node = get_or numbers k 0; slot = k; fat = f } in
-              ⊎_elim (λ a. absurd (ne (ap (λ (z : Leaf). z.slot) (only_one y own a)))) (λ b. b)
-              (Contains-append_cases (own ∷ []) (leaves_in p) y
-              (Contains-permutation (leaves_in o) (own ∷ leaves_in p) y (IsPermutation-sym (own ∷ leaves_in p) (leaves_in o) perm) (ties.whole k f was))))
-              (cases_eq k slot);
         }
 
     module _ (law : LeafLaw) (fat : Bounds) where
@@ -207,7 +229,7 @@ module _ (o : Option Tree) (fats : List (Option Bounds)) (numbers : List ℕ) (t
 
       other_node : (z : Leaf) → Contains (leaves_in o) z → z.slot ≢ slot → z.node ≢ get_or numbers slot 0
       other_node z c ne same =
-          let a : view_in o z.node ≡ Some (LeafNode z.slot z.fat) = viewed law o z ties.is_tree c in
+          let a : view_in o z.node ≡ Some (LeafNode z.slot z.fat) = viewed law o z ties.leafed.is_tree c in
           let b : view_in o z.node ≡ Some (LeafNode slot f0) = subst (λ n. view_in o n ≡ Some (LeafNode slot f0)) (sym same) (own_viewed law) in
           let e : Some (LeafNode z.slot z.fat) ≡ Some (LeafNode slot f0) = sym a ∙ b in
           let s : z.slot ≡ slot = cc in
@@ -250,40 +272,62 @@ module _ (o : Option Tree) (fats : List (Option Bounds)) (numbers : List ℕ) (t
           λ z c. subst (λ xs. Contains xs (g z)) (sym e) (contains_map (leaves_in o) z c)
           in
           record {
-            is_tree = tree;
-            counted =
-                let a = ap length e ∙ length-map (leaves_in o) g in
-                let b = count_set fats slot (Some fat) in_fats in
-                let c = ties.counted in
-                let z : flag (get_or fats slot None) ≡ 1 = ap flag present in
-                omega (arith, a, b, c, z);
-            fat_is = λ y c.
-                let r = before y c in
-                subst (λ (x : Leaf). get_or (set fats slot (Some fat)) x.slot None ≡ Some x.fat) r.2
-                (⊎_elim
-                (λ same.
-                subst (λ j. get_or (set fats slot (Some fat)) j None ≡ Some (g r.0).fat) (sym same)
-                (get_or-set_same fats slot (Some fat) None in_fats ∙ ap Some (sym (own_is r.0 r.1 same))))
-                (λ ne.
-                get_or-set_other fats slot (r.0).slot (Some fat) None ne ∙ ties.fat_is r.0 r.1
-                ∙ ap (λ (x : Leaf). Some x.fat) (sym (other_stays r.0 r.1 ne)))
-                (cases_eq (r.0).slot slot));
+            leafed = record {
+              is_tree = tree;
+              fats_len = length_set fats slot (Some fat) ∙ ties.leafed.fats_len;
+              counted =
+                  let a = ap length e ∙ length-map (leaves_in o) g in
+                  let b = count_set fats slot (Some fat) in_fats in
+                  let c = ties.leafed.counted in
+                  let z : flag (get_or fats slot None) ≡ 1 = ap flag present in
+                  omega (arith, a, b, c, z);
+              fat_is = λ y c.
+                  let r = before y c in
+                  subst (λ (x : Leaf). get_or (set fats slot (Some fat)) x.slot None ≡ Some x.fat) r.2
+                  (⊎_elim
+                  (λ same.
+                  subst (λ j. get_or (set fats slot (Some fat)) j None ≡ Some (g r.0).fat) (sym same)
+                  (get_or-set_same fats slot (Some fat) None in_fats ∙ ap Some (sym (own_is r.0 r.1 same))))
+                  (λ ne.
+                  get_or-set_other fats slot (r.0).slot (Some fat) None ne ∙ ties.leafed.fat_is r.0 r.1
+                  ∙ ap (λ (x : Leaf). Some x.fat) (sym (other_stays r.0 r.1 ne)))
+                  (cases_eq (r.0).slot slot));
+              whole = λ k f h. (
+                get_or numbers k 0,
+                ⊎_elim
+                    (λ same.
+                    let at : get_or (set fats slot (Some fat)) slot None ≡ Some f = subst (λ j. get_or (set fats slot (Some fat)) j None ≡ Some f) same h in
+                    let is : fat ≡ f = some_same fat f (sym (get_or-set_same fats slot (Some fat) None in_fats) ∙ at) in
+                    subst (λ j. Contains (leaves_in p) (record { node = get_or numbers j 0; slot = j; fat = f })) (sym same)
+                    (subst (λ b. Contains (leaves_in p) (record { node = get_or numbers slot 0; slot = slot; fat = b })) is
+                    (subst (λ (x : Leaf). Contains (leaves_in p) x) own_moved (after own own_there))))
+                    (λ ne.
+                    let was : get_or fats k None ≡ Some f = sym (get_or-set_other fats slot k (Some fat) None ne) ∙ h in
+                    let y : Leaf = record { node = get_or numbers k 0; slot = k; fat = f } in
+                    subst (λ (x : Leaf). Contains (leaves_in p) x) (other_stays y (own_leaf o fats numbers ties k f was) ne) (after y (own_leaf o fats numbers ties k f was)))
+                    (cases_eq k slot),
+              );
+            };
+            numbers_len = ties.numbers_len;
             number_is = λ y c.
                 let r = before y c in
                 subst (λ (x : Leaf). get_or numbers x.slot 0 ≡ x.node) r.2 (ties.number_is r.0 r.1);
-            whole = λ k f h. ⊎_elim
-                (λ same.
-                let at : get_or (set fats slot (Some fat)) slot None ≡ Some f = subst (λ j. get_or (set fats slot (Some fat)) j None ≡ Some f) same h in
-                let is : fat ≡ f = some_same fat f (sym (get_or-set_same fats slot (Some fat) None in_fats) ∙ at) in
-                subst (λ j. Contains (leaves_in p) (record { node = get_or numbers j 0; slot = j; fat = f })) (sym same)
-                (subst (λ b. Contains (leaves_in p) (record { node = get_or numbers slot 0; slot = slot; fat = b })) is
-                (subst (λ (x : Leaf). Contains (leaves_in p) x) own_moved (after own own_there))))
-                (λ ne.
-                let was : get_or fats k None ≡ Some f = sym (get_or-set_other fats slot k (Some fat) None ne) ∙ h in
-                let y : Leaf = record { node = get_or numbers k 0; slot = k; fat = f } in
-                subst (λ (x : Leaf). Contains (leaves_in p) x) (other_stays y (ties.whole k f was) ne) (after y (ties.whole k f was)))
-                (cases_eq k slot);
           }
+
+-- no leaf, and no slot with a fat box
+pub tied_none : (o : Option Tree) (fats : List (Option Bounds)) (numbers : List ℕ) → o ≡ None → length fats ≡ SLOTS
+    → ((k : ℕ) → get_or fats k None ≡ None) → length numbers ≡ SLOTS → Ties o fats numbers
+tied_none o fats numbers is lf nf ln = subst (λ t. Ties t fats numbers) (sym is) (record {
+  leafed = record {
+    is_tree = tt;
+    fats_len = lf;
+    counted = sym (none_counted fats nf);
+    fat_is = λ x h. let lt : h.0 < 0 = h.1 in absurd (omega arith);
+    whole = λ k f e. let n : ◌≡◌ {A = Option Bounds} None (Some f) = sym (nf k) ∙ e in cc;
+  };
+  numbers_len = ln;
+  number_is = λ x h. let lt : h.0 < 0 = h.1 in absurd (omega arith);
+})
 
 -- the same leaves in a tree of another form
 pub tied_rebuilt : (o : Option Tree) (fats : List (Option Bounds)) (numbers : List ℕ) → Ties o fats numbers → (p : Option Tree) → IsTreeIn p
@@ -293,14 +337,45 @@ tied_rebuilt o fats numbers ties p tree perm =
     λ x c. Contains-permutation (leaves_in p) (leaves_in o) x (IsPermutation-sym (leaves_in o) (leaves_in p) perm) c
     in
     record {
-      is_tree = tree;
-      counted = let a = length_permutation (leaves_in o) (leaves_in p) perm in let c = ties.counted in omega (arith, a, c);
-      fat_is = λ x c. ties.fat_is x (before x c);
+      leafed = record {
+        is_tree = tree;
+        fats_len = ties.leafed.fats_len;
+        counted = let a = length_permutation (leaves_in o) (leaves_in p) perm in let c = ties.leafed.counted in omega (arith, a, c);
+        fat_is = λ x c. ties.leafed.fat_is x (before x c);
+        whole = λ k f e. (get_or numbers k 0, Contains-permutation (leaves_in o) (leaves_in p) (record { node = get_or numbers k 0; slot = k; fat = f }) perm (own_leaf o fats numbers ties k f e));
+      };
+      numbers_len = ties.numbers_len;
       number_is = λ x c. ties.number_is x (before x c);
-      whole = λ k f e. Contains-permutation (leaves_in o) (leaves_in p) (record { node = get_or numbers k 0; slot = k; fat = f }) perm (ties.whole k f e);
     }
 
 -- a slot that has a value
 pub some_there : (o : Option Bounds) → is_some o ≡ true → (f : Bounds) × (o ≡ Some f)
 some_there None e = cc
 some_there (Some f) e = (f, refl)
+
+-- the list of numbers reaches to a slot with a fat box
+pub numbered : (o : Option Tree) (fats : List (Option Bounds)) (numbers : List ℕ) → Ties o fats numbers → (slot : ℕ)
+    → is_some (get_or fats slot None) ≡ true → slot < length numbers
+numbered o fats numbers ties slot present =
+    subst (λ n. slot < n) (ties.leafed.fats_len ∙ sym ties.numbers_len) (within fats slot present)
+
+-- what is known of a slot with a fat box: the slot is small, and its leaf stands under its number
+pub record Own (o : Option Tree) (fats : List (Option Bounds)) (numbers : List ℕ) (slot node : ℕ) : Type 0 where
+  pub small : slot < SLOTS
+  pub fat : Bounds
+  pub is : get_or fats slot None ≡ Some fat
+  pub node_is : node ≡ get_or numbers slot 0
+  pub viewed : view_in o node ≡ Some (LeafNode slot fat)
+
+pub own_of : (o : Option Tree) (fats : List (Option Bounds)) (numbers : List ℕ) → Ties o fats numbers → (slot node : ℕ)
+    → is_some (get_or fats slot None) ≡ true → node ≡ get_or numbers slot 0 → LeafLaw → Own o fats numbers slot node
+own_of o fats numbers ties slot node present is law =
+    let f = some_there (get_or fats slot None) present in
+    let small : slot < SLOTS = subst (λ n. slot < n) ties.leafed.fats_len (within fats slot present) in
+    record {
+      small = small;
+      fat = f.0;
+      is = f.1;
+      node_is = is;
+      viewed = subst (λ n. view_in o n ≡ Some (LeafNode slot f.0)) (sym is) (own_viewed o fats numbers ties slot small f.0 f.1 law);
+    }

@@ -15,8 +15,8 @@ use Rattle.broad_index.specs.declared.query.Query.{Query}
 use Rattle.broad_index.specs.declared.query.Query.TheVariants.{Region}
 use Rattle.broad_index.specs.Found.{found_of}
 use Rattle.broad_index.specs.Held.{Holds}
-use Rattle.broad_index.specs.Members.{has_pair, has_slot, both_meet, is_near, is_found, is_reached}
-use Rattle.broad_index.specs.Near.{near, rises}
+use Rattle.broad_index.specs.Members.{has_slot, both_meet, is_found, is_reached}
+use Rattle.broad_index.specs.Near.{near}
 use Rattle.broad_index.specs.Searched.{AreReached}
 use Rattle.broad_index.specs.Touched.{gathered_with, AreKept, AreMarked, Renewed}
 use Rattle.tree_nodes.specs.Tree.{Tree, Leaf, tip, fork, leaves, leaves_in}
@@ -24,20 +24,19 @@ use Rattle.box_tree.specs.Boxes.{Boxes, visits_for, cost, sought, raised, search
 use Rattle.box_tree.specs.Descent.{entry_of, exact, exact_in, IsLeafInside, IsInside, IsInsideIn}
 use Rattle.box_tree.specs.Searches.{looked_for, sought_from, reached_by, reached_in, searches}
 use Rattle.slot_lists.specs.SlotMap.{map_of}
-use Rattle.box_tree.specs.Ties.{Sound}
+use Rattle.box_tree.specs.Ties.{IsKept}
 use Rattle.slot_lists.specs.SlotMapLaws.{get_map, entries_of_map, tie_same, tie_other}
 use Rattle.box_tree.proofs.LeafTies.{some_there}
-use Rattle.box_tree.proofs.Soundness.{within, sound_paired}
+use Rattle.box_tree.proofs.Fats.{within}
 
 abbrev pub ReachLaw : Type 0
 ReachLaw = (m : FinMap nat_cmp Bounds) (es : List (ℕ × Bounds)) → Holds m es → (slot : ℕ) (body : Bounds) → get m slot ≡ Some body
     → (k : ℕ) → has_slot (reach_of slot (Some body) es) k ≡ is_reached m slot k
 
-module _ (o : Option Tree) (bodies fats : List (Option Bounds)) (numbers : List ℕ) (marks : List Bool) (kept : List Pair)
-    (s : Sound o bodies fats numbers marks kept) where
+module _ (o : Option Tree) (bodies fats : List (Option Bounds)) (s : IsKept o bodies fats) where
   leaf_inside : (x : Leaf) → Contains (leaves_in o) x → IsLeafInside bodies x.slot x.fat
   leaf_inside x c =
-      let e = s.ties.fat_is x c in
+      let e = s.leafed.fat_is x c in
       record {
         small = within bodies x.slot (sym (s.fat.same x.slot) ∙ ap is_some e);
         inside = λ b h. s.fat.inside x.slot x.fat b e h;
@@ -98,8 +97,8 @@ module _ (o : Option Tree) (bodies fats : List (Option Bounds)) (numbers : List 
     whole = λ k b e.
         let h : get_or bodies k None ≡ Some b = sym (get_map bodies k) ∙ e in
         let f = some_there (get_or fats k None) (s.fat.same k ∙ ap is_some h) in
-        let c = s.ties.whole k f.0 f.1 in
-        there_exact (leaves_in o) (record { node = get_or numbers k 0; slot = k; fat = f.0 }) b c.0 c.1 c.2 h;
+        let c = s.leafed.whole k f.0 f.1 in
+        there_exact (leaves_in o) (record { node = c.0; slot = k; fat = f.0 }) b (c.1).0 (c.1).1 (c.1).2 h;
   })
 
   others_of : (slot : ℕ) (body : Bounds) (es : List (ℕ × Bounds))
@@ -257,38 +256,25 @@ abbrev pub RenewingLaw : Type 0
 RenewingLaw = (m : FinMap nat_cmp Bounds) (marks : List Bool) (kept : List Pair) (rs : List (ℕ × List ℕ)) → AreReached m rs
     → AreMarked m marks (map (λ (r : ℕ × List ℕ). r.0) rs) → AreKept m marks kept → Renewed m marks kept (gathered_with rs)
 
-module _ (o : Option Tree) (bodies fats : List (Option Bounds)) (numbers : List ℕ) (marks : List Bool) (kept : List Pair)
-    (s : Sound o bodies fats numbers marks kept) (v : Boxes) (looked : ℕ) (view : seen o bodies fats marks looked ≡ v) where
-  pub inside_of : (bs : List (Option Bounds)) → bs ≡ bodies → IsInsideIn bs o
-  inside_of bs e = subst (λ xs. IsInsideIn xs o) (sym e) (all_inside o bodies fats numbers marks kept s)
-
+module _ (o : Option Tree) (bodies fats : List (Option Bounds)) (s : IsKept o bodies fats) (marks : List Bool) (v : Boxes) (looked : ℕ) (view : seen o bodies fats marks looked ≡ v) where
   -- what a descent finds is what the map has
-  pub found_viewed : FoundLaw → (q : Query) (bs : List (Option Bounds)) (before found : List ℕ) → bs ≡ bodies → before ≡ []
-      → found ≡ before ++ found_of (exact_in bs o) q → (k : ℕ) → has_slot found k ≡ is_found v.bodies q k
-  found_viewed law q bs before found eb en e k =
-      ap (λ ks. has_slot ks k)
-      (e ∙ ap (λ xs. xs ++ found_of (exact_in bs o) q) en ∙ ap (λ xs. found_of (exact_in xs o) q) eb)
-      ∙ law (map_of bodies) (exact_in bodies o) (exact_held o bodies fats numbers marks kept s) q k
+  pub found_viewed : FoundLaw → (q : Query) (before found : List ℕ) → before ≡ [] → found ≡ before ++ found_of (exact_in bodies o) q
+      → (k : ℕ) → has_slot found k ≡ is_found v.bodies q k
+  found_viewed law q before found en e k =
+      ap (λ ks. has_slot ks k) (e ∙ ap (λ xs. xs ++ found_of (exact_in bodies o) q) en)
+      ∙ law (map_of bodies) (exact_in bodies o) (exact_held o bodies fats s) q k
       ∙ ap (λ (b : Boxes). is_found b.bodies q k) view
 
-  pub reached_viewed : ReachLaw → (slot : ℕ) (bs : List (Option Bounds)) (found : List ℕ) → bs ≡ bodies → found ≡ reached_in bs o slot
-      → (k : ℕ) → has_slot found k ≡ is_reached v.bodies slot k
-  reached_viewed law slot bs found eb e k =
-      ap (λ ks. has_slot ks k) (e ∙ ap (λ xs. reached_in xs o slot) eb)
-      ∙ reached o bodies fats numbers marks kept s law slot k
+  pub reached_viewed : ReachLaw → (slot : ℕ) (found : List ℕ) → found ≡ reached_in bodies o slot → (k : ℕ) → has_slot found k ≡ is_reached v.bodies slot k
+  reached_viewed law slot found e k =
+      ap (λ ks. has_slot ks k) e
+      ∙ reached o bodies fats s law slot k
       ∙ ap (λ (b : Boxes). is_reached b.bodies slot k) view
 
-  pub cost_viewed : (slot n : ℕ) (bs : List (Option Bounds)) → bs ≡ bodies → n ≡ visits_for o (get_or bs slot None) → n ≡ cost v slot
-  cost_viewed slot n bs eb e =
-      e ∙ ap (λ xs. visits_for o (get_or xs slot None)) eb ∙ ap (visits_for o) (sym (get_map bodies slot)) ∙ ap (λ (b : Boxes). cost b slot) view
+  pub cost_viewed : (slot n : ℕ) → n ≡ visits_for o (get_or bodies slot None) → n ≡ cost v slot
+  cost_viewed slot n e = e ∙ ap (visits_for o) (sym (get_map bodies slot)) ∙ ap (λ (b : Boxes). cost b slot) view
 
-  -- after either call
-  pub sound_renewed : rises (near (map_of bodies)) ≡ true → ((p : Pair) → has_pair (near (map_of bodies)) p ≡ is_near (map_of bodies) p)
-      → (ms : List Bool) (ps : List Pair) → ms ≡ replicate (length marks) false → ps ≡ near (map_of bodies) → Sound o bodies fats numbers ms ps
-  sound_renewed rise members ms ps em ep =
-      subst (λ xs. Sound o bodies fats numbers xs ps) (sym em)
-      (subst (λ xs. Sound o bodies fats numbers (replicate (length marks) false) xs) (sym ep)
-      (sound_paired o bodies fats numbers marks kept s rise members))
-
-  pub near_viewed : (old new : List Pair) → new ≡ old ++ near (map_of bodies) → new ≡ old ++ near v.bodies
-  near_viewed old new e = e ∙ ap (λ (b : Boxes). old ++ near b.bodies) view
+-- what is appended is what the map has
+pub near_viewed : (o : Option Tree) (bodies fats : List (Option Bounds)) (marks : List Bool) (v : Boxes) (looked : ℕ) → seen o bodies fats marks looked ≡ v
+    → (old new : List Pair) → new ≡ old ++ near (map_of bodies) → new ≡ old ++ near v.bodies
+near_viewed o bodies fats marks v looked view old new e = e ∙ ap (λ (b : Boxes). old ++ near b.bodies) view

@@ -26,7 +26,7 @@ use Rattle.box_tree.specs.Boxes.{Boxes, visits_for, cost, marked_slots, shared_s
 use Rattle.box_tree.specs.Descent.{entry_of, exact, exact_in}
 use Rattle.box_tree.specs.Group.{touched_of, crossed, all_visits_in, Adds, AreOf}
 use Rattle.box_tree.specs.Searches.{looked_for, searches, sought_from}
-use Rattle.box_tree.specs.Ties.{Sound}
+use Rattle.box_tree.specs.Ties.{IsKept}
 use Rattle.box_tree.proofs.Counts.{raised_again}
 use Rattle.box_tree.proofs.CrossedPairs.{has_append}
 use Rattle.box_tree.proofs.LeafTies.{some_there}
@@ -54,9 +54,10 @@ list_there None listed held list h is = h
 list_there (Some b) listed held list h is = h.1 ∙ is h.0
 
 -- no more slots are marked than there are leaves
-pub shared_few : (o : Option Tree) → IsTreeIn o → (t : Tree) → o ≡ Some t → (marks : List Bool) → length (marked_slots marks (leaves t)) ≤ SLOTS
-shared_few o tree t e marks =
-    let few : length (leaves t) ≤ SLOTS = (subst IsTreeIn e tree).few in
+pub shared_few : (o : Option Tree) → IsTreeIn o → (marks : List Bool) → length (marked_slots marks (leaves_in o)) ≤ SLOTS
+shared_few None tree marks = omega arith
+shared_few (Some t) tree marks =
+    let few : length (leaves t) ≤ SLOTS = tree.few in
     let less = marked_few marks (leaves t) in
     omega arith
 
@@ -99,10 +100,9 @@ module _ (o : Option Tree) (bodies : List (Option Bounds)) where
       ∙ ap (λ n. n + sum (map seeks (map (λ (x : ℕ × Bounds). x.0) es))) (ap (visits_for o) own.0)
       ∙ ap (λ n. visits_for o (Some e.1) + n) (entries_sum es own.1)
 
-module _ (o : Option Tree) (bodies fats : List (Option Bounds)) (numbers : List ℕ) (marks : List Bool) (kept : List Pair)
-    (s : Sound o bodies fats numbers marks kept) where
+module _ (o : Option Tree) (bodies fats : List (Option Bounds)) (s : IsKept o bodies fats) (marks : List Bool) where
   leaves_there : AreThere bodies marks (leaves_in o)
-  leaves_there x c = sym (s.fat.same x.slot) ∙ ap is_some (s.ties.fat_is x c)
+  leaves_there x c = sym (s.fat.same x.slot) ∙ ap is_some (s.leafed.fat_is x c)
 
   abbrev entries : List (ℕ × Bounds)
   entries = touched_of marks (exact_in bodies o)
@@ -110,11 +110,11 @@ module _ (o : Option Tree) (bodies fats : List (Option Bounds)) (numbers : List 
   pub along_is : marked_slots marks (leaves_in o) ≡ map (λ (e : ℕ × Bounds). e.0) entries
   along_is =
       marked_entries bodies marks (leaves_in o) leaves_there
-      ∙ sym (ap (λ es. map (λ (e : ℕ × Bounds). e.0) (touched_of marks es)) (exact_in_is o bodies fats numbers marks kept s o))
+      ∙ sym (ap (λ es. map (λ (e : ℕ × Bounds). e.0) (touched_of marks es)) (exact_in_is o bodies fats s o))
 
   -- the shared slots are the touched ones
   pub shared_marked : AreMarked (map_of bodies) marks (marked_slots marks (leaves_in o))
-  shared_marked = subst (AreMarked (map_of bodies) marks) (sym along_is) (touched_marked o bodies fats numbers marks kept s)
+  shared_marked = subst (AreMarked (map_of bodies) marks) (sym along_is) (touched_marked o bodies fats s marks)
 
   pub shared_present : All (λ slot. contains_key (map_of bodies) slot ≡ true) (marked_slots marks (leaves_in o))
   shared_present = leaves_present bodies marks (leaves_in o) leaves_there
@@ -124,14 +124,14 @@ module _ (o : Option Tree) (bodies fats : List (Option Bounds)) (numbers : List 
   shared_sum =
       ap (λ l. sum (map (seeks o bodies) l)) along_is
       ∙ entries_sum o bodies entries (touched_own bodies marks (exact_in bodies o) (exact_in_own bodies o))
-      ∙ touched_total o bodies fats numbers marks kept s
+      ∙ touched_total o bodies fats s marks
 
   -- a search of the touched slots renews the pairs, in whichever order they come
   pub renewed_run : ReachLaw → RenewingLaw → (slots : List ℕ) (before found : List Pair) → AreMarked (map_of bodies) marks slots → before ≡ []
       → Adds before found (gathered_with (searches bodies o slots)) → (old : List Pair) → AreKept (map_of bodies) marks old
       → Renewed (map_of bodies) marks old found
   renewed_run law renewing slots before found marked en adds old are =
-      let r = renewed_of o bodies fats numbers marks kept s law renewing slots marked old are in
+      let r = renewed_of o bodies fats s marks law renewing slots marked old are in
       record {
         kept_is = r.kept_is;
         found_is = λ p. adds p ∙ ap (λ ps. has_pair ps p || has_pair (gathered_with (searches bodies o slots)) p) en ∙ r.found_is p;
@@ -149,7 +149,7 @@ module _ (o : Option Tree) (bodies fats : List (Option Bounds)) (numbers : List 
       → Adds before found (crossed (exact_in bodies o) touched) → (old : List Pair) → AreKept (map_of bodies) marks old
       → Renewed (map_of bodies) marks old found
   renewed_along law renewing touched before found et en adds =
-      renewed_run law renewing slots_along before found (touched_marked o bodies fats numbers marks kept s) en
+      renewed_run law renewing slots_along before found (touched_marked o bodies fats s marks) en
       (subst (Adds before found)
       (ap (crossed (exact_in bodies o)) (et ∙ sym (own_boxed bodies entries entries_own)) ∙ crossed_boxed bodies o slots_along) adds)
 
@@ -181,18 +181,16 @@ module _ (o : Option Tree) (bodies fats : List (Option Bounds)) (numbers : List 
         ∙ ap (λ (b : Boxes). sum (map (cost b) (sought b))) view
 
     -- what a search of some slots finds
-    pub finds_viewed : ReachLaw → TouchedLaw → (bs : List (Option Bounds)) (slots : List ℕ) (before found : List Pair) (n : ℕ) → bs ≡ bodies → before ≡ []
-        → Adds before found (gathered_with (searches bs o slots)) → n ≡ looked_for o bs slots 0
+    pub finds_viewed : ReachLaw → TouchedLaw → (slots : List ℕ) (before found : List Pair) (n : ℕ) → before ≡ []
+        → Adds before found (gathered_with (searches bodies o slots)) → n ≡ looked_for o bodies slots 0
         → Finds v slots found n
-    finds_viewed law touched bs slots before found n eb en adds e = record {
+    finds_viewed law touched slots before found n en adds e = record {
       pairs_are = λ p. adds p
-          ∙ ap (λ ps. has_pair ps p || has_pair (gathered_with (searches bs o slots)) p) en
-          ∙ ap (λ xs. has_pair (gathered_with (searches xs o slots)) p) eb
-          ∙ touched (map_of bodies) (searches bodies o slots) (all_reached o bodies fats numbers marks kept s law slots) p
+          ∙ ap (λ ps. has_pair ps p || has_pair (gathered_with (searches bodies o slots)) p) en
+          ∙ touched (map_of bodies) (searches bodies o slots) (all_reached o bodies fats s law slots) p
           ∙ ap (λ l. is_near (map_of bodies) p && (has_slot l p.a || has_slot l p.b)) (searched_slots bodies o slots)
           ∙ ap (λ (b : Boxes). is_near b.bodies p && (has_slot slots p.a || has_slot slots p.b)) view;
       number_is = e
-          ∙ ap (λ xs. looked_for o xs slots 0) eb
           ∙ ap (λ l. raised 0 (sum l)) (same_costs o bodies slots)
           ∙ ap (λ (b : Boxes). raised 0 (sum (map (cost b) slots))) view;
     }
@@ -249,24 +247,25 @@ module _ {Y : Type 0} (pairs : Y → List Pair) (number : Y → ℕ) (v : Boxes)
       ∙ ap (raised a) (sym (ap sum (map-append (cost v) run (put_together runs))
       ∙ sum_by-append (λ (k : ℕ). k) (map (cost v) run) (map (cost v) (put_together runs))))
 
-module _ {Y : Type 0} (pairs : Y → List Pair) (number : Y → ℕ) (o : Option Tree) (bodies fats : List (Option Bounds)) (numbers : List ℕ) (marks : List Bool)
-    (kept : List Pair) (s : Sound o bodies fats numbers marks kept) (v : Boxes) (looked : ℕ) (view : seen o bodies fats marks looked ≡ v) where
+module _ {Y : Type 0} (pairs : Y → List Pair) (number : Y → ℕ) (o : Option Tree) (bodies fats : List (Option Bounds))
+    (s : IsKept o bodies fats) (marks : List Bool) (v : Boxes) (looked : ℕ) (view : seen o bodies fats marks looked ≡ v) where
   -- what the pieces of the shared slots find renews the pairs
-  pub pieces_renewed : ReachLaw → RenewingLaw → TouchedLaw → (ys : List Y) → InRuns (λ run y. Finds v run (pairs y) (number y)) (shared_slots v) ys
+  pub pieces_renewed : (kept : List Pair) → AreKept (map_of bodies) marks kept → ReachLaw → RenewingLaw → TouchedLaw → (ys : List Y)
+      → InRuns (λ run y. Finds v run (pairs y) (number y)) (shared_slots v) ys
       → (found : List Pair) → ((p : Pair) → has_pair found p ≡ has_pair (put_together (map pairs ys)) p) → Renewed (map_of bodies) marks kept found
-  pieces_renewed law renewing touched ys runs found same =
+  pieces_renewed kept are law renewing touched ys runs found same =
       let slots = marked_slots marks (leaves_in o) in
       let m = map_of bodies in
-      let r = renewed_of o bodies fats numbers marks kept s law renewing slots (shared_marked o bodies fats numbers marks kept s) kept s.kept_are in
+      let r = renewed_of o bodies fats s marks law renewing slots (shared_marked o bodies fats s marks) kept are in
       record {
         kept_is = r.kept_is;
         found_is = λ p. same p
             ∙ pieces_found pairs number v runs.runs ys runs.each p
             ∙ ap (λ l. is_near v.bodies p && (has_slot l p.a || has_slot l p.b))
-            (runs.whole ∙ sym (shared_viewed o bodies fats numbers marks kept s v looked view) ∙ sym (searched_slots bodies o slots))
+            (runs.whole ∙ sym (shared_viewed o bodies fats s marks v looked view) ∙ sym (searched_slots bodies o slots))
             ∙ sym (ap (λ (b : Boxes). is_near b.bodies p && (has_slot (map (λ (r : ℕ × List ℕ). r.0) (searches bodies o slots)) p.a
             || has_slot (map (λ (r : ℕ × List ℕ). r.0) (searches bodies o slots)) p.b)) view)
-            ∙ sym (touched m (searches bodies o slots) (all_reached o bodies fats numbers marks kept s law slots) p)
+            ∙ sym (touched m (searches bodies o slots) (all_reached o bodies fats s law slots) p)
             ∙ r.found_is p;
       }
 
@@ -277,5 +276,5 @@ module _ {Y : Type 0} (pairs : Y → List Pair) (number : Y → ℕ) (o : Option
   pieces_counted ys runs n e =
       e ∙ pieces_cost pairs number v runs.runs ys runs.each looked
       ∙ ap (λ l. raised looked (sum (map (cost v) l))) runs.whole
-      ∙ ap (raised looked) (cost_shared o bodies fats numbers marks kept s v looked view)
+      ∙ ap (raised looked) (cost_shared o bodies fats s marks v looked view)
       ∙ ap (λ (b : Boxes). raised b.looked (sum (map (cost v) (sought v)))) view

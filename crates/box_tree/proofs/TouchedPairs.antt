@@ -15,7 +15,7 @@ use Rattle.tree_nodes.specs.Tree.{Tree, Leaf, leaves}
 use Rattle.box_tree.specs.Descent.{entry_of, exact, exact_in}
 use Rattle.box_tree.specs.Group.{touched_of, crossed, all_visits_in, AreOf}
 use Rattle.box_tree.specs.Searches.{boxed, reached_by, reached_in, searches}
-use Rattle.box_tree.specs.Ties.{Sound}
+use Rattle.box_tree.specs.Ties.{IsKept}
 use Rattle.box_tree.proofs.LeafTies.{some_there}
 use Rattle.box_tree.proofs.Searching.{ReachLaw, RenewingLaw, has_marked, all_reached, searched_slots, exact_held}
 
@@ -87,15 +87,14 @@ has_first (x ∷ es) k b (suc i) l e =
     or_true true = refl
     or_true false = refl
 
-module _ (o : Option Tree) (bodies fats : List (Option Bounds)) (numbers : List ℕ) (marks : List Bool) (kept : List Pair)
-    (s : Sound o bodies fats numbers marks kept) where
+module _ (o : Option Tree) (bodies fats : List (Option Bounds)) (s : IsKept o bodies fats) (marks : List Bool) where
   abbrev touched : List (ℕ × Bounds)
   touched = touched_of marks (exact_in bodies o)
 
   pub touched_marked : AreMarked (map_of bodies) marks (map (λ (e : ℕ × Bounds). e.0) touched)
   touched_marked k h =
       let b = some_there (get (map_of bodies) k) h in
-      let c = (exact_held o bodies fats numbers marks kept s).whole k b.0 b.1 in
+      let c = (exact_held o bodies fats s).whole k b.0 b.1 in
       sym (has_marked (λ j. get_or marks j false) (exact_in bodies o) k
       ∙ ap (λ t. get_or marks k false && t) (has_first (exact_in bodies o) k b.0 c.0 c.1 c.2) ∙ and_yes (get_or marks k false))
     where
@@ -106,5 +105,5 @@ module _ (o : Option Tree) (bodies fats : List (Option Bounds)) (numbers : List 
   pub renewed_of : ReachLaw → RenewingLaw → (slots : List ℕ) → AreMarked (map_of bodies) marks slots → (old : List Pair) → AreKept (map_of bodies) marks old
       → Renewed (map_of bodies) marks old (gathered_with (searches bodies o slots))
   renewed_of law renewing slots marked old are =
-      renewing (map_of bodies) marks old (searches bodies o slots) (all_reached o bodies fats numbers marks kept s law slots)
+      renewing (map_of bodies) marks old (searches bodies o slots) (all_reached o bodies fats s law slots)
       (subst (AreMarked (map_of bodies) marks) (sym (searched_slots bodies o slots)) marked) are

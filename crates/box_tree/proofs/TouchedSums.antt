@@ -7,15 +7,14 @@ use Rattle.std.proofs.lemmas.Bool.Decides.{nat_tests}
 use Rattle.std.proofs.lemmas.List.Sums.{sum_by-cons}
 use Rattle.fixed_box.specs.Bounds.{Bounds}
 use Rattle.slot_lists.specs.SlotMap.{entries_from}
-use Rattle.broad_index.specs.declared.pair.Pair.{Pair}
 use Rattle.tree_nodes.specs.Tree.{Tree, Leaf, leaves_in, IsTreeIn, one, visits_in}
 use Rattle.box_tree.specs.Boxes.{visits_for}
 use Rattle.box_tree.specs.Descent.{entry_of, exact, exact_in}
 use Rattle.box_tree.specs.Group.{touched_of, all_visits_in}
 use Rattle.box_tree.specs.Searches.{sought_from}
-use Rattle.box_tree.specs.Ties.{Sound}
+use Rattle.box_tree.specs.Ties.{IsKept}
 use Rattle.box_tree.proofs.LeafTies.{some_there}
-use Rattle.box_tree.proofs.Soundness.{within}
+use Rattle.box_tree.proofs.Fats.{within}
 
 -- the values of a function at m numbers from n on
 abbrev span : (ℕ → ℕ) → ℕ → ℕ → ℕ
@@ -166,10 +165,9 @@ module _ (o : Option Tree) (bodies : List (Option Bounds)) (marks : List Bool) w
         | false ↦ omega arith
       ]
 
-module _ (o : Option Tree) (bodies fats : List (Option Bounds)) (numbers : List ℕ) (marks : List Bool) (kept : List Pair)
-    (s : Sound o bodies fats numbers marks kept) where
+module _ (o : Option Tree) (bodies fats : List (Option Bounds)) (s : IsKept o bodies fats) (marks : List Bool) where
   slot_small : (x : Leaf) → Contains (leaves_in o) x → x.slot < length bodies
-  slot_small x c = within bodies x.slot (sym (s.fat.same x.slot) ∙ ap is_some (s.ties.fat_is x c))
+  slot_small x c = within bodies x.slot (sym (s.fat.same x.slot) ∙ ap is_some (s.leafed.fat_is x c))
 
   slots_once : (u : Option Tree) → IsTreeIn u → (k : ℕ) → sum_by (λ (x : Leaf). one x.slot k) (leaves_in u) ≤ 1
   slots_once None t k = omega arith
@@ -188,9 +186,9 @@ module _ (o : Option Tree) (bodies fats : List (Option Bounds)) (numbers : List 
           many_zero f (leaves_in o) k none ∙ sym none
       by_body (Some b) e =
           let fat = some_there (get_or fats k None) (s.fat.same k ∙ ap is_some e) in
-          let c = s.ties.whole k fat.0 fat.1 in
+          let c = (s.leafed.whole k fat.0 fat.1).1 in
           let there = times_there f (leaves_in o) k c.0 _ c.1 (ap (λ (x : Leaf). x.slot) c.2) in
-          let once = slots_once o s.ties.is_tree k in
+          let once = slots_once o s.leafed.is_tree k in
           let same = times_is f (leaves_in o) k in
           many_one f (leaves_in o) k (omega arith)
 

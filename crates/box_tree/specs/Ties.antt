@@ -1,42 +1,72 @@
 -- Serves proofs alone: what ties the parts of a tree of fat boxes to one another.
-use Rattle.std.specs.Prelude.{◌≡◌, ℕ, Bool, true, List, length, count_by, slice_index_or, Option, None, Some, is_some, IsTrue, Contains}
+use Rattle.std.specs.Prelude.{◌≡◌, ℕ, Bool, true, List, length, count_by, slice_index_or, Option, None, Some, is_some, IsTrue, Contains, refl}
+use Rattle.std.specs.Coded.{Coded, code_by, coded×, coded_list, coded_option}
 use Rattle.fixed_box.specs.declared.TheConstants.{SLOTS}
-use Rattle.fixed_box.specs.Bounds.{Bounds, encloses}
+use Rattle.fixed_box.specs.Bounds.{Bounds, coded_bounds, encloses}
 use Rattle.broad_index.specs.declared.pair.Pair.{Pair}
 use Rattle.broad_index.specs.Near.{rises}
 use Rattle.broad_index.specs.Touched.{AreKept}
 use Rattle.tree_nodes.specs.Tree.{Tree, Leaf, leaves_in, IsTreeIn}
+use Rattle.tree_nodes.specs.TreeCode.{coded_tree}
 use Rattle.slot_lists.specs.SlotMap.{map_of}
 use Rattle.box_tree.specs.declared.preorder.ListedNode.{ListedNode}
 use Rattle.box_tree.specs.Preorder.{preorder_in}
 
--- The leaves of the tree are the slots with fat boxes, each under the number that is noted for it.
-pub record Ties (tree : Option Tree) (fats : List (Option Bounds)) (numbers : List ℕ) : Type 0 where
+-- fat boxes by their slots, and the tree of their leaves
+pub record LeafLists : Type 0 where
+  pub fats : List (Option Bounds)
+  pub tree : Option Tree
+
+abbrev pub coded_leaf_lists : Coded LeafLists
+coded_leaf_lists =
+    code_by (List (Option Bounds) × Option Tree) (coded× (coded_list (coded_option coded_bounds)) coded_tree)
+    (λ l. (l.fats, l.tree)) (λ t. record { fats = t.0; tree = t.1 }) (λ _. refl)
+
+-- and with them the boxes by their slots
+pub record BoxLists : Type 0 where
+  pub bodies : List (Option Bounds)
+  pub fats : List (Option Bounds)
+  pub tree : Option Tree
+
+abbrev pub coded_box_lists : Coded BoxLists
+coded_box_lists =
+    code_by (List (Option Bounds) × (List (Option Bounds) × Option Tree))
+    (coded× (coded_list (coded_option coded_bounds)) (coded× (coded_list (coded_option coded_bounds)) coded_tree))
+    (λ b. (b.bodies, (b.fats, b.tree))) (λ t. record { bodies = t.0; fats = t.1.0; tree = t.1.1 }) (λ _. refl)
+
+-- The leaves of the tree are the slots with fat boxes.
+pub record Leafed (tree : Option Tree) (fats : List (Option Bounds)) : Type 0 where
   pub is_tree : IsTreeIn tree
+  pub fats_len : length fats ≡ SLOTS
   pub counted : length (leaves_in tree) ≡ count_by is_some fats
   pub fat_is : (x : Leaf) → Contains (leaves_in tree) x → slice_index_or fats x.slot None ≡ Some x.fat
-  pub number_is : (x : Leaf) → Contains (leaves_in tree) x → slice_index_or numbers x.slot 0 ≡ x.node
   pub whole : (k : ℕ) (f : Bounds) → slice_index_or fats k None ≡ Some f
-      → Contains (leaves_in tree) (record { node = slice_index_or numbers k 0; slot = k; fat = f })
+      → (n : ℕ) × Contains (leaves_in tree) (record { node = n; slot = k; fat = f })
+
+-- Each leaf stands under the number that is noted for its slot.
+pub record Ties (tree : Option Tree) (fats : List (Option Bounds)) (numbers : List ℕ) : Type 0 where
+  pub leafed : Leafed tree fats
+  pub numbers_len : length numbers ≡ SLOTS
+  pub number_is : (x : Leaf) → Contains (leaves_in tree) x → slice_index_or numbers x.slot 0 ≡ x.node
 
 -- The slots with fat boxes are those with boxes, and the fat boxes enclose these.
 pub record AreFat (fats bodies : List (Option Bounds)) : Type 0 where
   pub same : (k : ℕ) → is_some (slice_index_or fats k None) ≡ is_some (slice_index_or bodies k None)
   pub inside : (k : ℕ) (f b : Bounds) → slice_index_or fats k None ≡ Some f → slice_index_or bodies k None ≡ Some b → IsTrue (encloses f b)
 
--- The kept pairs are those of the map for every pair of which neither slot is marked.
-pub record Sound (tree : Option Tree) (bodies fats : List (Option Bounds)) (numbers : List ℕ) (marks : List Bool) (kept : List Pair) : Type 0 where
+-- Each box has a leaf, and lies in its fat box.
+pub record IsKept (tree : Option Tree) (bodies fats : List (Option Bounds)) : Type 0 where
   pub bodies_len : length bodies ≡ SLOTS
-  pub fats_len : length fats ≡ SLOTS
-  pub numbers_len : length numbers ≡ SLOTS
-  pub marks_len : length marks ≡ SLOTS
-  pub ties : Ties tree fats numbers
+  pub leafed : Leafed tree fats
   pub fat : AreFat fats bodies
+
+-- The kept pairs are those of the map for every pair of which neither slot is marked.
+pub record Sound (bodies : List (Option Bounds)) (marks : List Bool) (kept : List Pair) : Type 0 where
+  pub marks_len : length marks ≡ SLOTS
   pub kept_rise : rises kept ≡ true
   pub kept_are : AreKept (map_of bodies) marks kept
 
 -- and the nodes are listed as they are now, where it is said that they are
-pub record Whole (tree : Option Tree) (bodies fats : List (Option Bounds)) (numbers : List ℕ) (marks : List Bool) (kept : List Pair)
-    (list : List ListedNode) (listed : Bool) : Type 0 where
-  pub sound : Sound tree bodies fats numbers marks kept
-  pub list_is : listed ≡ true → list ≡ preorder_in bodies tree
+pub record Whole (boxes : BoxLists) (marks : List Bool) (kept : List Pair) (list : List ListedNode) (listed : Bool) : Type 0 where
+  pub sound : Sound boxes.bodies marks kept
+  pub list_is : listed ≡ true → list ≡ preorder_in boxes.bodies boxes.tree

@@ -4,8 +4,9 @@ ghost use Rattle.tree_nodes.specs.Tree.{Tree, IsTree, top, view_in};
 ghost use Rattle.broad_index.specs.declared.query.Query.{Query};
 ghost use Rattle.broad_index.specs.Found.{found_of, query_meets};
 ghost use Rattle.broad_index.specs.Members.{meets_query};
-ghost use Rattle.box_tree.specs.Descent.{visits_by_in, exact_in, IsInside, IsInsideIn, Laws, met_at, found_at};
+ghost use Rattle.box_tree.specs.Descent.{visits_by_in, exact_in, IsInside, Laws, met_at, found_at};
 
+use crate::kept_boxes::KeptBoxes;
 use crate::query_law::query_law;
 use broad_index::Query;
 use fixed_box::{FBox, NoMemory};
@@ -17,19 +18,14 @@ type Stack = SmallVec<usize, 32>;
 
 // Appends the slots of leaves whose exact boxes meet a query, and answers how many nodes it looked at. It passes by what
 // stands below a hull that the query misses.
-pub(crate) fn descend(
-    nodes: &Nodes,
-    bodies: &[Option<FBox>],
-    query: &Query,
-    out: &mut Vec<u32>,
-) -> Result<u32, NoMemory>
-    requires { IsInsideIn bodies.now nodes.now }
-    ensures ok { OnOk result (out.new.items ≡ out.old.items ++ found_of (exact_in bodies.now nodes.now) query.now) }
-    ensures count { IfOk result (λ n. n ≡ visits_by_in nodes.now query.now) }
+pub(crate) fn descend(boxes: &KeptBoxes, query: &Query, out: &mut Vec<u32>) -> Result<u32, NoMemory>
+    ensures ok { OnOk result (out.new.items ≡ out.old.items ++ found_of (exact_in boxes.now.bodies boxes.now.tree) query.now) }
+    ensures count { IfOk result (λ n. n ≡ visits_by_in boxes.now.tree query.now) }
 {
-    match nodes.root() {
+    boxes.kept_law();
+    match boxes.root() {
         None => Ok(0),
-        Some(root) => walk(nodes, bodies, root, query, out),
+        Some(root) => walk(boxes.nodes(), boxes.bodies(), root, query, out),
     }
 }
 

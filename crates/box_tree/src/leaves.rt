@@ -1,9 +1,11 @@
-ghost use Rattle.std.specs.Prelude.{◌≡◌, ℕ, ◌<◌, ◌≤◌, true, Option, None, Some, List, length, is_some, slice_index_or, slice_set};
-ghost use Rattle.fixed_box.specs.Bounds.{Bounds};
+ghost use Rattle.std.specs.Prelude.{◌≡◌, ◌<◌, ◌≤◌, true, None, Some, is_some, slice_index_or, slice_set, IfOk, ℕ};
 ghost use Rattle.fixed_box.specs.declared.TheConstants.{SLOTS};
-ghost use Rattle.box_tree.specs.Ties.{Ties};
+ghost use Rattle.box_tree.specs.Ties.{Leafed};
 
-use fixed_box::{FBox, SLOTS};
+use fixed_box::{FBox, NoMemory, SLOTS};
+use slot_lists::no_boxes;
+use std::alloc::Global;
+use std::marker::Model;
 use tree_nodes::{Nodes, tree_laws};
 
 // The fewest changes of a tree between two rebuilds.
@@ -12,147 +14,149 @@ const FEWEST_CHANGES: usize = 16;
 // How many changes there are between two rebuilds for each leaf. With more of them searches cost more than rebuilds do.
 const CHANGES_PER_LEAF: usize = 8;
 
-// Gives a slot that has none a leaf.
-pub(crate) fn add_leaf(
-    nodes: &mut Nodes,
-    fats: &mut Vec<Option<FBox>>,
-    numbers: &mut Vec<usize>,
-    until_rebuild: &mut usize,
-    slot: u32,
-    fat: FBox,
-)
-    requires fats_len { length fats.old.items ≡ SLOTS }
-    requires numbers_len { length numbers.old.items ≡ SLOTS }
-    requires ties { Ties nodes.old fats.old.items numbers.old.items }
-    requires small { slot < SLOTS }
-    requires absent { slice_index_or fats.old.items slot None ≡ None }
-    ensures ties { Ties nodes.new fats.new.items numbers.new.items }
-    ensures fats { fats.new.items ≡ slice_set fats.old.items slot (Some fat) }
-    ensures numbers_len { length numbers.new.items ≡ length numbers.old.items }
-{
-    put_leaf(nodes, fats, numbers, slot, fat);
-    count_change(nodes, until_rebuild);
+/// Fat boxes under slots, each a leaf of a tree. Only `new` takes memory.
+///
+/// A leaf whose fat box changes moves in its place, or is put where it fits best. After some such changes for each leaf the
+/// tree is rebuilt.
+#[derive(Drop)]
+pub(crate) struct Leaves {
+    nodes: Nodes,
+    // Of each slot that has a leaf: its fat box, and the number of the leaf.
+    fats: Vec<Option<FBox>>,
+    numbers: Vec<usize>,
+    // How many more changes of the tree there are before it is rebuilt.
+    until_rebuild: usize,
 }
 
-// Gives the leaf of a slot another box.
-pub(crate) fn relink(
-    nodes: &mut Nodes,
-    fats: &mut Vec<Option<FBox>>,
-    numbers: &mut Vec<usize>,
-    until_rebuild: &mut usize,
-    slot: u32,
-    fat: FBox,
-)
-    requires fats_len { length fats.old.items ≡ SLOTS }
-    requires numbers_len { length numbers.old.items ≡ SLOTS }
-    requires ties { Ties nodes.old fats.old.items numbers.old.items }
-    requires small { slot < SLOTS }
-    requires present { is_some (slice_index_or fats.old.items slot None) ≡ true }
-    ensures ties { Ties nodes.new fats.new.items numbers.new.items }
-    ensures fats { fats.new.items ≡ slice_set fats.old.items slot (Some fat) }
-    ensures numbers_len { length numbers.new.items ≡ length numbers.old.items }
-{
-    renew_leaf(nodes, fats, numbers, slot, fat);
-    count_change(nodes, until_rebuild);
+impl Model for Leaves {
+    ghost use Rattle.box_tree.specs.Ties.{LeafLists, coded_leaf_lists, Ties};
+
+    ghost Value = { LeafLists };
+
+    ghost coded = { coded_leaf_lists };
+
+    ghost view = { λ l. record { fats = l.fats.items; tree = l.nodes } };
+
+    ghost invariant = { λ l. Ties l.nodes l.fats.items l.numbers.items };
 }
 
-// Counts a change of the tree, and rebuilds it after some for each leaf: the more it is changed, the more nodes a search
-// looks at.
-fn count_change(nodes: &mut Nodes, until_rebuild: &mut usize)
-    ensures { (fats : List (Option Bounds)) (numbers : List ℕ) → Ties nodes.old fats numbers → Ties nodes.new fats numbers }
-{
-    if 0 < *until_rebuild {
-        *until_rebuild -= 1;
-    } else {
-        let changes = nodes.rebuild().saturating_mul(CHANGES_PER_LEAF);
-        *until_rebuild = changes.max(FEWEST_CHANGES);
+impl Leaves {
+    /// No leaf, with room for all that there may be.
+    pub(crate) fn new(alloc: Global) -> Result<Leaves, NoMemory>
+        ensures tree { IfOk result (λ leaves. leaves.tree ≡ None) }
+        ensures fats { IfOk result (λ leaves. (k : ℕ) → slice_index_or leaves.fats k None ≡ None) }
+    {
+        Ok(Leaves {
+            nodes: Nodes::new(alloc)?,
+            fats: no_boxes(alloc)?,
+            numbers: vec![in alloc; 0; SLOTS as usize]?,
+            until_rebuild: 0,
+        })
     }
-}
 
-// Puts a leaf where it fits best.
-fn put_leaf(
-    nodes: &mut Nodes,
-    fats: &mut Vec<Option<FBox>>,
-    numbers: &mut Vec<usize>,
-    slot: u32,
-    fat: FBox,
-)
-    requires fats_len { length fats.old.items ≡ SLOTS }
-    requires numbers_len { length numbers.old.items ≡ SLOTS }
-    requires ties { Ties nodes.old fats.old.items numbers.old.items }
-    requires small { slot < SLOTS }
-    requires absent { slice_index_or fats.old.items slot None ≡ None }
-    ensures ties { Ties nodes.new fats.new.items numbers.new.items }
-    ensures fats { fats.new.items ≡ slice_set fats.old.items slot (Some fat) }
-    ensures numbers_len { length numbers.new.items ≡ length numbers.old.items }
-{
-    numbers[slot as usize] = nodes.add_leaf(slot, fat);
-    fats[slot as usize] = Some(fat);
-}
+    /// A law for proofs, with nothing to run: the leaves of the tree are the slots with fat boxes.
+    pub(crate) fn leaf_law(&self)
+        ensures { Leafed self.now.tree self.now.fats }
+    {
+        // what a value keeps is known where it is read
+        let _fats = &self.fats;
+    }
 
-// Takes the leaf of a slot away.
-pub(crate) fn drop_leaf(
-    nodes: &mut Nodes,
-    fats: &mut Vec<Option<FBox>>,
-    numbers: &[usize],
-    slot: u32,
-)
-    requires fats_len { length fats.old.items ≡ SLOTS }
-    requires numbers_len { length numbers.now ≡ SLOTS }
-    requires ties { Ties nodes.old fats.old.items numbers.now }
-    requires small { slot < SLOTS }
-    requires present { is_some (slice_index_or fats.old.items slot None) ≡ true }
-    ensures ties { Ties nodes.new fats.new.items numbers.now }
-    ensures fats { fats.new.items ≡ slice_set fats.old.items slot None }
-{
-    tree_laws();
-    nodes.drop_leaf(numbers[slot as usize]);
-    fats[slot as usize] = None;
-}
+    /// The tree.
+    pub(crate) fn nodes(&self) -> &Nodes
+        ensures { result.now ≡ self.now.tree }
+    {
+        &self.nodes
+    }
 
-// Gives the leaf of a slot another box in its place.
-fn move_leaf(
-    nodes: &mut Nodes,
-    fats: &mut Vec<Option<FBox>>,
-    numbers: &[usize],
-    slot: u32,
-    fat: FBox,
-)
-    requires fats_len { length fats.old.items ≡ SLOTS }
-    requires numbers_len { length numbers.now ≡ SLOTS }
-    requires ties { Ties nodes.old fats.old.items numbers.now }
-    requires small { slot < SLOTS }
-    requires present { is_some (slice_index_or fats.old.items slot None) ≡ true }
-    ensures ties { Ties nodes.new fats.new.items numbers.now }
-    ensures fats { fats.new.items ≡ slice_set fats.old.items slot (Some fat) }
-{
-    tree_laws();
-    nodes.move_leaf(numbers[slot as usize], fat);
-    fats[slot as usize] = Some(fat);
-}
+    /// The fat box of a slot, if it has one.
+    pub(crate) fn fat_of(&self, slot: u32) -> Option<FBox>
+        ensures { result ≡ slice_index_or self.now.fats slot None }
+    {
+        let slot = slot as usize;
+        if slot < self.fats.len() {
+            self.fats[slot]
+        } else {
+            None
+        }
+    }
 
-// Moves a leaf in its place where its box stays near, and else puts it where it fits best.
-fn renew_leaf(
-    nodes: &mut Nodes,
-    fats: &mut Vec<Option<FBox>>,
-    numbers: &mut Vec<usize>,
-    slot: u32,
-    fat: FBox,
-)
-    requires fats_len { length fats.old.items ≡ SLOTS }
-    requires numbers_len { length numbers.old.items ≡ SLOTS }
-    requires ties { Ties nodes.old fats.old.items numbers.old.items }
-    requires small { slot < SLOTS }
-    requires present { is_some (slice_index_or fats.old.items slot None) ≡ true }
-    ensures ties { Ties nodes.new fats.new.items numbers.new.items }
-    ensures fats { fats.new.items ≡ slice_set fats.old.items slot (Some fat) }
-    ensures numbers_len { length numbers.new.items ≡ length numbers.old.items }
-{
-    if is_near(&fats[slot as usize], &fat) {
-        move_leaf(nodes, fats, numbers, slot, fat);
-    } else {
-        drop_leaf(nodes, fats, numbers, slot);
-        put_leaf(nodes, fats, numbers, slot, fat);
+    /// Gives a slot that has none a leaf.
+    pub(crate) fn add(&mut self, slot: u32, fat: FBox)
+        requires small { slot < SLOTS }
+        requires absent { slice_index_or self.old.fats slot None ≡ None }
+        ensures { self.new.fats ≡ slice_set self.old.fats slot (Some fat) }
+    {
+        self.put(slot, fat);
+        self.count_change();
+    }
+
+    /// Gives the leaf of a slot another box.
+    pub(crate) fn relink(&mut self, slot: u32, fat: FBox)
+        requires { is_some (slice_index_or self.old.fats slot None) ≡ true }
+        ensures { self.new.fats ≡ slice_set self.old.fats slot (Some fat) }
+    {
+        self.renew(slot, fat);
+        self.count_change();
+    }
+
+    /// Takes the leaf of a slot away.
+    pub(crate) fn take(&mut self, slot: u32)
+        requires { is_some (slice_index_or self.old.fats slot None) ≡ true }
+        ensures { self.new.fats ≡ slice_set self.old.fats slot None }
+    {
+        tree_laws();
+        let slot = slot as usize;
+        self.nodes.drop_leaf(self.numbers[slot]);
+        self.fats[slot] = None;
+    }
+
+    // Counts a change of the tree, and rebuilds it after some for each leaf: the more it is changed, the more nodes a
+    // search looks at.
+    fn count_change(&mut self)
+        ensures { self.new.fats ≡ self.old.fats }
+    {
+        if 0 < self.until_rebuild {
+            self.until_rebuild -= 1;
+        } else {
+            let changes = self.nodes.rebuild().saturating_mul(CHANGES_PER_LEAF);
+            self.until_rebuild = changes.max(FEWEST_CHANGES);
+        }
+    }
+
+    // Puts a leaf where it fits best.
+    fn put(&mut self, slot: u32, fat: FBox)
+        requires small { slot < SLOTS }
+        requires absent { slice_index_or self.old.fats slot None ≡ None }
+        ensures { self.new.fats ≡ slice_set self.old.fats slot (Some fat) }
+    {
+        self.numbers[slot as usize] = self.nodes.add_leaf(slot, fat);
+        self.fats[slot as usize] = Some(fat);
+    }
+
+    // Gives the leaf of a slot another box in its place.
+    fn move_in_place(&mut self, slot: u32, fat: FBox)
+        requires { is_some (slice_index_or self.old.fats slot None) ≡ true }
+        ensures { self.new.fats ≡ slice_set self.old.fats slot (Some fat) }
+    {
+        tree_laws();
+        let slot = slot as usize;
+        self.nodes.move_leaf(self.numbers[slot], fat);
+        self.fats[slot] = Some(fat);
+    }
+
+    // Moves a leaf in its place where its box stays near, and else puts it where it fits best.
+    fn renew(&mut self, slot: u32, fat: FBox)
+        requires { is_some (slice_index_or self.old.fats slot None) ≡ true }
+        ensures { self.new.fats ≡ slice_set self.old.fats slot (Some fat) }
+    {
+        self.leaf_law();
+        if is_near(&self.fat_of(slot), &fat) {
+            self.move_in_place(slot, fat);
+        } else {
+            self.take(slot);
+            self.put(slot, fat);
+        }
     }
 }
 

@@ -4,6 +4,7 @@
 
 mod descent;
 mod group;
+mod kept_boxes;
 mod laws;
 mod leaves;
 mod moved;

@@ -1,11 +1,11 @@
 ghost use Rattle.std.specs.Prelude.{◌≡◌, ◌+◌, ◌*◌, ◌<◌, ◌^◌, ◌++◌, None, OnOk, length, map, slice_index_or};
 ghost use Rattle.tree_nodes.specs.Tree.{Tree, leaves};
 ghost use Rattle.box_tree.specs.declared.preorder.NodeKind.TheVariants.{Inner as InnerKind};
-ghost use Rattle.box_tree.specs.Descent.{IsInsideIn};
 ghost use Rattle.box_tree.specs.Group.{touched_of, IsBelow};
 ghost use Rattle.box_tree.specs.Preorder.{entry_at, leaf_node, listed, preorder, preorder_in};
 
 use crate::group::box_law;
+use crate::kept_boxes::KeptBoxes;
 use crate::touched::is_marked;
 use fixed_box::{FBox, NoMemory};
 use tree_nodes::{NodeView, Nodes};
@@ -27,20 +27,16 @@ pub(crate) enum NodeKind {
 }
 
 // Replaces a list by the nodes of a tree in preorder.
-pub(crate) fn list_preorder(
-    nodes: &Nodes,
-    bodies: &[Option<FBox>],
-    out: &mut Vec<ListedNode>,
-) -> Result<(), NoMemory>
-    requires { IsInsideIn bodies.now nodes.now }
-    ensures { OnOk result (out.new.items ≡ preorder_in bodies.now nodes.now) }
+pub(crate) fn list_preorder(boxes: &KeptBoxes, out: &mut Vec<ListedNode>) -> Result<(), NoMemory>
+    ensures { OnOk result (out.new.items ≡ preorder_in boxes.now.bodies boxes.now.tree) }
 {
     box_law();
+    boxes.kept_law();
     out.clear();
-    let Some(root) = nodes.root() else {
+    let Some(root) = boxes.root() else {
         return Ok(());
     };
-    push_preorder(nodes, bodies, root, out)?;
+    push_preorder(boxes.nodes(), boxes.bodies(), root, out)?;
     Ok(())
 }
 

@@ -2,13 +2,12 @@ ghost use Rattle.std.specs.Prelude.{◌≡◌, ℕ, ◌≤◌, ◌++◌, not, �
 ghost use Rattle.fixed_box.specs.declared.TheConstants.{SLOTS};
 ghost use Rattle.broad_index.specs.Touched.{gathered_with};
 ghost use Rattle.box_tree.specs.Boxes.{visits_for};
-ghost use Rattle.box_tree.specs.Descent.{IsInsideIn};
 ghost use Rattle.box_tree.specs.Searches.{sought_from, reached_in, searches, looked_for};
 
 use crate::descent::descend;
+use crate::kept_boxes::KeptBoxes;
 use broad_index::{Pair, Query, push_ordered_pairs};
 use fixed_box::{FBox, NoMemory, SLOTS, box_laws};
-use tree_nodes::Nodes;
 
 // Appends the touched slots that are present, in rising order.
 pub(crate) fn push_sought(
@@ -37,23 +36,21 @@ pub(crate) fn push_sought(
 // Replaces `out` by the other slots whose boxes meet the one of a slot, in no order, and answers how many nodes it looked
 // at. `met` is room.
 pub(crate) fn reach(
-    nodes: &Nodes,
-    bodies: &[Option<FBox>],
+    boxes: &KeptBoxes,
     slot: u32,
     met: &mut Vec<u32>,
     out: &mut Vec<u32>,
 ) -> Result<u32, NoMemory>
-    requires { IsInsideIn bodies.now nodes.now }
-    ensures ok { OnOk result (out.new.items ≡ reached_in bodies.now nodes.now slot) }
-    ensures count { IfOk result (λ n. n ≡ visits_for nodes.now (slice_index_or bodies.now slot None)) }
+    ensures ok { OnOk result (out.new.items ≡ reached_in boxes.now.bodies boxes.now.tree slot) }
+    ensures count { IfOk result (λ n. n ≡ visits_for boxes.now.tree (slice_index_or boxes.now.bodies slot None)) }
 {
     box_laws();
     out.clear();
-    let Some(Some(body)) = bodies.get(slot as usize) else {
+    let Some(body) = boxes.box_of(slot) else {
         return Ok(0);
     };
     met.clear();
-    let count = descend(nodes, bodies, &Query::Region(*body), met)?;
+    let count = descend(boxes, &Query::Region(body), met)?;
     push_others(slot, met, out)?;
     Ok(count)
 }
@@ -75,22 +72,20 @@ pub(crate) fn push_others(slot: u32, met: &[u32], out: &mut Vec<u32>) -> Result<
 // Appends the pairs of some slots with what each of them reaches, and answers a number raised by how many nodes it looked
 // at. `met` and `reached` are room.
 pub(crate) fn search_all(
-    nodes: &Nodes,
-    bodies: &[Option<FBox>],
+    boxes: &KeptBoxes,
     slots: &[u32],
     looked: u64,
     met: &mut Vec<u32>,
     reached: &mut Vec<u32>,
     found: &mut Vec<Pair>,
 ) -> Result<u64, NoMemory>
-    requires { IsInsideIn bodies.now nodes.now }
-    ensures ok { OnOk result (found.new.items ≡ found.old.items ++ gathered_with (searches bodies.now nodes.now slots.now)) }
-    ensures count { IfOk result (λ n. n ≡ looked_for nodes.now bodies.now slots.now looked) }
+    ensures ok { OnOk result (found.new.items ≡ found.old.items ++ gathered_with (searches boxes.now.bodies boxes.now.tree slots.now)) }
+    ensures count { IfOk result (λ n. n ≡ looked_for boxes.now.tree boxes.now.bodies slots.now looked) }
 {
     let mut rest = slots;
     let mut number = looked;
     'slots: while let Some((slot, more)) = rest.split_first() {
-        let count = reach(nodes, bodies, *slot, met, reached)?;
+        let count = reach(boxes, *slot, met, reached)?;
         push_ordered_pairs(*slot, reached, found)?;
         number = number.saturating_add(u64::from(count));
         rest = more;

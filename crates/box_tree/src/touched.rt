@@ -19,13 +19,13 @@ ghost use Rattle.box_tree.specs.Ties.{Sound};
 
 use crate::descent::descend;
 use crate::group::{GROUP, box_law, search_group};
+use crate::kept_boxes::KeptBoxes;
 use crate::preorder::{ListedNode, list_preorder, push_marked, push_marked_slots};
 use crate::renewal::Room;
 use crate::search::{push_others, push_sought, search_all};
 use broad_index::{Pair, Query, holding_laws, keeping_laws, push_ordered_pairs};
 use fixed_box::{FBox, NoMemory, SLOTS, box_laws};
 use std::alloc::Global;
-use tree_nodes::Nodes;
 
 // From how many touched slots on they are searched for in groups. For fewer it doesn't pay to walk over the tree.
 const FEWEST_GROUPED: usize = 1_024;
@@ -53,28 +53,26 @@ impl SearchRoom {
 // Replaces the found pairs by those of touched slots with the boxes that theirs meet, and answers a number raised by how
 // many nodes a descent for each of them looks at. Many are searched for in groups, in the order of their leaves.
 pub(crate) fn search_touched(
-    nodes: &Nodes,
-    bodies: &[Option<FBox>],
+    boxes: &KeptBoxes,
     marks: &[bool],
     looked: u64,
     preorder: &mut Vec<ListedNode>,
     room: &mut Room,
 ) -> Result<u64, NoMemory>
-    requires { (fats : List (Option Bounds)) × (numbers : List ℕ) × (kept : List Pair) ×
-        Sound nodes.now bodies.now fats numbers marks.now kept }
-    ensures ok { (kept : List Pair) → AreKept (map_of bodies.now) marks.now kept →
-        OnOk result (Renewed (map_of bodies.now) marks.now kept room.new.found.items) }
-    ensures count { IfOk result (λ n. n ≡ looked_for nodes.now bodies.now (sought_from marks.now 0 bodies.now) looked) }
+    requires { length marks.now ≡ SLOTS }
+    ensures ok { (kept : List Pair) → AreKept (map_of boxes.now.bodies) marks.now kept →
+        OnOk result (Renewed (map_of boxes.now.bodies) marks.now kept room.new.found.items) }
+    ensures count { IfOk result (λ n. n ≡ looked_for boxes.now.tree boxes.now.bodies (sought_from marks.now 0 boxes.now.bodies) looked) }
 {
     holding_laws();
     keeping_laws();
+    boxes.kept_law();
     room.found.clear();
     room.slots.clear();
-    push_sought(bodies, marks, &mut room.slots)?;
+    push_sought(boxes.bodies(), marks, &mut room.slots)?;
     if room.slots.len() < FEWEST_GROUPED {
         let few = search_slots(
-            nodes,
-            bodies,
+            boxes,
             &room.slots,
             looked,
             &mut room.search,
@@ -83,10 +81,10 @@ pub(crate) fn search_touched(
         return Ok(few);
     }
     let search = &mut room.search;
-    list_preorder(nodes, bodies, preorder)?;
+    list_preorder(boxes, preorder)?;
     search.touched.clear();
     push_marked(preorder, marks, &mut search.touched)?;
-    let many = search_groups(nodes, bodies, preorder, looked, search, &mut room.found)?;
+    let many = search_groups(boxes, preorder, looked, search, &mut room.found)?;
     Ok(many)
 }
 
@@ -100,31 +98,24 @@ pub(crate) fn listing(listed: bool, preorder: &[ListedNode]) -> Option<&[ListedN
 // Appends the touched slots that are present in the order of their leaves, so that those that lie together in space mostly
 // stand together.
 pub(crate) fn push_shared(
-    nodes: &Nodes,
-    bodies: &[Option<FBox>],
+    boxes: &KeptBoxes,
     listing: Option<&[ListedNode]>,
     marks: &[bool],
     out: &mut Vec<u32>,
 ) -> Result<(), NoMemory>
-    requires inside { IsInsideIn bodies.now nodes.now }
-    requires bodies { length bodies.now ≡ SLOTS }
     requires marks { length marks.now ≡ SLOTS }
-    requires list { IfSome listing (λ list. list.now ≡ preorder_in bodies.now nodes.now) }
-    requires along { marked_slots marks.now (leaves_in nodes.now) ≡ map (λ e. e.0) (touched_of marks.now (exact_in bodies.now nodes.now)) }
+    requires list { IfSome listing (λ list. list.now ≡ preorder_in boxes.now.bodies boxes.now.tree) }
     requires empty { out.old.items ≡ [] }
-    ensures ok { OnOk result (out.new.items ≡ marked_slots marks.now (leaves_in nodes.now)) }
+    ensures ok { OnOk result (out.new.items ≡ marked_slots marks.now (leaves_in boxes.now.tree)) }
     ensures few { OnOk result (length out.new.items ≤ SLOTS) }
 {
-    box_law();
-    let Some(_top) = nodes.root() else {
-        return Ok(());
-    };
+    boxes.kept_law();
     if let Some(list) = listing {
         push_marked_slots(list, marks, out)?;
         return Ok(());
     }
     let mut list = Vec::new(*out.allocator());
-    list_preorder(nodes, bodies, &mut list)?;
+    list_preorder(boxes, &mut list)?;
     push_marked_slots(&list, marks, out)?;
     Ok(())
 }
@@ -133,46 +124,40 @@ pub(crate) fn push_shared(
 // for each of them looks at. Where the nodes are listed, they are searched for in groups, in the order in which they are
 // given.
 pub(crate) fn search_run(
-    nodes: &Nodes,
-    bodies: &[Option<FBox>],
+    boxes: &KeptBoxes,
     listing: Option<&[ListedNode]>,
     slots: &[u32],
     looked: u64,
     room: &mut SearchRoom,
     found: &mut Vec<Pair>,
 ) -> Result<u64, NoMemory>
-    requires inside { IsInsideIn bodies.now nodes.now }
-    requires held { Holds (map_of bodies.now) (exact_in bodies.now nodes.now) }
-    requires list { IfSome listing (λ list. list.now ≡ preorder_in bodies.now nodes.now) }
-    ensures ok { OnOk result (Adds found.old.items found.new.items (gathered_with (searches bodies.now nodes.now slots.now))) }
-    ensures count { IfOk result (λ n. n ≡ looked_for nodes.now bodies.now slots.now looked) }
+    requires list { IfSome listing (λ list. list.now ≡ preorder_in boxes.now.bodies boxes.now.tree) }
+    ensures ok { OnOk result (Adds found.old.items found.new.items (gathered_with (searches boxes.now.bodies boxes.now.tree slots.now))) }
+    ensures count { IfOk result (λ n. n ≡ looked_for boxes.now.tree boxes.now.bodies slots.now looked) }
 {
     let Some(preorder) = listing else {
-        let few = search_slots(nodes, bodies, slots, looked, room, found)?;
+        let few = search_slots(boxes, slots, looked, room, found)?;
         return Ok(few);
     };
     room.touched.clear();
-    push_boxes(bodies, slots, &mut room.touched)?;
-    let many = search_groups(nodes, bodies, preorder, looked, room, found)?;
+    push_boxes(boxes, slots, &mut room.touched)?;
+    let many = search_groups(boxes, preorder, looked, room, found)?;
     Ok(many)
 }
 
 // The same slot by slot.
 fn search_slots(
-    nodes: &Nodes,
-    bodies: &[Option<FBox>],
+    boxes: &KeptBoxes,
     slots: &[u32],
     looked: u64,
     room: &mut SearchRoom,
     found: &mut Vec<Pair>,
 ) -> Result<u64, NoMemory>
-    requires { IsInsideIn bodies.now nodes.now }
-    ensures ok { OnOk result (found.new.items ≡ found.old.items ++ gathered_with (searches bodies.now nodes.now slots.now)) }
-    ensures count { IfOk result (λ n. n ≡ looked_for nodes.now bodies.now slots.now looked) }
+    ensures ok { OnOk result (found.new.items ≡ found.old.items ++ gathered_with (searches boxes.now.bodies boxes.now.tree slots.now)) }
+    ensures count { IfOk result (λ n. n ≡ looked_for boxes.now.tree boxes.now.bodies slots.now looked) }
 {
     search_all(
-        nodes,
-        bodies,
+        boxes,
         slots,
         looked,
         &mut room.met,
@@ -182,17 +167,13 @@ fn search_slots(
 }
 
 // Appends each slot that has a box with it.
-fn push_boxes(
-    bodies: &[Option<FBox>],
-    slots: &[u32],
-    out: &mut Vec<(u32, FBox)>,
-) -> Result<(), NoMemory>
-    ensures { OnOk result (out.new.items ≡ out.old.items ++ boxed bodies.now slots.now) }
+fn push_boxes(boxes: &KeptBoxes, slots: &[u32], out: &mut Vec<(u32, FBox)>) -> Result<(), NoMemory>
+    ensures { OnOk result (out.new.items ≡ out.old.items ++ boxed boxes.now.bodies slots.now) }
 {
     let mut rest = slots;
     'slots: while let [slot, more @ ..] = rest {
-        if let Some(Some(body)) = bodies.get(*slot as usize) {
-            out.push((*slot, *body))?;
+        if let Some(body) = boxes.box_of(*slot) {
+            out.push((*slot, body))?;
         }
         rest = more;
     }
@@ -201,24 +182,20 @@ fn push_boxes(
 
 // Searches for the touched boxes of a room in the list of the nodes.
 fn search_groups(
-    nodes: &Nodes,
-    bodies: &[Option<FBox>],
+    boxes: &KeptBoxes,
     preorder: &[ListedNode],
     looked: u64,
     room: &mut SearchRoom,
     found: &mut Vec<Pair>,
 ) -> Result<u64, NoMemory>
-    requires inside { IsInsideIn bodies.now nodes.now }
-    requires held { Holds (map_of bodies.now) (exact_in bodies.now nodes.now) }
-    requires list { preorder.now ≡ preorder_in bodies.now nodes.now }
-    requires touched { AreOf bodies.now room.old.touched.items }
-    ensures ok { OnOk result (Adds found.old.items found.new.items (crossed (exact_in bodies.now nodes.now) room.old.touched.items)) }
-    ensures count { IfOk result (λ n. n ≡ raised looked (all_visits_in nodes.now room.old.touched.items)) }
+    requires list { preorder.now ≡ preorder_in boxes.now.bodies boxes.now.tree }
+    requires touched { AreOf boxes.now.bodies room.old.touched.items }
+    ensures ok { OnOk result (Adds found.old.items found.new.items (crossed (exact_in boxes.now.bodies boxes.now.tree) room.old.touched.items)) }
+    ensures count { IfOk result (λ n. n ≡ raised looked (all_visits_in boxes.now.tree room.old.touched.items)) }
 {
     none_done(&mut room.done)?;
     let number = search_by_groups(
-        nodes,
-        bodies,
+        boxes,
         preorder,
         &room.touched,
         looked,
@@ -243,8 +220,7 @@ fn none_done(done: &mut Vec<bool>) -> Result<(), NoMemory>
 // Searches for touched boxes group by group, and for those that are left one by one. A pair of two groups is found from the
 // earlier one alone. `met` and `others` are room.
 fn search_by_groups(
-    nodes: &Nodes,
-    bodies: &[Option<FBox>],
+    boxes: &KeptBoxes,
     preorder: &[ListedNode],
     touched: &[(u32, FBox)],
     looked: u64,
@@ -253,16 +229,15 @@ fn search_by_groups(
     others: &mut Vec<u32>,
     found: &mut Vec<Pair>,
 ) -> Result<u64, NoMemory>
-    requires inside { IsInsideIn bodies.now nodes.now }
-    requires held { Holds (map_of bodies.now) (exact_in bodies.now nodes.now) }
-    requires list { preorder.now ≡ preorder_in bodies.now nodes.now }
-    requires touched { AreOf bodies.now touched.now }
+    requires list { preorder.now ≡ preorder_in boxes.now.bodies boxes.now.tree }
+    requires touched { AreOf boxes.now.bodies touched.now }
     requires none { (k : ℕ) → slice_index_or done.old k false ≡ false }
-    ensures ok { OnOk result (Adds found.old.items found.new.items (crossed (exact_in bodies.now nodes.now) touched.now)) }
-    ensures count { IfOk result (λ n. n ≡ raised looked (all_visits_in nodes.now touched.now)) }
+    ensures ok { OnOk result (Adds found.old.items found.new.items (crossed (exact_in boxes.now.bodies boxes.now.tree) touched.now)) }
+    ensures count { IfOk result (λ n. n ≡ raised looked (all_visits_in boxes.now.tree touched.now)) }
 {
     box_law();
-    let Some(_top) = nodes.root() else {
+    boxes.kept_law();
+    let Some(_top) = boxes.root() else {
         return Ok(looked);
     };
     let mut rest = touched;
@@ -273,7 +248,7 @@ fn search_by_groups(
         set_done(group, done);
         rest = more;
     }
-    let all = search_each(nodes, bodies, rest, number, met, others, found)?;
+    let all = search_each(boxes, rest, number, met, others, found)?;
     Ok(all)
 }
 
@@ -291,22 +266,20 @@ fn set_done(group: &[(u32, FBox)], done: &mut [bool])
 
 // Searches for touched boxes one by one. `met` and `others` are room.
 fn search_each(
-    nodes: &Nodes,
-    bodies: &[Option<FBox>],
+    boxes: &KeptBoxes,
     touched: &[(u32, FBox)],
     looked: u64,
     met: &mut Vec<u32>,
     others: &mut Vec<u32>,
     found: &mut Vec<Pair>,
 ) -> Result<u64, NoMemory>
-    requires { IsInsideIn bodies.now nodes.now }
-    ensures ok { OnOk result (found.new.items ≡ found.old.items ++ crossed (exact_in bodies.now nodes.now) touched.now) }
-    ensures count { IfOk result (λ n. n ≡ raised looked (all_visits_in nodes.now touched.now)) }
+    ensures ok { OnOk result (found.new.items ≡ found.old.items ++ crossed (exact_in boxes.now.bodies boxes.now.tree) touched.now) }
+    ensures count { IfOk result (λ n. n ≡ raised looked (all_visits_in boxes.now.tree touched.now)) }
 {
     let mut rest = touched;
     let mut number = looked;
     'touched: while let [(slot, body), more @ ..] = rest {
-        let count = search_one(nodes, bodies, *slot, body, met, others, found)?;
+        let count = search_one(boxes, *slot, body, met, others, found)?;
         number = number.saturating_add(u64::from(count));
         rest = more;
     }
@@ -315,22 +288,20 @@ fn search_each(
 
 // Searches for one touched box, and answers how many nodes its descent looked at.
 fn search_one(
-    nodes: &Nodes,
-    bodies: &[Option<FBox>],
+    boxes: &KeptBoxes,
     slot: u32,
     body: &FBox,
     met: &mut Vec<u32>,
     others: &mut Vec<u32>,
     found: &mut Vec<Pair>,
 ) -> Result<u32, NoMemory>
-    requires { IsInsideIn bodies.now nodes.now }
     ensures ok { OnOk result (found.new.items ≡ found.old.items ++
-        ordered_pairs slot (filter (λ s. not (s == slot)) (found_of (exact_in bodies.now nodes.now) (Region body.now)))) }
-    ensures count { IfOk result (λ n. n ≡ visits_in nodes.now body.now) }
+        ordered_pairs slot (filter (λ s. not (s == slot)) (found_of (exact_in boxes.now.bodies boxes.now.tree) (Region body.now)))) }
+    ensures count { IfOk result (λ n. n ≡ visits_in boxes.now.tree body.now) }
 {
     box_laws();
     met.clear();
-    let count = descend(nodes, bodies, &Query::Region(*body), met)?;
+    let count = descend(boxes, &Query::Region(*body), met)?;
     others.clear();
     push_others(slot, met, others)?;
     push_ordered_pairs(slot, others, found)?;

@@ -6,21 +6,21 @@ ghost use Rattle.fixed_box.specs.Bounds.{Bounds, encloses, fattened};
 ghost use Rattle.broad_index.specs.Fresh.{IsFresh};
 ghost use Rattle.broad_index.specs.Held.{Holds};
 ghost use Rattle.tree_nodes.specs.Tree.{height_in, leaves_in, IsTreeIn};
-ghost use Rattle.box_tree.specs.Boxes.{no_boxes as outset, shifted, told, fat_entry, is_inside, cost, searched, shared_slots, Finds};
+ghost use Rattle.box_tree.specs.declared.TheConstants.{MARGIN};
+ghost use Rattle.box_tree.specs.Boxes.{no_boxes as outset, shifted, told, fat_entry, cost, searched, shared_slots, Finds};
 
+use crate::Moved;
 use crate::descent::descend;
-use crate::leaves::{add_leaf, drop_leaf, relink};
+use crate::kept_boxes::KeptBoxes;
 use crate::preorder::{ListedNode, list_preorder};
 use crate::renewal::{Room, renew};
 use crate::search::reach;
 use crate::touched::{SearchRoom, listing, push_shared, search_run, search_touched};
-use crate::{MARGIN, Moved};
 use broad_index::{
     BroadPhase, FEWEST_SOUGHT, Pair, PairSeeker, Query, Seeker, holding_laws, join_pieces,
     keeping_laws, member_laws, pays_threads, push_rising_slots, settle_pairs,
 };
 use fixed_box::{FBox, NoMemory, SLOTS};
-use slot_lists::no_boxes;
 use std::alloc::Global;
 use std::marker::Model;
 use tree_nodes::{MOST_HEIGHT, Nodes};
@@ -39,18 +39,12 @@ use tree_nodes::{MOST_HEIGHT, Nodes};
 /// Changes take no memory; `new` and every search do. The structure is never spent.
 #[derive(Drop)]
 pub struct BoxTree {
-    nodes: Nodes,
-    // Of each slot that is present: its box, its fat box, and the number of its leaf.
-    bodies: Vec<Option<FBox>>,
-    fats: Vec<Option<FBox>>,
-    numbers: Vec<usize>,
+    boxes: KeptBoxes,
     // Which slots are touched.
     marks: Vec<bool>,
     // The pairs that were found last. Those with a touched slot may be wrong by now.
     kept: Vec<Pair>,
     looked: u64,
-    // How many more changes of the tree there are before it is rebuilt.
-    until_rebuild: usize,
     // The nodes as searches read them, and whether the list is up to date.
     preorder: Vec<ListedNode>,
     listed: bool,
@@ -67,14 +61,14 @@ impl Model for BoxTree {
     ghost coded = { coded_boxes };
 
     ghost view = { λ t. record {
-      bodies = map_of t.bodies.items;
-      fats = map_of t.fats.items;
-      tree = t.nodes;
+      bodies = map_of t.boxes.bodies;
+      fats = map_of t.boxes.fats;
+      tree = t.boxes.tree;
       touched = t.marks.items;
       looked = t.looked;
     } };
 
-    ghost invariant = { λ t. Whole t.nodes t.bodies.items t.fats.items t.numbers.items t.marks.items t.kept.items t.preorder.items t.listed };
+    ghost invariant = { λ t. Whole t.boxes t.marks.items t.kept.items t.preorder.items t.listed };
 }
 
 impl BoxTree {
@@ -84,14 +78,10 @@ impl BoxTree {
         ensures none { IfOk result (λ tree. tree ≡ outset) }
     {
         Ok(BoxTree {
-            nodes: Nodes::new(alloc)?,
-            bodies: no_boxes(alloc)?,
-            fats: no_boxes(alloc)?,
-            numbers: vec![in alloc; 0; SLOTS as usize]?,
+            boxes: KeptBoxes::new(alloc)?,
             marks: vec![in alloc; false; SLOTS as usize]?,
             kept: Vec::new(alloc),
             looked: 0,
-            until_rebuild: 0,
             preorder: Vec::new(alloc),
             listed: false,
             room: Room::new(alloc),
@@ -109,22 +99,10 @@ impl BoxTree {
         ensures looked { self.new.looked ≡ self.old.looked }
     {
         keeping_laws();
-        let at = slot as usize;
         self.listed = false;
-        self.bodies[at] = Some(body);
-        self.marks[at] = true;
-        if is_inside(&self.fats[at], &body) {
-            return Moved::Inside;
-        }
-        relink(
-            &mut self.nodes,
-            &mut self.fats,
-            &mut self.numbers,
-            &mut self.until_rebuild,
-            slot,
-            body.fatten(MARGIN),
-        );
-        Moved::Relinked
+        let moved = self.boxes.set(slot, body);
+        self.marks[slot as usize] = true;
+        moved
     }
 
     /// The fat box of a slot, and `None` exactly where the slot is absent.
@@ -134,12 +112,7 @@ impl BoxTree {
         ensures inside { (body : Bounds) → map.get self.now.bodies slot ≡ Some body →
             IfSome result (λ fat. IsTrue (encloses fat body)) }
     {
-        let slot = slot as usize;
-        if slot < self.fats.len() {
-            self.fats[slot]
-        } else {
-            None
-        }
+        self.boxes.fat_of(slot)
     }
 
     /// The kept tree. Its leaves have exactly the present slots, each with its fat box.
@@ -149,7 +122,7 @@ impl BoxTree {
         ensures leaves { Holds self.now.fats (mapped fat_entry (leaves_in self.now.tree)) }
         ensures present { (slot : ℕ) → map.contains_key self.now.fats slot ≡ map.contains_key self.now.bodies slot }
     {
-        &self.nodes
+        self.boxes.nodes()
     }
 
     /// The height of the tree, at most 18.
@@ -157,7 +130,7 @@ impl BoxTree {
         ensures value { result ≡ height_in self.now.tree }
         ensures most { result ≤ MOST_HEIGHT }
     {
-        self.nodes.height()
+        self.boxes.nodes().height()
     }
 
     /// How many nodes `pairs` and `pairs_with` have looked at. It stops at its greatest value.
@@ -201,18 +174,9 @@ impl BroadPhase for BoxTree {
         ensures looked { self.new.looked ≡ self.old.looked }
     {
         keeping_laws();
-        let place = slot as usize;
         self.listed = false;
-        self.bodies[place] = Some(body);
-        self.marks[place] = true;
-        add_leaf(
-            &mut self.nodes,
-            &mut self.fats,
-            &mut self.numbers,
-            &mut self.until_rebuild,
-            slot,
-            body.fatten(MARGIN),
-        );
+        self.boxes.put(slot, body);
+        self.marks[slot as usize] = true;
         Ok(())
     }
 
@@ -237,11 +201,9 @@ impl BroadPhase for BoxTree {
         ensures looked { self.new.looked ≡ self.old.looked }
     {
         keeping_laws();
-        let at = slot as usize;
         self.listed = false;
-        self.bodies[at] = None;
-        self.marks[at] = true;
-        drop_leaf(&mut self.nodes, &mut self.fats, &self.numbers, slot);
+        self.boxes.take(slot);
+        self.marks[slot as usize] = true;
     }
 
     fn pairs(&mut self, out: &mut Vec<Pair>) -> Result<(), NoMemory> {
@@ -249,8 +211,7 @@ impl BroadPhase for BoxTree {
         // the list is written anew
         self.listed = false;
         let looked = search_touched(
-            &self.nodes,
-            &self.bodies,
+            &self.boxes,
             &self.marks,
             self.looked,
             &mut self.preorder,
@@ -263,23 +224,19 @@ impl BroadPhase for BoxTree {
 
     fn hits(&self, query: &Query, out: &mut Vec<u32>) -> Result<(), NoMemory> {
         holding_laws();
+        self.boxes.kept_law();
         let mut met = Vec::new(*out.allocator());
-        descend(&self.nodes, &self.bodies, query, &mut met)?;
+        descend(&self.boxes, query, &mut met)?;
         push_rising_slots(&mut met, out)
     }
 
     fn box_of(&self, slot: u32) -> Option<FBox> {
-        let slot = slot as usize;
-        if slot < self.bodies.len() {
-            self.bodies[slot]
-        } else {
-            None
-        }
+        self.boxes.box_of(slot)
     }
 
     // Each present slot has one leaf.
     fn len(&self) -> u32 {
-        self.nodes.len() as u32
+        self.boxes.len()
     }
 
     fn exchanges(&self) -> u64 {
@@ -295,7 +252,7 @@ impl BroadPhase for BoxTree {
         if self.listed {
             return Ok(());
         }
-        list_preorder(&self.nodes, &self.bodies, &mut self.preorder)?;
+        list_preorder(&self.boxes, &mut self.preorder)?;
         self.listed = true;
         Ok(())
     }
@@ -315,10 +272,10 @@ impl BroadPhase for BoxTree {
         ensures present { IfOk result (λ shared. IfSome shared (λ s. All (λ slot. map.contains_key self.now.bodies slot ≡ true) s.1.items)) }
         ensures few { IfOk result (λ shared. IfSome shared (λ s. length s.1.items < 2 ^ 32)) }
     {
+        self.boxes.kept_law();
         let mut slots = Vec::new(alloc);
         push_shared(
-            &self.nodes,
-            &self.bodies,
+            &self.boxes,
             listing(self.listed, &self.preorder),
             &self.marks,
             &mut slots,
@@ -330,6 +287,7 @@ impl BroadPhase for BoxTree {
         holding_laws();
         member_laws();
         keeping_laws();
+        self.boxes.kept_law();
         let counted = join_pieces(&found, self.looked, &mut self.room.found)?;
         renew(&mut self.kept, &mut self.marks, &mut self.room, out)?;
         self.looked = counted;
@@ -345,11 +303,11 @@ impl PairSeeker for BoxTree {
     fn seek_pairs(&self, alloc: Global, slots: &[u32]) -> Result<(Vec<Pair>, u64), NoMemory> {
         holding_laws();
         keeping_laws();
+        self.boxes.kept_law();
         let mut room = SearchRoom::new(alloc);
         let mut found = Vec::new(alloc);
         let cost = search_run(
-            &self.nodes,
-            &self.bodies,
+            &self.boxes,
             listing(self.listed, &self.preorder),
             slots,
             0,
@@ -369,21 +327,12 @@ impl Seeker for BoxTree {
 
     fn seek(&self, slot: u32, out: &mut Vec<u32>) -> Result<u32, NoMemory> {
         holding_laws();
+        self.boxes.kept_law();
         let alloc = *out.allocator();
         let mut met = Vec::new(alloc);
         let mut reached = Vec::new(alloc);
-        let count = reach(&self.nodes, &self.bodies, slot, &mut met, &mut reached)?;
+        let count = reach(&self.boxes, slot, &mut met, &mut reached)?;
         push_rising_slots(&mut reached, out)?;
         Ok(count)
-    }
-}
-
-// Whether a fat box is there and encloses a box.
-fn is_inside(fat: &Option<FBox>, body: &FBox) -> bool
-    ensures { result ≡ is_inside fat.now body.now }
-{
-    match fat {
-        Some(fat) => fat.holds_box(body),
-        None => false,
     }
 }

@@ -1,14 +1,17 @@
 -- The root is the top of the tree.
-use Rattle.std.proofs.Common.{◌≡◌, sym, ◌∙◌, Some, Option, ℕ, List, None, option_map}
+use Rattle.std.proofs.Common.{◌≡◌, sym, subst, ◌∙◌, Some, Option, ℕ, List, None, option_map}
 use Rattle.fixed_box.specs.Bounds.{Bounds}
 use Rattle.tree_nodes.specs.Tree.{Tree, IsTree, IsTreeIn, top}
 use Rattle.box_tree.specs.Descent.{IsInside, IsInsideIn}
 use Rattle.box_tree.proofs.descent.descend.Goals as goal
 
+tree_there : (bodies : List (Option Bounds)) (o : Option Tree) (n : ℕ) → option_map top o ≡ Some n → IsTreeIn o → IsInsideIn bodies o
+    → (x : Tree) × (o ≡ Some x) × (n ≡ top x) × IsTree x × IsInside bodies x
+tree_there bodies None n e s i = cc
+tree_there bodies (Some t) n e s i = (t, cc, cc, s, i)
+
 pub walk-requires : goal.walk-requires
-walk-requires c = tree_there c.args.bodies.now c.args.nodes.now c.in-Some.root (sym c.root.ensures.value ∙ c.in-Some.is) c.root.ensures.tree c.requires
-  where
-    tree_there : (bodies : List (Option Bounds)) (o : Option Tree) (n : ℕ) → option_map top o ≡ Some n → IsTreeIn o → IsInsideIn bodies o
-        → (x : Tree) × (o ≡ Some x) × (n ≡ top x) × IsTree x × IsInside bodies x
-    tree_there bodies None n e s i = cc
-    tree_there bodies (Some t) n e s i = (t, cc, cc, s, i)
+walk-requires c =
+    let k = c.args.boxes.now in
+    let r = tree_there k.bodies k.tree c.in-Some.root (sym c.root.ensures ∙ c.in-Some.is) c.kept_law.ensures.kept.leafed.is_tree c.kept_law.ensures.inside in
+    (r.0, c.nodes.ensures.value ∙ r.1, r.2, r.3, subst (λ bs. IsInside bs r.0) (sym c.bodies.ensures) r.4)

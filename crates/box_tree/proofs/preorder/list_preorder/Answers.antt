@@ -2,22 +2,28 @@
 use Rattle.std.proofs.Common.{◌≡◌, ◌≤◌, ◌++◌, ◌∙◌, length, ap, sym, subst, arith}
 use Rattle.fixed_box.specs.declared.TheConstants.{SLOTS}
 use Rattle.tree_nodes.specs.Tree.{leaves, IsTreeIn}
+use Rattle.box_tree.specs.Group.{IsBelow}
 use Rattle.box_tree.specs.Preorder.{preorder, preorder_in}
 use Rattle.box_tree.proofs.Groups.{root_below}
 use Rattle.box_tree.proofs.preorder.list_preorder.Goals as goal
 
 pub push_preorder-requires : goal.push_preorder-requires
 push_preorder-requires c =
-    let b = root_below c.box_law.ensures c.args.nodes.now c.args.bodies.now c.in-Some.root (sym c.root.ensures.value ∙ c.in-Some.is)
-    c.root.ensures.tree c.requires in
-    let few : length (leaves b.0) ≤ SLOTS = (subst IsTreeIn b.1 c.root.ensures.tree).few in
+    let b = root_below c.box_law.ensures c.args.boxes.now.tree c.args.boxes.now.bodies c.in-Some.root (sym c.root.ensures ∙ c.in-Some.is)
+    c.kept_law.ensures.kept.leafed.is_tree c.kept_law.ensures.inside in
+    let few : length (leaves b.0) ≤ SLOTS = (subst IsTreeIn b.1 c.kept_law.ensures.kept.leafed.is_tree).few in
     let none : length c.clear.new.self.items ≡ 0 = ap length c.clear.ensures.items in
-    (b.0, b.2, omega arith)
+    let below = subst (λ o. IsBelow o c.bodies.result.now c.in-Some.root b.0) (sym c.nodes.ensures.value)
+    (subst (λ bs. IsBelow c.args.boxes.now.tree bs c.in-Some.root b.0) (sym c.bodies.ensures) b.2) in
+    (b.0, below, omega arith)
 
 pub returns : goal.returns
 returns c =
-    let b = root_below c.box_law.ensures c.args.nodes.now c.args.bodies.now c.in-Some.root (sym c.root.ensures.value ∙ c.in-Some.is)
-    c.root.ensures.tree c.requires in
-    c.in_ok-push_preorder.ensures b.0 b.2
-    ∙ ap (λ xs. xs ++ preorder c.args.bodies.now b.0) c.clear.ensures.items
-    ∙ sym (ap (preorder_in c.args.bodies.now) b.1)
+    let b = root_below c.box_law.ensures c.args.boxes.now.tree c.args.boxes.now.bodies c.in-Some.root (sym c.root.ensures ∙ c.in-Some.is)
+    c.kept_law.ensures.kept.leafed.is_tree c.kept_law.ensures.inside in
+    let below = subst (λ o. IsBelow o c.bodies.result.now c.in-Some.root b.0) (sym c.nodes.ensures.value)
+    (subst (λ bs. IsBelow c.args.boxes.now.tree bs c.in-Some.root b.0) (sym c.bodies.ensures) b.2) in
+    c.in_ok-push_preorder.ensures b.0 below
+    ∙ ap (λ bs. c.clear.new.self.items ++ preorder bs b.0) c.bodies.ensures
+    ∙ ap (λ xs. xs ++ preorder c.args.boxes.now.bodies b.0) c.clear.ensures.items
+    ∙ sym (ap (preorder_in c.args.boxes.now.bodies) b.1)

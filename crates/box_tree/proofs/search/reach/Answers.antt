@@ -1,11 +1,11 @@
 -- A descent with a region is one with its box.
-use Rattle.std.proofs.Common.{rules, ◌≡◌, ◌∙◌, sym, ap, None, Some, slice_index_or}
+use Rattle.std.proofs.Common.{◌≡◌, ◌∙◌, sym, ap, None, Some, slice_index_or}
 use Rattle.box_tree.specs.Boxes.{visits_for}
 use Rattle.box_tree.proofs.Counts.{region_visits}
 use Rattle.box_tree.proofs.search.reach.Goals as goal
 
 pub returns-clause-count : goal.returns-clause-count
 returns-clause-count c =
-    let here : slice_index_or c.args.bodies.now c.args.slot None ≡ Some c.in-Some-Some.body = search rules in
-    c.in_ok-count.ensures.count ∙ region_visits c.box_laws.ensures.either_way c.args.nodes.now c.in-Some-Some.body
-    ∙ sym (ap (visits_for c.args.nodes.now) here)
+    let here : slice_index_or c.args.boxes.now.bodies c.args.slot None ≡ Some c.in-Some.body = sym c.box_of.ensures.listed ∙ c.in-Some.is in
+    c.in_ok-count.ensures.count ∙ region_visits c.box_laws.ensures.either_way c.args.boxes.now.tree c.in-Some.body
+    ∙ sym (ap (visits_for c.args.boxes.now.tree) here)

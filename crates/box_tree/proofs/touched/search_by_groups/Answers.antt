@@ -12,16 +12,16 @@ use Rattle.box_tree.proofs.touched.search_by_groups.Goals as goal
 
 pub returns-in_default-clause-ok : goal.returns-in_default-clause-ok
 returns-in_default-clause-ok c =
-    adds_none c.args.nodes.now c.args.bodies.now c.args.touched.now c.args.found.now.items (sym c.root.ensures.value ∙ c.in_default.is)
+    adds_none c.args.boxes.now.tree c.args.boxes.now.bodies c.args.touched.now c.args.found.now.items (sym c.root.ensures ∙ c.in_default.is)
 
 pub returns-in_default-clause-count : goal.returns-in_default-clause-count
 returns-in_default-clause-count c =
-    sym (ap (raised c.args.looked) (visits_none c.args.nodes.now c.args.touched.now (sym c.root.ensures.value ∙ c.in_default.is))
+    sym (ap (raised c.args.looked) (visits_none c.args.boxes.now.tree c.args.touched.now (sym c.root.ensures ∙ c.in_default.is))
     ∙ raised_none c.args.looked c.ranges.looked.fits)
 
 pub groups-init : goal.groups-init
 groups-init c =
-    let all = exact_in c.args.bodies.now c.args.nodes.now in
+    let all = exact_in c.args.boxes.now.bodies c.args.boxes.now.tree in
     record {
       found = λ p. refl;
       older = nothing_owed all c.args.done.now c.requires.none c.args.found.now.items;
@@ -32,34 +32,34 @@ groups-init c =
 
 pub search_group-requires-clause-list : goal.search_group-requires-clause-list
 search_group-requires-clause-list c =
-    let b = root_below c.box_law.ensures c.args.nodes.now c.args.bodies.now c.in-Some._top (sym c.root.ensures.value ∙ c.in-Some.is)
-    c.root.ensures.tree c.requires.inside in (
-      c.args.bodies.now,
+    let b = root_below c.box_law.ensures c.args.boxes.now.tree c.args.boxes.now.bodies c.in-Some._top (sym c.root.ensures ∙ c.in-Some.is)
+    c.kept_law.ensures.kept.leafed.is_tree c.kept_law.ensures.inside in (
+      c.args.boxes.now.bodies,
       b.0,
-      record { list_is = c.requires.list ∙ ap (preorder_in c.args.bodies.now) b.1; balanced = b.2.balanced; inside = b.2.inside },
+      record { list_is = c.requires.list ∙ ap (preorder_in c.args.boxes.now.bodies) b.1; balanced = b.2.balanced; inside = b.2.inside },
     )
 
 pub groups-preserved : goal.groups-preserved
 groups-preserved c =
-    let o = c.args.nodes.now in
-    let bs = c.args.bodies.now in
+    let o = c.args.boxes.now.tree in
+    let bs = c.args.boxes.now.bodies in
     let all = exact_in bs o in
     let group = c.split_at.result.0.now in
     let more = c.split_at.result.1.now in
     let rest = c.groups.rest.now in
     let found = c.groups.found.items in
     let now = c.search_group.new.found.items in
-    let b = root_below c.box_law.ensures o bs c.in-Some._top (sym c.root.ensures.value ∙ c.in-Some.is) c.root.ensures.tree c.requires.inside in
+    let b = root_below c.box_law.ensures o bs c.in-Some._top (sym c.root.ensures ∙ c.in-Some.is) c.kept_law.ensures.kept.leafed.is_tree c.kept_law.ensures.inside in
     let listed : IsListed bs b.0 c.args.preorder.now =
     record { list_is = c.requires.list ∙ ap (preorder_in bs) b.1; balanced = b.2.balanced; inside = b.2.inside } in
     let own = exact_in_own bs o in
     let parts = sym c.split_at.ensures.by_index.0 in
     let are = own_front bs group more rest parts c.groups.invariant.own in
     let e = c.in_ok-number.ensures.ok bs b.0 listed ∙ ap (λ u. found ++ crossed group (undone c.groups.done (exact_in bs u))) (sym b.1) in
-    let adds = group_adds bs all c.requires.held own c.box_law.ensures.either_way c.groups.done group are found now c.groups.invariant.older e in
+    let adds = group_adds bs all c.kept_law.ensures.held own c.box_law.ensures.either_way c.groups.done group are found now c.groups.invariant.older e in
     record {
       found = λ p. group_on all group more rest found now parts adds p ∙ c.groups.invariant.found p;
-      older = group_done bs all c.requires.held own c.box_law.ensures.either_way c.groups.done group are found now c.groups.invariant.older e
+      older = group_done bs all c.kept_law.ensures.held own c.box_law.ensures.either_way c.groups.done group are found now c.groups.invariant.older e
           c.set_done.new.done c.set_done.ensures;
       own = own_back bs group more rest parts c.groups.invariant.own;
       count = visits_on o group more rest c.groups.number c.in_ok-number.number parts

@@ -4,4 +4,4 @@ use Rattle.box_tree.proofs.Counts.{region_visits}
 use Rattle.box_tree.proofs.touched.search_one.Goals as goal
 
 pub returns-clause-count : goal.returns-clause-count
-returns-clause-count c = c.in_ok-count.ensures.count ∙ region_visits c.box_laws.ensures.either_way c.args.nodes.now c.args.body.now
+returns-clause-count c = c.in_ok-count.ensures.count ∙ region_visits c.box_laws.ensures.either_way c.args.boxes.now.tree c.args.body.now

@@ -9,22 +9,22 @@ use Rattle.box_tree.proofs.touched.search_run.Goals as goal
 
 pub search_groups-requires-clause-touched : goal.search_groups-requires-clause-touched
 search_groups-requires-clause-touched c =
-    let bs = c.args.bodies.now in
+    let bs = c.args.boxes.now.bodies in
     subst (AreOf bs) (sym (c.in_ok-push_boxes.ensures ∙ ap (λ es. es ++ boxed bs c.args.slots.now) c.clear.ensures.items)) (boxed_own bs c.args.slots.now)
 
 pub returns-clause-ok : goal.returns-clause-ok
 returns-clause-ok c =
-    let bs = c.args.bodies.now in
+    let bs = c.args.boxes.now.bodies in
     subst (Adds c.args.found.now.items c.search_groups.new.found.items)
-    (ap (crossed (exact_in bs c.args.nodes.now))
+    (ap (crossed (exact_in bs c.args.boxes.now.tree))
     (c.in_ok-push_boxes.ensures ∙ ap (λ es. es ++ boxed bs c.args.slots.now) c.clear.ensures.items)
-    ∙ crossed_boxed bs c.args.nodes.now c.args.slots.now)
+    ∙ crossed_boxed bs c.args.boxes.now.tree c.args.slots.now)
     c.in_ok-many.ensures.ok
 
 pub returns-clause-count : goal.returns-clause-count
 returns-clause-count c =
-    let bs = c.args.bodies.now in
+    let bs = c.args.boxes.now.bodies in
     c.in_ok-many.ensures.count
-    ∙ ap (λ es. raised c.args.looked (all_visits_in c.args.nodes.now es))
+    ∙ ap (λ es. raised c.args.looked (all_visits_in c.args.boxes.now.tree es))
     (c.in_ok-push_boxes.ensures ∙ ap (λ es. es ++ boxed bs c.args.slots.now) c.clear.ensures.items)
-    ∙ ap (raised c.args.looked) (visits_boxed bs c.args.nodes.now c.args.slots.now)
+    ∙ ap (raised c.args.looked) (visits_boxed bs c.args.boxes.now.tree c.args.slots.now)
