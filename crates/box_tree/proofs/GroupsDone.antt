@@ -1,6 +1,6 @@
 -- What a group finds beside slots that are done was found from these already.
 use Rattle.std.proofs.Common.{◌≡◌, ℕ, zero, suc, ◌<◌, Bool, true, false, not, cond, ◌||◌, ◌==◌, Option, None, Some, List, [], ◌∷◌, ◌++◌}
-use Rattle.std.proofs.Common.{length, map, get_or, refl, sym, ap, ◌∙◌, subst, arith, inl, inr, ⊎_elim, ◌⊎◌}
+use Rattle.std.proofs.Common.{length, map, replicate, get_or, refl, sym, ap, ◌∙◌, subst, arith, inl, inr, ⊎_elim, ◌⊎◌}
 use Rattle.std.specs.List.{Contains}
 use Rattle.std.proofs.lemmas.Bool.{or_cases, eqb-true}
 use Rattle.fixed_box.specs.Bounds.{Bounds, meets}
@@ -9,6 +9,7 @@ use Rattle.slot_lists.specs.SlotMapLaws.{get_map}
 use Rattle.broad_index.specs.declared.pair.Pair.{Pair}
 use Rattle.broad_index.specs.Held.{Holds}
 use Rattle.broad_index.specs.Members.{has_pair, has_slot}
+use Rattle.box_tree.specs.Boxes.{untouched}
 use Rattle.box_tree.specs.Group.{crossed, touched_of, undone, Adds, AreOf}
 use Rattle.box_tree.proofs.CrossedPairs.{hit, any_row, any_cross, crossed_has, crossed_either, has_append}
 
@@ -195,6 +196,14 @@ own_back bodies gs more rest e own = at gs (subst (AreOf bodies) (sym e) own)
     at : (xs : List (ℕ × Bounds)) → AreOf bodies (xs ++ more) → AreOf bodies more
     at [] are = are
     at (x ∷ xs) are = at xs are.1
+
+blank : (n k : ℕ) → get_or (replicate n false) k false ≡ false
+blank zero k = refl
+blank (suc n) zero = refl
+blank (suc n) (suc k) = blank n k
+
+pub none_marked : (done : List Bool) → done ≡ untouched → (k : ℕ) → get_or done k false ≡ false
+none_marked done e k = ap (λ ms. get_or ms k false) e ∙ blank 8192 k
 
 -- no list of no pair has one
 pub nothing_owed : (es : List (ℕ × Bounds)) (done : List Bool) → ((k : ℕ) → get_or done k false ≡ false) → (old : List Pair) (p : Pair)

@@ -151,7 +151,8 @@ module _ (o : Option Tree) (fats : List (Option Bounds)) (numbers : List ℕ) (t
                   let was : get_or fats k None ≡ Some f = sym (get_or-set_other fats slot k (Some fat) None ne) ∙ e in
                   let y : Leaf = record { node = get_or numbers k 0; slot = k; fat = f } in
                   let here : Contains (leaves_in p) y =
-                  Contains-permutation (x ∷ leaves_in o) (leaves_in p) y perm (Contains-append_right (x ∷ []) (leaves_in o) y (own_leaf o fats numbers ties k f was)) in
+                  Contains-permutation (x ∷ leaves_in o) (leaves_in p) y perm (Contains-append_right (x ∷ []) (leaves_in o) y
+                  (own_leaf o fats numbers ties k f was)) in
                   subst (λ m. Contains (leaves_in p) (record { node = m; slot = k; fat = f })) (sym (get_or-set_other numbers slot k n 0 ne)) here)
                   (cases_eq k slot),
             );
@@ -210,7 +211,8 @@ module _ (o : Option Tree) (fats : List (Option Bounds)) (numbers : List ℕ) (t
                   let y : Leaf = record { node = get_or numbers k 0; slot = k; fat = f } in
                   ⊎_elim (λ a. absurd (ne (ap (λ (z : Leaf). z.slot) (only_one y own a)))) (λ b. b)
                   (Contains-append_cases (own ∷ []) (leaves_in p) y
-                  (Contains-permutation (leaves_in o) (own ∷ leaves_in p) y (IsPermutation-sym (own ∷ leaves_in p) (leaves_in o) perm) (own_leaf o fats numbers ties k f was))))
+                  (Contains-permutation (leaves_in o) (own ∷ leaves_in p) y (IsPermutation-sym (own ∷ leaves_in p) (leaves_in o) perm)
+                  (own_leaf o fats numbers ties k f was))))
                   (cases_eq k slot),
             );
           };
@@ -304,7 +306,8 @@ module _ (o : Option Tree) (fats : List (Option Bounds)) (numbers : List ℕ) (t
                     (λ ne.
                     let was : get_or fats k None ≡ Some f = sym (get_or-set_other fats slot k (Some fat) None ne) ∙ h in
                     let y : Leaf = record { node = get_or numbers k 0; slot = k; fat = f } in
-                    subst (λ (x : Leaf). Contains (leaves_in p) x) (other_stays y (own_leaf o fats numbers ties k f was) ne) (after y (own_leaf o fats numbers ties k f was)))
+                    subst (λ (x : Leaf). Contains (leaves_in p) x) (other_stays y (own_leaf o fats numbers ties k f was) ne) (after y
+                    (own_leaf o fats numbers ties k f was)))
                     (cases_eq k slot),
               );
             };
@@ -342,7 +345,11 @@ tied_rebuilt o fats numbers ties p tree perm =
         fats_len = ties.leafed.fats_len;
         counted = let a = length_permutation (leaves_in o) (leaves_in p) perm in let c = ties.leafed.counted in omega (arith, a, c);
         fat_is = λ x c. ties.leafed.fat_is x (before x c);
-        whole = λ k f e. (get_or numbers k 0, Contains-permutation (leaves_in o) (leaves_in p) (record { node = get_or numbers k 0; slot = k; fat = f }) perm (own_leaf o fats numbers ties k f e));
+        whole = λ k f e. (
+          get_or numbers k 0,
+          Contains-permutation (leaves_in o) (leaves_in p)
+              (record { node = get_or numbers k 0; slot = k; fat = f }) perm (own_leaf o fats numbers ties k f e),
+        );
       };
       numbers_len = ties.numbers_len;
       number_is = λ x c. ties.number_is x (before x c);

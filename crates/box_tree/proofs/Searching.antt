@@ -228,11 +228,10 @@ seen o bodies fats marks looked = record { bodies = map_of bodies; fats = map_of
 -- what a call of `pairs` leaves
 pub same_searched : (o : Option Tree) (bodies fats : List (Option Bounds)) (marks touched : List Bool) (looked n : ℕ) (v : Boxes)
     → seen o bodies fats marks looked ≡ v
-    → length marks ≡ SLOTS → touched ≡ replicate (length marks) false → n ≡ raised v.looked (sum (map (cost v) (sought v)))
+    → touched ≡ untouched → n ≡ raised v.looked (sum (map (cost v) (sought v)))
     → seen o bodies fats touched n ≡ searched v
-same_searched o bodies fats marks touched looked n v view len et en =
-    let t : touched ≡ untouched = et ∙ ap (λ k. replicate k false) len in
-    ap (λ x. seen o bodies fats x n) t ∙ ap (λ x. seen o bodies fats untouched x) en
+same_searched o bodies fats marks touched looked n v view et en =
+    ap (λ x. seen o bodies fats x n) et ∙ ap (λ x. seen o bodies fats untouched x) en
     ∙ ap (λ (b : Boxes). record {
       bodies = b.bodies;
       fats = b.fats;
@@ -256,7 +255,8 @@ abbrev pub RenewingLaw : Type 0
 RenewingLaw = (m : FinMap nat_cmp Bounds) (marks : List Bool) (kept : List Pair) (rs : List (ℕ × List ℕ)) → AreReached m rs
     → AreMarked m marks (map (λ (r : ℕ × List ℕ). r.0) rs) → AreKept m marks kept → Renewed m marks kept (gathered_with rs)
 
-module _ (o : Option Tree) (bodies fats : List (Option Bounds)) (s : IsKept o bodies fats) (marks : List Bool) (v : Boxes) (looked : ℕ) (view : seen o bodies fats marks looked ≡ v) where
+module _ (o : Option Tree) (bodies fats : List (Option Bounds)) (s : IsKept o bodies fats) (marks : List Bool) (v : Boxes) (looked : ℕ)
+    (view : seen o bodies fats marks looked ≡ v) where
   -- what a descent finds is what the map has
   pub found_viewed : FoundLaw → (q : Query) (before found : List ℕ) → before ≡ [] → found ≡ before ++ found_of (exact_in bodies o) q
       → (k : ℕ) → has_slot found k ≡ is_found v.bodies q k

@@ -48,10 +48,11 @@ marked_few marks (x ∷ xs) =
     ]
 
 -- the nodes that are said to be listed are
-pub list_there : (r : Option (Bor (List ListedNode))) (listed : Bool) (held list : List ListedNode)
-    → IfSome r (λ b. (listed ≡ true) × (b.now ≡ held)) → (listed ≡ true → held ≡ list) → IfSome r (λ b. b.now ≡ list)
-list_there None listed held list h is = h
-list_there (Some b) listed held list h is = h.1 ∙ is h.0
+pub list_there : (r : Option (Bor (List ListedNode))) (nodes : Bor (List ListedNode)) (listed : Bool) (held list : List ListedNode)
+    → IfSome r (λ b. (listed ≡ true) × (b.now ≡ held)) → (listed ≡ true → held ≡ list) → r ≡ Some nodes → nodes.now ≡ list
+list_there r nodes listed held list h is e =
+    let there : (listed ≡ true) × (nodes.now ≡ held) = subst (λ o. IfSome o (λ b. (listed ≡ true) × (b.now ≡ held))) e h in
+    there.1 ∙ is there.0
 
 -- no more slots are marked than there are leaves
 pub shared_few : (o : Option Tree) → IsTreeIn o → (marks : List Bool) → length (marked_slots marks (leaves_in o)) ≤ SLOTS
@@ -163,10 +164,6 @@ module _ (o : Option Tree) (bodies fats : List (Option Bounds)) (s : IsKept o bo
   module _ (v : Boxes) (looked : ℕ) (view : seen o bodies fats marks looked ≡ v) where
     pub shared_viewed : marked_slots marks (leaves_in o) ≡ shared_slots v
     shared_viewed = ap shared_slots view
-
-    -- the same of marks that are read
-    pub shared_read : {ms : List Bool} {slots : List ℕ} → ms ≡ marks → slots ≡ marked_slots ms (leaves_in o) → slots ≡ shared_slots v
-    shared_read em e = e ∙ ap (λ xs. marked_slots xs (leaves_in o)) em ∙ shared_viewed
 
     pub present_viewed : All (λ slot. contains_key v.bodies slot ≡ true) (shared_slots v)
     present_viewed = subst (λ (b : Boxes). All (λ slot. contains_key b.bodies slot ≡ true) (shared_slots b)) view shared_present

@@ -5,7 +5,7 @@ use Rattle.std.specs.Ordering.{nat_cmp}
 use Rattle.std.specs.FinMap.{FinMap, get, get-empty, empty, insert, remove}
 use Rattle.std.proofs.lemmas.Bool.{cases_eq, and_parts, and_from, false≢true}
 use Rattle.std.proofs.lemmas.Bool.Decides.{nat_tests}
-use Rattle.std.proofs.lemmas.List.{get_or-set_same, get_or-set_other, length-set, length-replicate}
+use Rattle.std.proofs.lemmas.List.{get_or-set_same, get_or-set_other, length-set}
 use Rattle.fixed_box.specs.declared.TheConstants.{SLOTS}
 use Rattle.fixed_box.specs.Bounds.{Bounds}
 use Rattle.broad_index.specs.declared.pair.Pair.{Pair}
@@ -13,7 +13,7 @@ use Rattle.broad_index.specs.Members.{has_pair, is_near, both_meet}
 use Rattle.broad_index.specs.Near.{near, rises}
 use Rattle.broad_index.specs.Touched.{AreKept}
 use Rattle.tree_nodes.specs.Tree.{Tree}
-use Rattle.box_tree.specs.declared.preorder.ListedNode.{ListedNode}
+use Rattle.box_tree.specs.declared.listing.Listing.{Listing}
 use Rattle.box_tree.specs.Boxes.{Boxes, untouched, no_boxes}
 use Rattle.slot_lists.specs.SlotMap.{map_of}
 use Rattle.box_tree.specs.Ties.{BoxLists, Sound, Whole}
@@ -53,15 +53,14 @@ kept_on old new marks kept slot lt same are p h =
     ∙ sym (same p (eqb_no p.a slot a.0) (eqb_no p.b slot b.0))
 
 module _ (bodies : List (Option Bounds)) (marks : List Bool) (kept : List Pair) (s : Sound bodies marks kept) where
-  module _ (slot : ℕ) (small : slot < SLOTS) (bodies' : List (Option Bounds)) where
+  module _ (slot : ℕ) (small : slot < SLOTS) (len : length marks ≡ SLOTS) (bodies' : List (Option Bounds)) where
     -- after a change of one slot
     sound_changed : (m : FinMap nat_cmp Bounds) → ((p : Pair) → (p.a == slot) ≡ false → (p.b == slot) ≡ false → is_near m p ≡ is_near (map_of bodies) p)
         → map_of bodies' ≡ m → Sound bodies' (set marks slot true) kept
     sound_changed m same e = record {
-      marks_len = length-set marks slot true ∙ s.marks_len;
       kept_rise = s.kept_rise;
       kept_are = subst (λ n. AreKept n (set marks slot true) kept) (sym e)
-          (kept_on (map_of bodies) m marks kept slot (subst (λ n. slot < n) (sym s.marks_len) small) same s.kept_are);
+          (kept_on (map_of bodies) m marks kept slot (subst (λ n. slot < n) (sym len) small) same s.kept_are);
     }
 
     pub sound_put : Inserted → (b : Bounds) → map_of bodies' ≡ insert (map_of bodies) slot b → Sound bodies' (set marks slot true) kept
@@ -72,10 +71,9 @@ module _ (bodies : List (Option Bounds)) (marks : List Bool) (kept : List Pair) 
 
   -- and once the pairs were asked for
   pub sound_renewed : rises (near (map_of bodies)) ≡ true → ((p : Pair) → has_pair (near (map_of bodies)) p ≡ is_near (map_of bodies) p)
-      → (ms : List Bool) (ps : List Pair) → ms ≡ replicate (length marks) false → ps ≡ near (map_of bodies) → Sound bodies ms ps
+      → (ms : List Bool) (ps : List Pair) → ms ≡ untouched → ps ≡ near (map_of bodies) → Sound bodies ms ps
   sound_renewed rise members ms ps em ep =
-      subst (λ xs. Sound bodies xs ps) (sym em) (subst (λ xs. Sound bodies (replicate (length marks) false) xs) (sym ep) (record {
-        marks_len = length-replicate (length marks) false ∙ s.marks_len;
+      subst (λ xs. Sound bodies xs ps) (sym em) (subst (λ xs. Sound bodies untouched xs) (sym ep) (record {
         kept_rise = rise;
         kept_are = λ p _. members p;
       }))
@@ -88,10 +86,9 @@ no_pair bodies p e = sym (ap (λ o. nat_lt p.a p.b && both_meet o (get bodies p.
     and_no false = refl
 
 -- at the outset
-pub sound_none : (bodies : List (Option Bounds)) (marks : List Bool) (kept : List Pair) → map_of bodies ≡ empty → length marks ≡ SLOTS → kept ≡ []
+pub sound_none : (bodies : List (Option Bounds)) (marks : List Bool) (kept : List Pair) → map_of bodies ≡ empty → kept ≡ []
     → Sound bodies marks kept
-sound_none bodies marks kept is lm none = subst (λ ps. Sound bodies marks ps) (sym none) (record {
-  marks_len = lm;
+sound_none bodies marks kept is none = subst (λ ps. Sound bodies marks ps) (sym none) (record {
   kept_rise = refl;
   kept_are = λ p _. no_pair (map_of bodies) p (ap (λ m. get m p.a) is ∙ get-empty nat_cmp p.a);
 })
@@ -107,5 +104,5 @@ same_outset {b} {f} {t} {m} eb ef et em =
 
 -- where the nodes aren't said to be listed
 pub unlisted : {boxes : BoxLists} {marks : List Bool} {kept : List Pair}
-    → Sound boxes.bodies marks kept → (list : List ListedNode) → Whole boxes marks kept list false
-unlisted s list = record { sound = s; list_is = λ h. absurd (false≢true h) }
+    → Sound boxes.bodies marks kept → (listing : Listing) → listing.fresh ≡ false → Whole boxes marks kept listing
+unlisted s listing e = record { sound = s; listed = λ h. absurd (false≢true (sym e ∙ h)) }

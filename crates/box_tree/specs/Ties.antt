@@ -9,7 +9,7 @@ use Rattle.broad_index.specs.Touched.{AreKept}
 use Rattle.tree_nodes.specs.Tree.{Tree, Leaf, leaves_in, IsTreeIn}
 use Rattle.tree_nodes.specs.TreeCode.{coded_tree}
 use Rattle.slot_lists.specs.SlotMap.{map_of}
-use Rattle.box_tree.specs.declared.preorder.ListedNode.{ListedNode}
+use Rattle.box_tree.specs.declared.listing.Listing.{Listing}
 use Rattle.box_tree.specs.Preorder.{preorder_in}
 
 -- fat boxes by their slots, and the tree of their leaves
@@ -62,11 +62,13 @@ pub record IsKept (tree : Option Tree) (bodies fats : List (Option Bounds)) : Ty
 
 -- The kept pairs are those of the map for every pair of which neither slot is marked.
 pub record Sound (bodies : List (Option Bounds)) (marks : List Bool) (kept : List Pair) : Type 0 where
-  pub marks_len : length marks ≡ SLOTS
   pub kept_rise : rises kept ≡ true
   pub kept_are : AreKept (map_of bodies) marks kept
 
--- and the nodes are listed as they are now, where it is said that they are
-pub record Whole (boxes : BoxLists) (marks : List Bool) (kept : List Pair) (list : List ListedNode) (listed : Bool) : Type 0 where
+-- The nodes are listed as they are now, where it is said that they are.
+abbrev pub AreListed : Listing → BoxLists → Type 0
+AreListed listing boxes = listing.fresh ≡ true → listing.nodes.items ≡ preorder_in boxes.bodies boxes.tree
+
+pub record Whole (boxes : BoxLists) (marks : List Bool) (kept : List Pair) (listing : Listing) : Type 0 where
   pub sound : Sound boxes.bodies marks kept
-  pub list_is : listed ≡ true → list ≡ preorder_in boxes.bodies boxes.tree
+  pub listed : AreListed listing boxes

@@ -5,11 +5,12 @@ ghost use Rattle.broad_index.specs.declared.query.Query.{Query};
 ghost use Rattle.broad_index.specs.Found.{found_of, query_meets};
 ghost use Rattle.broad_index.specs.Members.{meets_query};
 ghost use Rattle.box_tree.specs.Descent.{visits_by_in, exact_in, IsInside, Laws, met_at, found_at};
+ghost use Rattle.box_tree.specs.Group.{BoxLaws};
 
 use crate::kept_boxes::KeptBoxes;
 use crate::query_law::query_law;
 use broad_index::Query;
-use fixed_box::{FBox, NoMemory};
+use fixed_box::{FBox, NoMemory, box_laws};
 use smallvec::SmallVec;
 use tree_nodes::{NodeView, Nodes, tree_laws};
 
@@ -72,6 +73,14 @@ pub(crate) fn descent_law()
 {
     tree_laws();
     query_law();
+}
+
+// A law for proofs, with nothing to run: what a descent with a group rests on.
+pub(crate) fn box_law()
+    ensures { BoxLaws }
+{
+    box_laws();
+    descent_law();
 }
 
 // Looks at the children of a node, and answers which node is next, if any. Where both are met, the left one comes first

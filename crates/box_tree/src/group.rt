@@ -7,11 +7,11 @@ ghost use Rattle.box_tree.specs.Descent.{exact};
 ghost use Rattle.box_tree.specs.Group.{crossed, all_below, picked, left_pairs, undone, BoxLaws};
 ghost use Rattle.box_tree.specs.Preorder.{IsListed};
 
-use crate::descent::descent_law;
+use crate::descent::box_law;
+use crate::marks::Marks;
 use crate::preorder::{ListedNode, NodeKind};
-use crate::touched::is_marked;
 use broad_index::Pair;
-use fixed_box::{FBox, NoMemory, box_laws};
+use fixed_box::{FBox, NoMemory};
 use lane_boxes::BoxPacket;
 
 // How many boxes descend together: as many as are tested at once.
@@ -21,7 +21,7 @@ pub(crate) const GROUP: usize = 8;
 // done, and answers a number raised by how many nodes a descent with each of them looks at.
 pub(crate) fn search_group(
     preorder: &[ListedNode],
-    done: &[bool],
+    done: &Marks,
     group: &[(u32, FBox)],
     looked: u64,
     found: &mut Vec<Pair>,
@@ -41,14 +41,6 @@ pub(crate) fn search_group(
     Ok(all)
 }
 
-// A law for proofs, with nothing to run: what a descent with a group rests on.
-pub(crate) fn box_law()
-    ensures { BoxLaws }
-{
-    box_laws();
-    descent_law();
-}
-
 // The boxes of a group.
 fn boxes_of(group: &[(u32, FBox)]) -> [FBox; GROUP]
     requires { length group.now ≡ 8 }
@@ -65,7 +57,7 @@ fn boxes_of(group: &[(u32, FBox)]) -> [FBox; GROUP]
 // boxes look at.
 fn read_onwards(
     preorder: &[ListedNode],
-    done: &[bool],
+    done: &Marks,
     group: &[(u32, FBox)],
     boxes: &BoxPacket,
     looked: u64,
@@ -116,7 +108,7 @@ fn nodes_behind(nodes: &[ListedNode], count: u32) -> &[ListedNode]
 fn push_met(
     slot: u32,
     mask: u8,
-    done: &[bool],
+    done: &Marks,
     group: &[(u32, FBox)],
     found: &mut Vec<Pair>,
 ) -> Result<(), NoMemory>
@@ -125,7 +117,7 @@ fn push_met(
     if mask == 0 {
         return Ok(());
     }
-    if is_marked(slot, done) {
+    if done.has(slot) {
         return Ok(());
     }
     push_picked(slot, mask, group, found)?;

@@ -3,14 +3,18 @@
 #![tactic(auto)]
 
 mod descent;
+mod findings;
 mod group;
 mod kept_boxes;
 mod laws;
 mod leaves;
+mod listing;
+mod marks;
 mod moved;
 mod preorder;
 mod query_law;
 mod renewal;
+mod room;
 mod search;
 mod touched;
 mod tree;

@@ -4,9 +4,9 @@ ghost use Rattle.box_tree.specs.declared.preorder.NodeKind.TheVariants.{Inner as
 ghost use Rattle.box_tree.specs.Group.{touched_of, IsBelow};
 ghost use Rattle.box_tree.specs.Preorder.{entry_at, leaf_node, listed, preorder, preorder_in};
 
-use crate::group::box_law;
+use crate::descent::box_law;
 use crate::kept_boxes::KeptBoxes;
-use crate::touched::is_marked;
+use crate::marks::Marks;
 use fixed_box::{FBox, NoMemory};
 use tree_nodes::{NodeView, Nodes};
 
@@ -100,7 +100,7 @@ fn push_leaf(bodies: &[Option<FBox>], slot: u32, out: &mut Vec<ListedNode>) -> R
 // in space mostly stand together.
 pub(crate) fn push_marked(
     preorder: &[ListedNode],
-    marks: &[bool],
+    marks: &Marks,
     out: &mut Vec<(u32, FBox)>,
 ) -> Result<(), NoMemory>
     ensures { OnOk result (out.new.items ≡ out.old.items ++ touched_of marks.now (listed preorder.now)) }
@@ -116,13 +116,13 @@ pub(crate) fn push_marked(
 // Appends the slot of a leaf with its box, if it is marked.
 fn push_if_marked(
     node: &ListedNode,
-    marks: &[bool],
+    marks: &Marks,
     out: &mut Vec<(u32, FBox)>,
 ) -> Result<(), NoMemory>
     ensures { OnOk result (out.new.items ≡ out.old.items ++ touched_of marks.now (entry_at node.now.bounds node.now.kind)) }
 {
     if let NodeKind::Leaf { slot } = node.kind {
-        if is_marked(slot, marks) {
+        if marks.has(slot) {
             out.push((slot, node.bounds))?;
         }
     }
@@ -132,7 +132,7 @@ fn push_if_marked(
 // Appends the marked slots of a list in preorder, in the order of the leaves.
 pub(crate) fn push_marked_slots(
     preorder: &[ListedNode],
-    marks: &[bool],
+    marks: &Marks,
     out: &mut Vec<u32>,
 ) -> Result<(), NoMemory>
     ensures { OnOk result (out.new.items ≡ out.old.items ++ map (λ e. e.0) (touched_of marks.now (listed preorder.now))) }
@@ -146,15 +146,11 @@ pub(crate) fn push_marked_slots(
 }
 
 // Appends the slot of a leaf, if it is marked.
-fn push_slot_if_marked(
-    node: &ListedNode,
-    marks: &[bool],
-    out: &mut Vec<u32>,
-) -> Result<(), NoMemory>
+fn push_slot_if_marked(node: &ListedNode, marks: &Marks, out: &mut Vec<u32>) -> Result<(), NoMemory>
     ensures { OnOk result (out.new.items ≡ out.old.items ++ map (λ e. e.0) (touched_of marks.now (entry_at node.now.bounds node.now.kind))) }
 {
     if let NodeKind::Leaf { slot } = node.kind {
-        if is_marked(slot, marks) {
+        if marks.has(slot) {
             out.push(slot)?;
         }
     }

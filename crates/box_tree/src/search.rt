@@ -5,18 +5,19 @@ ghost use Rattle.box_tree.specs.Boxes.{visits_for};
 ghost use Rattle.box_tree.specs.Searches.{sought_from, reached_in, searches, looked_for};
 
 use crate::descent::descend;
+use crate::findings::Findings;
 use crate::kept_boxes::KeptBoxes;
-use broad_index::{Pair, Query, push_ordered_pairs};
+use crate::marks::Marks;
+use broad_index::{Query, push_ordered_pairs};
 use fixed_box::{FBox, NoMemory, SLOTS, box_laws};
 
 // Appends the touched slots that are present, in rising order.
 pub(crate) fn push_sought(
     bodies: &[Option<FBox>],
-    marks: &[bool],
+    marks: &Marks,
     out: &mut Vec<u32>,
 ) -> Result<(), NoMemory>
     requires bodies { length bodies.now ≡ SLOTS }
-    requires marks { length marks.now ≡ SLOTS }
     requires empty { out.old.items ≡ [] }
     ensures ok { OnOk result (out.new.items ≡ sought_from marks.now 0 bodies.now) }
     ensures few { OnOk result (length out.new.items ≤ SLOTS) }
@@ -24,7 +25,7 @@ pub(crate) fn push_sought(
     let mut rest = bodies;
     let mut slot = 0;
     'slots: while let [body, more @ ..] = rest {
-        if marks[slot as usize] && body.is_some() {
+        if marks.has(slot) && body.is_some() {
             out.push(slot)?;
         }
         slot += 1;
@@ -70,23 +71,21 @@ pub(crate) fn push_others(slot: u32, met: &[u32], out: &mut Vec<u32>) -> Result<
 }
 
 // Appends the pairs of some slots with what each of them reaches, and answers a number raised by how many nodes it looked
-// at. `met` and `reached` are room.
+// at.
 pub(crate) fn search_all(
     boxes: &KeptBoxes,
     slots: &[u32],
     looked: u64,
-    met: &mut Vec<u32>,
-    reached: &mut Vec<u32>,
-    found: &mut Vec<Pair>,
+    found: &mut Findings,
 ) -> Result<u64, NoMemory>
-    ensures ok { OnOk result (found.new.items ≡ found.old.items ++ gathered_with (searches boxes.now.bodies boxes.now.tree slots.now)) }
+    ensures ok { OnOk result (found.new.pairs.items ≡ found.old.pairs.items ++ gathered_with (searches boxes.now.bodies boxes.now.tree slots.now)) }
     ensures count { IfOk result (λ n. n ≡ looked_for boxes.now.tree boxes.now.bodies slots.now looked) }
 {
     let mut rest = slots;
     let mut number = looked;
     'slots: while let Some((slot, more)) = rest.split_first() {
-        let count = reach(boxes, *slot, met, reached)?;
-        push_ordered_pairs(*slot, reached, found)?;
+        let count = reach(boxes, *slot, &mut found.met, &mut found.others)?;
+        push_ordered_pairs(*slot, &found.others, &mut found.pairs)?;
         number = number.saturating_add(u64::from(count));
         rest = more;
     }

@@ -6,21 +6,25 @@ ghost use Rattle.fixed_box.specs.Bounds.{Bounds, encloses, fattened};
 ghost use Rattle.broad_index.specs.Fresh.{IsFresh};
 ghost use Rattle.broad_index.specs.Held.{Holds};
 ghost use Rattle.tree_nodes.specs.Tree.{height_in, leaves_in, IsTreeIn};
+ghost use Rattle.fixed_box.specs.declared.TheConstants.{SLOTS};
 ghost use Rattle.box_tree.specs.declared.TheConstants.{MARGIN};
 ghost use Rattle.box_tree.specs.Boxes.{no_boxes as outset, shifted, told, fat_entry, cost, searched, shared_slots, Finds};
 
 use crate::Moved;
 use crate::descent::descend;
+use crate::findings::Findings;
 use crate::kept_boxes::KeptBoxes;
-use crate::preorder::{ListedNode, list_preorder};
-use crate::renewal::{Room, renew};
+use crate::listing::Listing;
+use crate::marks::Marks;
+use crate::renewal::renew;
+use crate::room::{Room, SearchRoom};
 use crate::search::reach;
-use crate::touched::{SearchRoom, listing, push_shared, search_run, search_touched};
+use crate::touched::{push_shared, search_run, search_touched};
 use broad_index::{
     BroadPhase, FEWEST_SOUGHT, Pair, PairSeeker, Query, Seeker, holding_laws, join_pieces,
     keeping_laws, member_laws, pays_threads, push_rising_slots, settle_pairs,
 };
-use fixed_box::{FBox, NoMemory, SLOTS};
+use fixed_box::{FBox, NoMemory};
 use std::alloc::Global;
 use std::marker::Model;
 use tree_nodes::{MOST_HEIGHT, Nodes};
@@ -41,13 +45,11 @@ use tree_nodes::{MOST_HEIGHT, Nodes};
 pub struct BoxTree {
     boxes: KeptBoxes,
     // Which slots are touched.
-    marks: Vec<bool>,
+    marks: Marks,
     // The pairs that were found last. Those with a touched slot may be wrong by now.
     kept: Vec<Pair>,
     looked: u64,
-    // The nodes as searches read them, and whether the list is up to date.
-    preorder: Vec<ListedNode>,
-    listed: bool,
+    listing: Listing,
     room: Room,
 }
 
@@ -64,11 +66,11 @@ impl Model for BoxTree {
       bodies = map_of t.boxes.bodies;
       fats = map_of t.boxes.fats;
       tree = t.boxes.tree;
-      touched = t.marks.items;
+      touched = t.marks;
       looked = t.looked;
     } };
 
-    ghost invariant = { λ t. Whole t.boxes t.marks.items t.kept.items t.preorder.items t.listed };
+    ghost invariant = { λ t. Whole t.boxes t.marks t.kept.items t.listing };
 }
 
 impl BoxTree {
@@ -79,12 +81,11 @@ impl BoxTree {
     {
         Ok(BoxTree {
             boxes: KeptBoxes::new(alloc)?,
-            marks: vec![in alloc; false; SLOTS as usize]?,
+            marks: Marks::new(alloc)?,
             kept: Vec::new(alloc),
             looked: 0,
-            preorder: Vec::new(alloc),
-            listed: false,
-            room: Room::new(alloc),
+            listing: Listing::new(alloc),
+            room: Room::new(alloc)?,
         })
     }
 
@@ -99,9 +100,9 @@ impl BoxTree {
         ensures looked { self.new.looked ≡ self.old.looked }
     {
         keeping_laws();
-        self.listed = false;
+        self.listing.fresh = false;
         let moved = self.boxes.set(slot, body);
-        self.marks[slot as usize] = true;
+        self.marks.set(slot);
         moved
     }
 
@@ -138,6 +139,7 @@ impl BoxTree {
         ensures value { result ≡ self.now.looked }
         ensures marks { length self.now.touched ≡ SLOTS }
     {
+        let _marks = self.marks.as_slice();
         self.looked
     }
 }
@@ -174,9 +176,9 @@ impl BroadPhase for BoxTree {
         ensures looked { self.new.looked ≡ self.old.looked }
     {
         keeping_laws();
-        self.listed = false;
+        self.listing.fresh = false;
         self.boxes.put(slot, body);
-        self.marks[slot as usize] = true;
+        self.marks.set(slot);
         Ok(())
     }
 
@@ -201,20 +203,18 @@ impl BroadPhase for BoxTree {
         ensures looked { self.new.looked ≡ self.old.looked }
     {
         keeping_laws();
-        self.listed = false;
+        self.listing.fresh = false;
         self.boxes.take(slot);
-        self.marks[slot as usize] = true;
+        self.marks.set(slot);
     }
 
     fn pairs(&mut self, out: &mut Vec<Pair>) -> Result<(), NoMemory> {
         member_laws();
-        // the list is written anew
-        self.listed = false;
         let looked = search_touched(
             &self.boxes,
             &self.marks,
             self.looked,
-            &mut self.preorder,
+            &mut self.listing,
             &mut self.room,
         )?;
         renew(&mut self.kept, &mut self.marks, &mut self.room, out)?;
@@ -249,19 +249,14 @@ impl BroadPhase for BoxTree {
 
     // Lists the nodes once for all pieces.
     fn prepare(&mut self) -> Result<(), NoMemory> {
-        if self.listed {
-            return Ok(());
-        }
-        list_preorder(&self.boxes, &mut self.preorder)?;
-        self.listed = true;
-        Ok(())
+        self.listing.refresh(&self.boxes)
     }
 
     // Each touched slot that is present is sought; those that left count here too.
     fn pays_threads(&self) -> bool
         ensures { (result ≡ true) ↔ (FEWEST_SOUGHT ≤ count_by (λ mark. mark) self.now.touched) }
     {
-        pays_threads(&self.marks)
+        pays_threads(self.marks.as_slice())
     }
 
     // Several threads search wherever they may.
@@ -274,12 +269,7 @@ impl BroadPhase for BoxTree {
     {
         self.boxes.kept_law();
         let mut slots = Vec::new(alloc);
-        push_shared(
-            &self.boxes,
-            listing(self.listed, &self.preorder),
-            &self.marks,
-            &mut slots,
-        )?;
+        push_shared(&self.boxes, &self.listing, &self.marks, &mut slots)?;
         Ok(Some((self, slots)))
     }
 
@@ -288,7 +278,7 @@ impl BroadPhase for BoxTree {
         member_laws();
         keeping_laws();
         self.boxes.kept_law();
-        let counted = join_pieces(&found, self.looked, &mut self.room.found)?;
+        let counted = join_pieces(&found, self.looked, &mut self.room.found.pairs)?;
         renew(&mut self.kept, &mut self.marks, &mut self.room, out)?;
         self.looked = counted;
         Ok(())
@@ -304,19 +294,18 @@ impl PairSeeker for BoxTree {
         holding_laws();
         keeping_laws();
         self.boxes.kept_law();
-        let mut room = SearchRoom::new(alloc);
-        let mut found = Vec::new(alloc);
+        let mut found = Findings::new(alloc);
         let cost = search_run(
             &self.boxes,
-            listing(self.listed, &self.preorder),
+            &self.listing,
             slots,
             0,
-            &mut room,
+            &mut SearchRoom::new(alloc)?,
             &mut found,
         )?;
         // in this thread, so that the pieces are only merged behind
-        settle_pairs(&mut found);
-        Ok((found, cost))
+        settle_pairs(&mut found.pairs);
+        Ok((found.pairs, cost))
     }
 }
 

@@ -1,11 +1,11 @@
 -- The slots come in the order of their leaves.
-use Rattle.std.proofs.Common.{◌≡◌, ℕ, IfSome, map, ◌++◌, ◌≤◌, ◌∙◌, ap, sym, subst, length}
+use Rattle.std.proofs.Common.{◌≡◌, ℕ, map, ◌++◌, ◌≤◌, ◌∙◌, ap, sym, subst, length}
 use Rattle.fixed_box.specs.declared.TheConstants.{SLOTS}
 use Rattle.fixed_box.specs.Bounds.{Bounds}
 use Rattle.box_tree.specs.Group.{touched_of}
 use Rattle.box_tree.specs.Preorder.{listed, preorder_in}
 use Rattle.box_tree.proofs.Preorders.{listed_in}
-use Rattle.box_tree.proofs.SharedSlots.{along_is, shared_few}
+use Rattle.box_tree.proofs.SharedSlots.{along_is, list_there, shared_few}
 use Rattle.box_tree.proofs.touched.push_shared.Goals as goal
 
 pub returns-clause-ok : goal.returns-clause-ok
@@ -27,7 +27,8 @@ returns-in-Some-clause-ok c =
     let marks = c.args.marks.now in
     let k = c.args.boxes.now in
     let there : c.in-Some.list.now ≡ preorder_in k.bodies k.tree =
-    subst (λ o. IfSome o (λ list. list.now ≡ preorder_in k.bodies k.tree)) c.in-Some.is c.requires.list in
+    list_there c.if_fresh.result c.in-Some.list c.args.listing.now.fresh c.args.listing.now.nodes.items (preorder_in k.bodies k.tree)
+    c.if_fresh.ensures c.requires.listed c.in-Some.is in
     c.in_ok-push_marked_slots.ensures
     ∙ ap (λ l. l ++ map (λ (e : ℕ × Bounds). e.0) (touched_of marks (listed c.in-Some.list.now))) c.requires.empty
     ∙ ap (λ l. map (λ (e : ℕ × Bounds). e.0) (touched_of marks (listed l))) there

@@ -6,13 +6,13 @@ use Rattle.box_tree.specs.Group.{crossed, undone, all_below}
 use Rattle.box_tree.specs.Preorder.{IsListed, preorder_in}
 use Rattle.box_tree.proofs.Counts.{raised_none, raised_fits}
 use Rattle.box_tree.proofs.Groups.{root_below, adds_none, visits_none, group_on, visits_on, group_visits}
-use Rattle.box_tree.proofs.GroupsDone.{group_adds, group_done, nothing_owed, own_front, own_back}
+use Rattle.box_tree.proofs.GroupsDone.{group_adds, group_done, none_marked, nothing_owed, own_front, own_back}
 use Rattle.box_tree.proofs.TouchedPairs.{exact_in_own}
 use Rattle.box_tree.proofs.touched.search_by_groups.Goals as goal
 
 pub returns-in_default-clause-ok : goal.returns-in_default-clause-ok
 returns-in_default-clause-ok c =
-    adds_none c.args.boxes.now.tree c.args.boxes.now.bodies c.args.touched.now c.args.found.now.items (sym c.root.ensures ∙ c.in_default.is)
+    adds_none c.args.boxes.now.tree c.args.boxes.now.bodies c.args.touched.now c.args.found.now.pairs.items (sym c.root.ensures ∙ c.in_default.is)
 
 pub returns-in_default-clause-count : goal.returns-in_default-clause-count
 returns-in_default-clause-count c =
@@ -24,7 +24,7 @@ groups-init c =
     let all = exact_in c.args.boxes.now.bodies c.args.boxes.now.tree in
     record {
       found = λ p. refl;
-      older = nothing_owed all c.args.done.now c.requires.none c.args.found.now.items;
+      older = nothing_owed all c.args.done.now (none_marked c.args.done.now c.requires.none) c.args.found.now.pairs.items;
       own = c.requires.touched;
       count = refl;
       fits = c.ranges.looked.fits;
@@ -47,9 +47,10 @@ groups-preserved c =
     let group = c.split_at.result.0.now in
     let more = c.split_at.result.1.now in
     let rest = c.groups.rest.now in
-    let found = c.groups.found.items in
+    let found = c.groups.found.pairs.items in
     let now = c.search_group.new.found.items in
-    let b = root_below c.box_law.ensures o bs c.in-Some._top (sym c.root.ensures ∙ c.in-Some.is) c.kept_law.ensures.kept.leafed.is_tree c.kept_law.ensures.inside in
+    let b = root_below c.box_law.ensures o bs c.in-Some._top (sym c.root.ensures ∙ c.in-Some.is) c.kept_law.ensures.kept.leafed.is_tree
+    c.kept_law.ensures.inside in
     let listed : IsListed bs b.0 c.args.preorder.now =
     record { list_is = c.requires.list ∙ ap (preorder_in bs) b.1; balanced = b.2.balanced; inside = b.2.inside } in
     let own = exact_in_own bs o in

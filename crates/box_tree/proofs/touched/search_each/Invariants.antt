@@ -6,7 +6,8 @@ use Rattle.box_tree.proofs.touched.search_each.Given as goal
 
 abbrev pub invariant-touched : goal.invariant-touched
 invariant-touched l = record {
-  found : l.found.items ++ crossed (exact_in l.boxes.bodies l.boxes.tree) l.rest ≡ l.fn.found.items ++ crossed (exact_in l.boxes.bodies l.boxes.tree) l.touched;
+  found : l.found.pairs.items ++ crossed (exact_in l.boxes.bodies l.boxes.tree) l.rest ≡ l.fn.found.pairs.items ++ crossed
+      (exact_in l.boxes.bodies l.boxes.tree) l.touched;
   count : raised l.number (all_visits_in l.boxes.tree l.rest) ≡ raised l.fn.looked (all_visits_in l.boxes.tree l.touched);
   fits : l.number < 2 ^ 64;
 }

@@ -4,8 +4,16 @@ use Rattle.box_tree.specs.Boxes.{raised}
 use Rattle.box_tree.specs.Descent.{exact_in}
 use Rattle.box_tree.specs.Group.{crossed, all_visits_in, Adds, AreOf}
 use Rattle.box_tree.specs.Searches.{boxed}
+use Rattle.box_tree.specs.Preorder.{preorder_in}
+use Rattle.box_tree.proofs.SharedSlots.{list_there}
 use Rattle.box_tree.proofs.TouchedPairs.{boxed_own, crossed_boxed, visits_boxed}
 use Rattle.box_tree.proofs.touched.search_run.Goals as goal
+
+pub search_groups-requires-clause-list : goal.search_groups-requires-clause-list
+search_groups-requires-clause-list c =
+    let k = c.args.boxes.now in
+    list_there c.if_fresh.result c.in-Some.preorder c.args.listing.now.fresh c.args.listing.now.nodes.items (preorder_in k.bodies k.tree)
+    c.if_fresh.ensures c.requires c.in-Some.is
 
 pub search_groups-requires-clause-touched : goal.search_groups-requires-clause-touched
 search_groups-requires-clause-touched c =
@@ -15,7 +23,7 @@ search_groups-requires-clause-touched c =
 pub returns-clause-ok : goal.returns-clause-ok
 returns-clause-ok c =
     let bs = c.args.boxes.now.bodies in
-    subst (Adds c.args.found.now.items c.search_groups.new.found.items)
+    subst (Adds c.args.found.now.pairs.items c.search_groups.new.found.pairs.items)
     (ap (crossed (exact_in bs c.args.boxes.now.tree))
     (c.in_ok-push_boxes.ensures ∙ ap (λ es. es ++ boxed bs c.args.slots.now) c.clear.ensures.items)
     ∙ crossed_boxed bs c.args.boxes.now.tree c.args.slots.now)

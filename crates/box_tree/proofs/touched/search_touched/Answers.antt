@@ -19,9 +19,10 @@ returns-then-len-lt-FEWEST_GROUPED-clause-ok c kept are =
     let bs = c.args.boxes.now.bodies in
     let slots = sought_from c.args.marks.now 0 bs in
     renewed_run o bs c.args.boxes.now.fats s c.args.marks.now c.holding_laws.ensures.reach c.keeping_laws.ensures.renewing
-    slots c.clear.new.self.items c.search_slots.new.found.items (sought_marked o bs c.args.boxes.now.fats s c.args.marks.now) c.clear.ensures.items
+    slots c.clear.new.self.items c.search_all.new.found.pairs.items (sought_marked o bs c.args.boxes.now.fats s c.args.marks.now) c.clear.ensures.items
     (λ p. ap (λ ps. has_pair ps p) (c.in_ok-few.ensures.ok
-    ∙ ap (λ l. c.clear.new.self.items ++ gathered_with (searches bs o l)) (c.deref.ensures.value ∙ c.in_ok-push_sought.ensures.ok ∙ ap (sought_from c.args.marks.now 0) c.bodies.ensures))
+    ∙ ap (λ l. c.clear.new.self.items ++ gathered_with (searches bs o l)) (c.deref.ensures.value ∙ c.in_ok-push_sought.ensures.ok
+    ∙ ap (sought_from c.args.marks.now 0) c.bodies.ensures))
     ∙ has_append c.clear.new.self.items (gathered_with (searches bs o slots)) p)
     kept are
 
@@ -31,7 +32,7 @@ search_groups-requires-clause-touched c =
     let marks = c.args.marks.now in
     along_own c.args.boxes.now.tree c.args.boxes.now.bodies c.args.boxes.now.fats s marks c.push_marked.new.out.items
     (c.in_ok-push_marked.ensures ∙ ap (λ es. es ++ touched_of marks (listed c.deref-2.result.now)) c.clear-3.ensures.items
-    ∙ ap (λ l. touched_of marks (listed l)) (c.deref-2.ensures.value ∙ c.in_ok-list_preorder.ensures)
+    ∙ ap (λ l. touched_of marks (listed l)) (c.deref-2.ensures.value ∙ c.in_ok-refresh.ensures.nodes)
     ∙ ap (touched_of marks) (listed_in c.args.boxes.now.bodies c.args.boxes.now.tree))
 
 pub returns-clause-ok : goal.returns-clause-ok
@@ -39,9 +40,9 @@ returns-clause-ok c =
     let s = c.kept_law.ensures.kept in
     let marks = c.args.marks.now in
     renewed_along c.args.boxes.now.tree c.args.boxes.now.bodies c.args.boxes.now.fats s marks c.holding_laws.ensures.reach c.keeping_laws.ensures.renewing
-    c.push_marked.new.out.items c.clear.new.self.items c.search_groups.new.found.items
+    c.push_marked.new.out.items c.clear.new.self.items c.search_groups.new.found.pairs.items
     (c.in_ok-push_marked.ensures ∙ ap (λ es. es ++ touched_of marks (listed c.deref-2.result.now)) c.clear-3.ensures.items
-    ∙ ap (λ l. touched_of marks (listed l)) (c.deref-2.ensures.value ∙ c.in_ok-list_preorder.ensures)
+    ∙ ap (λ l. touched_of marks (listed l)) (c.deref-2.ensures.value ∙ c.in_ok-refresh.ensures.nodes)
     ∙ ap (touched_of marks) (listed_in c.args.boxes.now.bodies c.args.boxes.now.tree))
     c.clear.ensures.items c.in_ok-many.ensures.ok
 
@@ -52,6 +53,6 @@ returns-clause-count c =
     c.in_ok-many.ensures.count
     ∙ ap (λ es. raised c.args.looked (all_visits_in c.args.boxes.now.tree es))
     (c.in_ok-push_marked.ensures ∙ ap (λ es. es ++ touched_of marks (listed c.deref-2.result.now)) c.clear-3.ensures.items
-    ∙ ap (λ l. touched_of marks (listed l)) (c.deref-2.ensures.value ∙ c.in_ok-list_preorder.ensures)
+    ∙ ap (λ l. touched_of marks (listed l)) (c.deref-2.ensures.value ∙ c.in_ok-refresh.ensures.nodes)
     ∙ ap (touched_of marks) (listed_in c.args.boxes.now.bodies c.args.boxes.now.tree))
     ∙ ap (raised c.args.looked) (touched_total c.args.boxes.now.tree c.args.boxes.now.bodies c.args.boxes.now.fats s marks)

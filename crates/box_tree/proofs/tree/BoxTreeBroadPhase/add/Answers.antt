@@ -1,9 +1,12 @@
 -- The slot is touched.
+use Rattle.std.proofs.Common.{false, refl, subst, sym}
+use Rattle.box_tree.specs.Ties.{Sound}
 use Rattle.box_tree.proofs.Soundness.{sound_put, unlisted}
 use Rattle.box_tree.proofs.tree.BoxTreeBroadPhase.add.Goals as goal
 
 pub invariant_of-self : goal.invariant_of-self
 invariant_of-self c =
     let s = c.self.inside in
-    unlisted (sound_put s.boxes.bodies s.marks.items s.kept.items c.self.invariant.sound c.args.slot c.requires.small
-    c.put.new.self.bodies c.keeping_laws.ensures.inserted c.args.body c.put.ensures.bodies) s.preorder.items
+    unlisted (subst (λ ms. Sound c.put.new.self.bodies ms s.kept.items) (sym c.set.ensures.value)
+    (sound_put s.boxes.bodies s.marks s.kept.items c.self.invariant.sound c.args.slot c.requires.small c.set.ensures.len
+    c.put.new.self.bodies c.keeping_laws.ensures.inserted c.args.body c.put.ensures.bodies)) (record { nodes = s.listing.nodes; fresh = false }) refl

@@ -1,9 +1,12 @@
 -- The slot is touched.
+use Rattle.std.proofs.Common.{false, refl, subst, sym}
+use Rattle.box_tree.specs.Ties.{Sound}
 use Rattle.box_tree.proofs.Soundness.{sound_taken, unlisted}
 use Rattle.box_tree.proofs.tree.BoxTreeBroadPhase.leave.Goals as goal
 
 pub invariant_of-self : goal.invariant_of-self
 invariant_of-self c =
     let s = c.self.inside in
-    unlisted (sound_taken s.boxes.bodies s.marks.items s.kept.items c.self.invariant.sound c.args.slot c.take.ensures.small
-    c.take.new.self.bodies c.keeping_laws.ensures.removed c.take.ensures.bodies) s.preorder.items
+    unlisted (subst (λ ms. Sound c.take.new.self.bodies ms s.kept.items) (sym c.set.ensures.value)
+    (sound_taken s.boxes.bodies s.marks s.kept.items c.self.invariant.sound c.args.slot c.take.ensures.small c.set.ensures.len
+    c.take.new.self.bodies c.keeping_laws.ensures.removed c.take.ensures.bodies)) (record { nodes = s.listing.nodes; fresh = false }) refl

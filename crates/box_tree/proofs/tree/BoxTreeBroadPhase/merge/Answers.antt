@@ -15,14 +15,15 @@ invariant_of-self-2 c =
     let s = c.self.inside in
     let m = map_of s.boxes.bodies in
     let r = c.in_ok-renew.ensures.near m (pieces_renewed (λ piece. piece.0.items) (λ piece. piece.1)
-    s.boxes.tree s.boxes.bodies s.boxes.fats c.kept_law.ensures.kept s.marks.items c.args.self.now s.looked c.self.view_is s.kept.items c.self.invariant.sound.kept_are
+    s.boxes.tree s.boxes.bodies s.boxes.fats c.kept_law.ensures.kept s.marks c.args.self.now s.looked c.self.view_is s.kept.items
+    c.self.invariant.sound.kept_are
     c.holding_laws.ensures.reach c.keeping_laws.ensures.renewing c.keeping_laws.ensures.touched c.args.found.items c.requires.pieces
     c.join_pieces.new.out.items (λ p. c.in_ok-counted.ensures.members p
     ∙ ap (λ l. has_pair (put_together (map (λ piece. piece.0.items) l)) p) c.deref.ensures.value)) in
     record {
-      sound = sound_renewed s.boxes.bodies s.marks.items s.kept.items c.self.invariant.sound (c.member_laws.ensures.near_rises m)
-          (c.member_laws.ensures.near m) c.renew.new.marks.items c.renew.new.kept.items c.in_ok-renew.ensures.marks r.1;
-      list_is = c.self.invariant.list_is;
+      sound = sound_renewed s.boxes.bodies s.marks s.kept.items c.self.invariant.sound (c.member_laws.ensures.near_rises m)
+          (c.member_laws.ensures.near m) c.renew.new.marks c.renew.new.kept.items c.in_ok-renew.ensures.marks r.1;
+      listed = c.self.invariant.listed;
     }
 
 pub returns-clause-ok : goal.returns-clause-ok
@@ -30,18 +31,20 @@ returns-clause-ok c =
     let s = c.self.inside in
     let m = map_of s.boxes.bodies in
     let r = c.in_ok-renew.ensures.near m (pieces_renewed (λ piece. piece.0.items) (λ piece. piece.1)
-    s.boxes.tree s.boxes.bodies s.boxes.fats c.kept_law.ensures.kept s.marks.items c.args.self.now s.looked c.self.view_is s.kept.items c.self.invariant.sound.kept_are
+    s.boxes.tree s.boxes.bodies s.boxes.fats c.kept_law.ensures.kept s.marks c.args.self.now s.looked c.self.view_is s.kept.items
+    c.self.invariant.sound.kept_are
     c.holding_laws.ensures.reach c.keeping_laws.ensures.renewing c.keeping_laws.ensures.touched c.args.found.items c.requires.pieces
     c.join_pieces.new.out.items (λ p. c.in_ok-counted.ensures.members p
     ∙ ap (λ l. has_pair (put_together (map (λ piece. piece.0.items) l)) p) c.deref.ensures.value)) in
-    near_viewed s.boxes.tree s.boxes.bodies s.boxes.fats s.marks.items c.args.self.now s.looked
+    near_viewed s.boxes.tree s.boxes.bodies s.boxes.fats s.marks c.args.self.now s.looked
     c.self.view_is c.args.out.now.items c.renew.new.out.items r.0
 
 pub returns-clause-paired : goal.returns-clause-paired
 returns-clause-paired c =
     let s = c.self.inside in
-    same_searched s.boxes.tree s.boxes.bodies s.boxes.fats s.marks.items c.renew.new.marks.items s.looked c.in_ok-counted.counted c.args.self.now
-    c.self.view_is c.self.invariant.sound.marks_len c.in_ok-renew.ensures.marks
+    same_searched s.boxes.tree s.boxes.bodies s.boxes.fats s.marks c.renew.new.marks s.looked c.in_ok-counted.counted c.args.self.now
+    c.self.view_is c.in_ok-renew.ensures.marks
     (pieces_counted (λ piece. piece.0.items) (λ piece. piece.1)
-    s.boxes.tree s.boxes.bodies s.boxes.fats c.kept_law.ensures.kept s.marks.items c.args.self.now s.looked c.self.view_is c.args.found.items c.requires.pieces c.in_ok-counted.counted
+    s.boxes.tree s.boxes.bodies s.boxes.fats c.kept_law.ensures.kept s.marks c.args.self.now s.looked c.self.view_is c.args.found.items c.requires.pieces
+    c.in_ok-counted.counted
     (c.in_ok-counted.ensures.count ∙ ap (λ l. raised s.looked (sum (map (λ piece. piece.1) l))) c.deref.ensures.value))

@@ -1,0 +1,47 @@
+ghost use Rattle.std.specs.Prelude.{◌≡◌, true, false, IfSome, OnOk};
+ghost use Rattle.box_tree.specs.Preorder.{preorder_in};
+ghost use Rattle.box_tree.specs.Ties.{AreListed};
+
+use crate::kept_boxes::KeptBoxes;
+use crate::preorder::{ListedNode, list_preorder};
+use fixed_box::NoMemory;
+use std::alloc::Global;
+
+/// The nodes of a tree as searches of many slots read them, and whether they are listed as they are now.
+#[derive(Drop)]
+pub(crate) struct Listing {
+    pub(crate) nodes: Vec<ListedNode>,
+    pub(crate) fresh: bool,
+}
+
+impl Listing {
+    pub(crate) fn new(alloc: Global) -> Listing
+        ensures { result.fresh ≡ false }
+    {
+        Listing {
+            nodes: Vec::new(alloc),
+            fresh: false,
+        }
+    }
+
+    /// The nodes, if they are listed as they are now.
+    pub(crate) fn if_fresh(&self) -> Option<&[ListedNode]>
+        ensures { IfSome result (λ nodes. (self.now.fresh ≡ true) × (nodes.now ≡ self.now.nodes.items)) }
+    {
+        if self.fresh { Some(&self.nodes) } else { None }
+    }
+
+    /// Lists the nodes, where they aren't yet.
+    pub(crate) fn refresh(&mut self, boxes: &KeptBoxes) -> Result<(), NoMemory>
+        requires { AreListed self.old boxes.now }
+        ensures listed { AreListed self.new boxes.now }
+        ensures nodes { OnOk result (self.new.nodes.items ≡ preorder_in boxes.now.bodies boxes.now.tree) }
+    {
+        if self.fresh {
+            return Ok(());
+        }
+        list_preorder(boxes, &mut self.nodes)?;
+        self.fresh = true;
+        Ok(())
+    }
+}
