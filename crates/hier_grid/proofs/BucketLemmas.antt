@@ -1,5 +1,5 @@
 -- Boxes beside their slots: what is found in a stretch of them, and which slots a stretch has.
-use Rattle.std.proofs.Common.{◌≡◌, ℕ, zero, suc, ◌+◌, ◌<◌, ◌≤◌, Bool, true, false, cond, not, ◌&&◌, ◌||◌, ◌==◌, nat_lt, refl, sym, ap, ◌∙◌, subst}
+use Rattle.std.proofs.Common.{◌≡◌, ◌⊎◌, ℕ, zero, suc, ◌+◌, ◌<◌, ◌≤◌, Bool, true, false, cond, not, ◌&&◌, ◌||◌, ◌==◌, nat_lt, refl, sym, ap, ◌∙◌, subst}
 use Rattle.std.proofs.Common.{List, [], ◌∷◌, ◌++◌, map, length, take, drop, get_or, Some, arith}
 use Rattle.std.specs.List.{filter, drop-map, take-map}
 use Rattle.std.proofs.lemmas.List.Elements.{All-append, All-cons, All-drop, All-nil, All-take}
@@ -11,9 +11,11 @@ use Rattle.fixed_box.specs.Bounds.{Bounds, meets}
 use Rattle.broad_index.specs.declared.pair.Pair.{Pair}
 use Rattle.broad_index.specs.Members.{has_pair, has_slot, both_meet}
 use Rattle.broad_index.specs.Touched.{ordered}
-use Rattle.hier_grid.specs.declared.bucket_boxes.SlotBox.{SlotBox}
+use Rattle.hier_grid.specs.declared.cell_row.CellRow.{CellRow}
+use Rattle.hier_grid.specs.declared.slot_box.SlotBox.{SlotBox}
 use Rattle.hier_grid.specs.Buckets.{AreOf, is_met, met_pairs}
-use Rattle.hier_grid.specs.Search.{is_partner, IsSound}
+use Rattle.hier_grid.specs.Cells.{cell_of, IsInRows}
+use Rattle.hier_grid.specs.Search.{is_partner, HasPairs, IsSound}
 use Rattle.hier_grid.proofs.RunLemmas.{parted, rest_of}
 use Rattle.hier_grid.proofs.PartnerLemmas.{found_pairs, sound_pairs, pair_in}
 
@@ -96,3 +98,11 @@ slots_more es e rest slots l at h =
     ∙ ap (λ x. slots_of es ++ x ∷ rest_of rest) at
     ∙ ap (λ xs. slots_of es ++ xs) (sym (parted rest l))
     ∙ h
+
+-- ---- rows of cells, one after another
+-- what a search of a slot finds in those of some rows that aren't among the rest
+pub record FindsSoFar (bodies : FinMap nat_cmp Bounds) (own : SlotBox) (rows rest : List CellRow) (old new : List Pair) : Type 0 where
+  pub sound : get bodies own.slot ≡ Some own.body → IsSound bodies old → IsSound bodies new
+  pub more : HasPairs old new
+  pub whole : (q : ℕ) (b : Bounds) → get bodies q ≡ Some b → IsInRows rows (cell_of b) → meets own.body b ≡ true → not (q == own.slot) ≡ true
+      → IsInRows rest (cell_of b) ⊎ (has_pair new (ordered own.slot q) ≡ true)

@@ -1,12 +1,12 @@
 mod BucketLemmas
 mod CellLemmas
 mod CellRowLemmas
+mod ColumnLemmas
 mod GridLemmas
 mod HitLemmas
 mod LeveledLemmas
 mod MapLemmas
 mod PairLemmas
 mod PartnerLemmas
-mod RowLemmas
 mod RunLemmas
 mod SlotLemmas

@@ -56,10 +56,11 @@ module _ {Y : Type 0} (pairs : Y → List Pair) (bodies : FinMap nat_cmp Bounds)
       let first = pairs y in
       let later = put_together (map pairs ys) in
       record {
-        sound = λ p h. elim (or_cases (has_pair first p) (has_pair later p) (sym (list_any-append (same_pair p) first later) ∙ h)) as (λ _. is_near bodies p ≡ true) [
-          | inl e ↦ t.0.sound p e
-          | inr e ↦ rest.sound p e
-        ];
+        sound = λ p h. elim (or_cases (has_pair first p) (has_pair later p) (sym (list_any-append (same_pair p) first later) ∙ h)) as
+            (λ _. is_near bodies p ≡ true) [
+              | inl e ↦ t.0.sound p e
+              | inr e ↦ rest.sound p e
+            ];
         whole = λ s h.
             elim (or_cases (has_slot x s) (has_slot (put_together xs) s) (sym (list_any-append (λ z. s == z) x (put_together xs)) ∙ h)) as
             (λ _. FindsFor bodies s (first ++ later)) [

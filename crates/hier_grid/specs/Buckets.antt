@@ -1,5 +1,5 @@
--- Definitions: boxes beside their slots by bucket, and what is found among them.
-use Rattle.std.specs.Prelude.{◌≡◌, Bool, not, ◌&&◌, ◌||◌, ◌==◌, nat_lt, List, map, filter, Some, All}
+-- Serves proofs alone: boxes beside their slots by bucket, and what is found among them.
+use Rattle.std.specs.Prelude.{◌≡◌, Bool, true, not, ◌&&◌, ◌||◌, ◌==◌, nat_lt, List, map, filter, Some, All}
 use Rattle.std.specs.Ordering.{nat_cmp}
 use Rattle.std.specs.FinMap.{FinMap, get}
 use Rattle.fixed_box.specs.Bounds.{Bounds, meets}
@@ -8,10 +8,11 @@ use Rattle.broad_index.specs.Touched.{ordered}
 use Rattle.cell_table.specs.declared.cell_key.CellKey.{CellKey}
 use Rattle.cell_table.specs.Listed.{Lists}
 use Rattle.hier_grid.specs.declared.bucket_boxes.BucketBoxes.{BucketBoxes}
-use Rattle.hier_grid.specs.declared.bucket_boxes.SlotBox.{SlotBox}
+use Rattle.hier_grid.specs.declared.slot_box.SlotBox.{SlotBox}
+use Rattle.hier_grid.specs.declared.listing.Listing.{Listing}
 use Rattle.hier_grid.specs.Cells.{cell_of}
 use Rattle.hier_grid.specs.Grid.{AreKeyed}
-use Rattle.hier_grid.specs.Search.{FindsWhere, IsSound}
+use Rattle.hier_grid.specs.Search.{Finds}
 
 -- beside each slot stands its box
 abbrev pub AreOf : FinMap nat_cmp Bounds → List SlotBox → Type 0
@@ -25,6 +26,10 @@ pub record HasBuckets (bodies : FinMap nat_cmp Bounds) (boxes : BucketBoxes) : T
   pub same : map (λ e. e.slot) boxes.entries.items ≡ boxes.list.slots
   pub right : AreOf bodies boxes.entries.items
 
+-- where a listing is fresh, it has all boxes
+abbrev pub IsListing : FinMap nat_cmp Bounds → Listing → Type 0
+IsListing bodies listing = listing.fresh ≡ true → HasBuckets bodies listing.boxes
+
 -- a partner: another slot, any such one or only a higher one, whose box meets the slot's
 abbrev pub is_met : SlotBox → Bool → SlotBox → Bool
 is_met own any e = not (e.slot == own.slot) && (any || nat_lt own.slot e.slot) && meets own.body e.body
@@ -33,12 +38,7 @@ is_met own any e = not (e.slot == own.slot) && (any || nat_lt own.slot e.slot) &
 abbrev pub met_pairs : SlotBox → Bool → List SlotBox → List Pair
 met_pairs own any entries = map (λ e. ordered own.slot e.slot) (filter (is_met own any) entries)
 
--- where all that was found is right it still is, whichever boxes were copied
-abbrev pub StaysSound : BucketBoxes → SlotBox → List Pair → List Pair → Type 0
-StaysSound boxes own old new =
-    (bodies : FinMap nat_cmp Bounds) → HasBuckets bodies boxes → get bodies own.slot ≡ Some own.body → IsSound bodies old → IsSound bodies new
-
--- the pairs of a slot with its partners in some cells were found, whichever boxes were copied
-abbrev pub FindsIn : BucketBoxes → SlotBox → Bool → (CellKey → Type 0) → List Pair → Type 0
-FindsIn boxes own any IsThere found =
-    (bodies : FinMap nat_cmp Bounds) → HasBuckets bodies boxes → FindsWhere bodies own any (λ _ b. IsThere (cell_of b)) found
+-- what a search of a slot finds in some cells, whichever boxes were copied
+abbrev pub FindsIn : BucketBoxes → SlotBox → Bool → (CellKey → Type 0) → List Pair → List Pair → Type 0
+FindsIn boxes own any IsThere old new =
+    (bodies : FinMap nat_cmp Bounds) → HasBuckets bodies boxes → Finds bodies own any (λ _ b. IsThere (cell_of b)) old new

@@ -7,7 +7,7 @@ use Rattle.fixed_box.specs.declared.TheConstants.{SLOTS}
 use Rattle.cell_table.specs.declared.TheConstants.{LEVELS}
 
 -- The boxes of a level and their slots, at the same places, and for how many more boxes there is room.
-pub record Row : Type 0 where
+pub record SlotColumns : Type 0 where
   pub slots : List ℕ
   pub boxes : List Bounds
   pub spare : ℕ
@@ -16,37 +16,37 @@ pub record Row : Type 0 where
 abbrev pub blank : Bounds
 blank = record { lo = record { x = pos 0; y = pos 0; z = pos 0 }; hi = record { x = pos 0; y = pos 0; z = pos 0 } }
 
--- a row with no box, read of no level
-abbrev pub no_row : Row
-no_row = record { slots = []; boxes = []; spare = 0 }
+-- columns with no box, read of no level
+abbrev pub no_columns : SlotColumns
+no_columns = record { slots = []; boxes = []; spare = 0 }
 
 -- as many slots as boxes, and room for all slots
-pub record IsRow (row : Row) : Type 0 where
-  pub same : length row.slots ≡ length row.boxes
-  pub roomy : SLOTS ≤ length row.boxes + row.spare
+pub record AreEven (columns : SlotColumns) : Type 0 where
+  pub same : length columns.slots ≡ length columns.boxes
+  pub roomy : SLOTS ≤ length columns.boxes + columns.spare
 
--- a slot's box stands at a place of a row
-pub record StandsAt (row : Row) (place slot : ℕ) (body : Bounds) : Type 0 where
-  pub inside : place < length row.slots
-  pub slot_is : slice_index row.slots place ≡ slot
-  pub body_is : slice_index_or row.boxes place blank ≡ body
+-- a slot's box stands at a place of some columns
+pub record StandsAt (columns : SlotColumns) (place slot : ℕ) (body : Bounds) : Type 0 where
+  pub inside : place < length columns.slots
+  pub slot_is : slice_index columns.slots place ≡ slot
+  pub body_is : slice_index_or columns.boxes place blank ≡ body
 
-abbrev pub row_at : List Row → ℕ → Row
-row_at rows level = slice_index_or rows level no_row
+abbrev pub columns_at : List SlotColumns → ℕ → SlotColumns
+columns_at levels level = slice_index_or levels level no_columns
 
--- what stands at a place of a row is the box of its slot, which has this level and this place
+-- what stands at a place of a level's columns is the box of its slot, which has this level and this place
 pub record IsBoxOf (bodies : FinMap nat_cmp Bounds) (places : List ℕ) (level place slot : ℕ) : Type 0 where
   pub body : Bounds
   pub here : get bodies slot ≡ Some body
   pub level_is : level_of body ≡ level
   pub place_is : slice_index places slot ≡ place
 
--- Each box stands in the row of its level, and nothing else stands there.
-pub record IsLeveled (bodies : FinMap nat_cmp Bounds) (places : List ℕ) (rows : List Row) : Type 0 where
+-- Each box stands in the columns of its level, and nothing else stands there.
+pub record IsLeveled (bodies : FinMap nat_cmp Bounds) (places : List ℕ) (levels : List SlotColumns) : Type 0 where
   pub places_len : length places ≡ SLOTS
-  pub rows_len : length rows ≡ LEVELS
+  pub levels_len : length levels ≡ LEVELS
   pub low : (s : ℕ) (b : Bounds) → get bodies s ≡ Some b → s < SLOTS
-  pub even : (level : ℕ) → level < LEVELS → IsRow (row_at rows level)
-  pub held : (s : ℕ) (b : Bounds) → get bodies s ≡ Some b → StandsAt (row_at rows (level_of b)) (slice_index places s) s b
-  pub kept : (level place : ℕ) → level < LEVELS → place < length (row_at rows level).slots
-      → IsBoxOf bodies places level place (slice_index (row_at rows level).slots place)
+  pub even : (level : ℕ) → level < LEVELS → AreEven (columns_at levels level)
+  pub held : (s : ℕ) (b : Bounds) → get bodies s ≡ Some b → StandsAt (columns_at levels (level_of b)) (slice_index places s) s b
+  pub kept : (level place : ℕ) → level < LEVELS → place < length (columns_at levels level).slots
+      → IsBoxOf bodies places level place (slice_index (columns_at levels level).slots place)

@@ -6,8 +6,9 @@ use Rattle.fixed_box.specs.Bounds.{Bounds, meets, level_of}
 use Rattle.broad_index.specs.declared.pair.Pair.{Pair}
 use Rattle.broad_index.specs.Members.{has_pair, has_slot, both_meet, is_near}
 use Rattle.broad_index.specs.Touched.{ordered}
+use Rattle.cell_table.specs.declared.TheConstants.{LEVELS}
 use Rattle.cell_table.specs.declared.cell_key.CellKey.{CellKey}
-use Rattle.hier_grid.specs.declared.bucket_boxes.SlotBox.{SlotBox}
+use Rattle.hier_grid.specs.declared.slot_box.SlotBox.{SlotBox}
 use Rattle.hier_grid.specs.declared.cell_row.CellRow.{CellRow}
 use Rattle.hier_grid.specs.declared.nearby.Nearby.{Nearby}
 use Rattle.hier_grid.specs.Cells.{cell_of, cell_on, IsAfter, IsInRows}
@@ -95,10 +96,11 @@ FindsWhere bodies own any IsThere found =
     (q : ℕ) (b : Bounds) → get bodies q ≡ Some b → IsThere q b → meets own.body b ≡ true → not (q == own.slot) ≡ true → (any || nat_lt own.slot q) ≡ true
     → has_pair found (ordered own.slot q) ≡ true
 
--- the pairs of a slot with boxes of higher levels or in later cells were found
-abbrev pub FindsOthers : FinMap nat_cmp Bounds → ℕ → Bounds → List Pair → Type 0
-FindsOthers bodies slot body found =
-    (q : ℕ) (b : Bounds) → get bodies q ≡ Some b → meets body b ≡ true → not (q == slot) ≡ true → IsOther body b → has_pair found (ordered slot q) ≡ true
+-- A search of a slot has added its pairs with its partners there. What was found still is, and it is right where it was and the slot has this box.
+pub record Finds (bodies : FinMap nat_cmp Bounds) (own : SlotBox) (any : Bool) (IsThere : ℕ → Bounds → Type 0) (old new : List Pair) : Type 0 where
+  pub sound : get bodies own.slot ≡ Some own.body → IsSound bodies old → IsSound bodies new
+  pub more : HasPairs old new
+  pub found : FindsWhere bodies own any IsThere new
 
 -- a level has no box
 abbrev pub IsBare : FinMap nat_cmp Bounds → ℕ → Type 0
@@ -108,6 +110,11 @@ IsBare bodies level = (q : ℕ) (b : Bounds) → get bodies q ≡ Some b → lev
 abbrev pub IsAbove : FinMap nat_cmp Bounds → ℕ → Type 0
 IsAbove bodies end = (q : ℕ) (b : Bounds) → get bodies q ≡ Some b → level_of b < end
 
+-- such a level, or the number of levels
+pub record IsEnd (bodies : FinMap nat_cmp Bounds) (end : ℕ) : Type 0 where
+  pub bound : end ≤ LEVELS
+  pub above : IsAbove bodies end
+
 -- the pairs that are to be found from a slot were found
 abbrev pub FindsFrom : FinMap nat_cmp Bounds → ℕ → Bounds → List Pair → Type 0
 FindsFrom bodies slot body found =
@@ -116,6 +123,12 @@ FindsFrom bodies slot body found =
 -- the same if the slot is present
 abbrev pub FindsFor : FinMap nat_cmp Bounds → ℕ → List Pair → Type 0
 FindsFor bodies slot found = (body : Bounds) → get bodies slot ≡ Some body → FindsFrom bodies slot body found
+
+-- a search of a slot, which may be absent, has added all pairs that are to be found from it
+pub record FindsSlot (bodies : FinMap nat_cmp Bounds) (slot : ℕ) (old new : List Pair) : Type 0 where
+  pub sound : IsSound bodies old → IsSound bodies new
+  pub more : HasPairs old new
+  pub found : FindsFor bodies slot new
 
 -- Pairs of boxes that meet were found, among them all that are to be found from some slots.
 pub record FindsRun (bodies : FinMap nat_cmp Bounds) (slots : List ℕ) (found : List Pair) : Type 0 where

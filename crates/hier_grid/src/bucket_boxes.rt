@@ -1,24 +1,17 @@
 ghost use Rattle.std.specs.Prelude.{◌≡◌, ◌++◌, true, OnOk, All, length, map as mapped};
 ghost use Rattle.std.specs.FinMap as map;
 ghost use Rattle.hier_grid.specs.Cells.{IsInRow, IsInRows};
-ghost use Rattle.hier_grid.specs.Buckets.{AreOf, FindsIn, HasBuckets, StaysSound, is_met, met_pairs};
-ghost use Rattle.hier_grid.specs.Search.{HasPairs};
+ghost use Rattle.hier_grid.specs.Buckets.{AreOf, FindsIn, HasBuckets, is_met, met_pairs};
 
 use crate::cell_row::CellRow;
 use crate::kept_boxes::KeptBoxes;
 use crate::partners::is_sought;
+use crate::slot_box::SlotBox;
 use broad_index::Pair;
 use cell_table::BucketList;
-use fixed_box::{FBox, NoMemory};
+use fixed_box::NoMemory;
 use slot_lists::SlotBoxes;
 use std::alloc::Global;
-
-/// A slot beside its box.
-#[derive(Clone, Copy)]
-pub(crate) struct SlotBox {
-    pub(crate) slot: u32,
-    pub(crate) body: FBox,
-}
 
 /// All boxes beside their slots in the order of the buckets of their cells, copied once for the searches of many slots. So
 /// the boxes of a row of cells stand together, and are compared in place.
@@ -55,9 +48,7 @@ impl BucketBoxes {
         pairs: &mut Vec<Pair>,
     ) -> Result<(), NoMemory>
         requires { length self.now.entries.items ≡ length self.now.list.slots }
-        ensures sound { OnOk result (StaysSound self.now own.now pairs.old.items pairs.new.items) }
-        ensures more { OnOk result (HasPairs pairs.old.items pairs.new.items) }
-        ensures found { OnOk result (FindsIn self.now own.now true (IsInRows rows.now) pairs.new.items) }
+        ensures { OnOk result (FindsIn self.now own.now true (IsInRows rows.now) pairs.old.items pairs.new.items) }
     {
         let mut rest = rows;
         'rows: while let [row, more @ ..] = rest {
@@ -79,9 +70,7 @@ impl BucketBoxes {
         pairs: &mut Vec<Pair>,
     ) -> Result<(), NoMemory>
         requires { length self.now.entries.items ≡ length self.now.list.slots }
-        ensures sound { OnOk result (StaysSound self.now own.now pairs.old.items pairs.new.items) }
-        ensures more { OnOk result (HasPairs pairs.old.items pairs.new.items) }
-        ensures found { OnOk result (FindsIn self.now own.now any (IsInRow row.now) pairs.new.items) }
+        ensures { OnOk result (FindsIn self.now own.now any (IsInRow row.now) pairs.old.items pairs.new.items) }
     {
         let places = self.list.row(&row.key, row.end);
         *looked = looked.saturating_add((places.to - places.from + places.wrapped) as u64);

@@ -1,16 +1,17 @@
-ghost use Rattle.std.specs.Prelude.{◌≡◌, ◌↔◌, ◌<◌, ◌≤◌, ◌^◌, true, false, length, refl, Ok, None, is_some, IfOk, IfSome, OnOk};
+ghost use Rattle.std.specs.Prelude.{◌≡◌, ◌↔◌, ◌<◌, ◌≤◌, ◌^◌, true, false, length, refl, Ok, None, is_some, IfOk, IfSome};
 ghost use Rattle.std.specs.FinMap as map;
 ghost use Rattle.std.specs.List.{All};
 ghost use Rattle.broad_index.specs.Fresh.{IsFresh};
-ghost use Rattle.hier_grid.specs.Buckets.{HasBuckets};
 ghost use Rattle.hier_grid.specs.Grid.{AreKeyed};
 ghost use Rattle.hier_grid.specs.Search.{FindsRun};
 ghost use Rattle.slot_lists.specs.Present.{present};
 
-use crate::bucket_boxes::BucketBoxes;
+use crate::findings::Findings;
 use crate::hits::{push_hits, push_reach};
 use crate::kept_boxes::KeptBoxes;
-use crate::pair_search::{Findings, find_run};
+use crate::listing::Listing;
+use crate::pair_search::PairSearch;
+use crate::slot_box::SlotBox;
 use broad_index::{
     BroadPhase, FEWEST_SOUGHT, Pair, PairSeeker, Query, Seeker, join_pieces, push_rising_pairs,
     settle_pairs,
@@ -41,21 +42,18 @@ const LISTED_FROM: usize = 1_024;
 pub struct HierGrid {
     alloc: Global,
     kept: KeptBoxes,
-    boxes: BucketBoxes,
-    // Whether `boxes` has the boxes as they are now.
-    listed: bool,
+    listing: Listing,
     slots: Vec<u32>,
     found: Findings,
     looked: u64,
 }
 
 impl Model for HierGrid {
-    ghost use Rattle.std.specs.Prelude.{◌≡◌, true};
     ghost use Rattle.std.specs.Ordering.{nat_cmp};
     ghost use Rattle.std.specs.Coded.{coded_ℕ};
     ghost use Rattle.std.specs.FinMap.{FinMap, code};
     ghost use Rattle.fixed_box.specs.Bounds.{Bounds, coded_bounds};
-    ghost use Rattle.hier_grid.specs.Buckets.{HasBuckets};
+    ghost use Rattle.hier_grid.specs.Buckets.{IsListing};
 
     ghost Value = { FinMap nat_cmp Bounds };
 
@@ -63,7 +61,7 @@ impl Model for HierGrid {
 
     ghost view = { λ g. g.kept };
 
-    ghost invariant = { λ g. g.listed ≡ true → HasBuckets g.kept g.boxes };
+    ghost invariant = { λ g. IsListing g.kept g.listing };
 }
 
 impl HierGrid {
@@ -74,8 +72,7 @@ impl HierGrid {
         Ok(HierGrid {
             alloc,
             kept: KeptBoxes::new(alloc)?,
-            boxes: BucketBoxes::new(alloc),
-            listed: false,
+            listing: Listing::new(alloc),
             slots: Vec::new(alloc),
             found: Findings::new(alloc),
             looked: 0,
@@ -104,7 +101,7 @@ impl Seeker for HierGrid {
     /// Answers the number of comparisons of two exact boxes.
     fn seek(&self, slot: u32, out: &mut Vec<u32>) -> Result<u32, NoMemory> {
         match self.kept.boxes().box_of(slot) {
-            Some(body) => push_reach(&self.kept, self.alloc, slot, &body, out),
+            Some(body) => push_reach(&self.kept, self.alloc, &SlotBox { slot, body }, out),
             None => Ok(0),
         }
     }
@@ -119,8 +116,8 @@ impl PairSeeker for HierGrid {
     /// Answers the number of comparisons of two exact boxes.
     fn seek_pairs(&self, alloc: Global, slots: &[u32]) -> Result<(Vec<Pair>, u64), NoMemory> {
         let mut found = Findings::new(alloc);
-        let listed = listed_boxes(self.listed, &self.boxes);
-        let looked = find_run(&self.kept, listed, slots, &mut found)?;
+        let search = PairSearch::new(&self.kept, &self.listing);
+        let looked = search.find_run(slots, &mut found)?;
         // in this thread, so that the pieces are only merged behind
         settle_pairs(&mut found.pairs);
         Ok((found.pairs, looked))
@@ -157,7 +154,7 @@ impl BroadPhase for HierGrid {
         ensures answer { result ≡ Ok tt }
         ensures bodies { self.new ≡ map.insert self.old slot body }
     {
-        self.listed = false;
+        self.listing.expire();
         self.kept.put(slot, body);
         Ok(())
     }
@@ -169,7 +166,7 @@ impl BroadPhase for HierGrid {
         ensures answer { result ≡ Ok tt }
         ensures bodies { self.new ≡ map.insert self.old slot body }
     {
-        self.listed = false;
+        self.listing.expire();
         self.kept.set(slot, body);
         Ok(())
     }
@@ -178,16 +175,16 @@ impl BroadPhase for HierGrid {
         requires present { map.contains_key self.old slot ≡ true }
         ensures gone { self.new ≡ map.remove self.old slot }
     {
-        self.listed = false;
+        self.listing.expire();
         self.kept.take(slot);
     }
 
     fn pairs(&mut self, out: &mut Vec<Pair>) -> Result<(), NoMemory> {
         self.kept.boxes().list(&mut self.slots)?;
         let many = self.slots.len() >= LISTED_FROM;
-        list_anew(&self.kept, many, &mut self.listed, &mut self.boxes)?;
-        let listed = listed_boxes(self.listed, &self.boxes);
-        let looked = find_run(&self.kept, listed, &self.slots, &mut self.found)?;
+        self.listing.renew(&self.kept, many)?;
+        let search = PairSearch::new(&self.kept, &self.listing);
+        let looked = search.find_run(&self.slots, &mut self.found)?;
         push_rising_pairs(&mut self.found.pairs, out)?;
         self.looked = self.looked.saturating_add(looked);
         Ok(())
@@ -213,7 +210,7 @@ impl BroadPhase for HierGrid {
 
     // It copies all boxes, once for all pieces.
     fn prepare(&mut self) -> Result<(), NoMemory> {
-        list_anew(&self.kept, true, &mut self.listed, &mut self.boxes)
+        self.listing.renew(&self.kept, true)
     }
 
     // Each present slot is sought.
@@ -241,30 +238,4 @@ impl BroadPhase for HierGrid {
         self.looked = looked;
         Ok(())
     }
-}
-
-// Copies all boxes where that pays, if any has changed since it was done last.
-fn list_anew(
-    kept: &KeptBoxes,
-    pays: bool,
-    listed: &mut bool,
-    boxes: &mut BucketBoxes,
-) -> Result<(), NoMemory>
-    requires { listed.old ≡ true → HasBuckets kept.now boxes.old }
-    ensures listed { pays ≡ true → OnOk result (listed.new ≡ true) }
-    ensures filled { listed.new ≡ true → HasBuckets kept.now boxes.new }
-{
-    if pays && !*listed {
-        boxes.fill(kept)?;
-        *listed = true;
-    }
-    Ok(())
-}
-
-// The copied boxes, if they are those that are there now.
-fn listed_boxes(listed: bool, boxes: &BucketBoxes) -> Option<&BucketBoxes>
-    ensures listed { is_some result ≡ listed }
-    ensures same { IfSome result (λ found. found.now ≡ boxes.now) }
-{
-    if listed { Some(boxes) } else { None }
 }

@@ -7,8 +7,9 @@ ghost use Rattle.broad_index.specs.Reach.{reach};
 use crate::kept_boxes::KeptBoxes;
 use crate::nearby::Nearby;
 use crate::partners::push_partners;
+use crate::slot_box::SlotBox;
 use broad_index::{Query, push_rising_slots};
-use fixed_box::{FBox, NoMemory};
+use fixed_box::NoMemory;
 use slot_lists::SlotBoxes;
 use std::alloc::Global;
 
@@ -66,26 +67,18 @@ fn is_found(boxes: &SlotBoxes, slot: u32, query: &Query) -> bool
 pub(crate) fn push_reach(
     kept: &KeptBoxes,
     alloc: Global,
-    slot: u32,
-    body: &FBox,
+    own: &SlotBox,
     out: &mut Vec<u32>,
 ) -> Result<u32, NoMemory>
-    requires { map.get kept.now slot ≡ Some body.now }
-    ensures ok { OnOk result (out.new.items ≡ out.old.items ++ reach kept.now slot) }
+    requires { map.get kept.now own.now.slot ≡ Some own.now.body }
+    ensures ok { OnOk result (out.new.items ≡ out.old.items ++ reach kept.now own.now.slot) }
     ensures err { OnErr result (out.new.items ≡ out.old.items) }
 {
     let mut near = Nearby::new(alloc);
-    kept.push_candidates(body, &mut near)?;
+    kept.push_candidates(&own.body, &mut near)?;
     let mut partners = Vec::new(alloc);
-    push_partners(
-        kept.boxes(),
-        slot,
-        body,
-        true,
-        &near.slots,
-        &mut near.looked,
-        &mut partners,
-    )?;
+    push_partners(kept.boxes(), own, &near.slots, &mut partners)?;
     push_rising_slots(&mut partners, out)?;
-    Ok(u32::try_from(near.looked).unwrap_or(u32::MAX))
+    let looked = near.looked.saturating_add(near.slots.len() as u64);
+    Ok(u32::try_from(looked).unwrap_or(u32::MAX))
 }

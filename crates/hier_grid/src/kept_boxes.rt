@@ -2,7 +2,7 @@ ghost use Rattle.std.specs.Prelude.{◌≡◌, ℕ, ◌<◌, ◌≤◌, true, fa
 ghost use Rattle.std.specs.FinMap as map;
 ghost use Rattle.fixed_box.specs.Bounds.{Bounds, meets};
 ghost use Rattle.hier_grid.specs.Grid.{AreKeyed, IsSized};
-ghost use Rattle.hier_grid.specs.Search.{HasMetIn, HasNearby, IsAbove, IsBare, NearsAfter, NearsIn, NearsLevel, StaysNearby};
+ghost use Rattle.hier_grid.specs.Search.{HasMetIn, HasNearby, IsBare, IsEnd, NearsAfter, NearsIn, NearsLevel, StaysNearby};
 ghost use Rattle.fixed_box.specs.Space.{space};
 
 use crate::cell::cell_of;
@@ -137,8 +137,7 @@ impl KeptBoxes {
 
     /// A level above those of all boxes.
     pub(crate) fn levels_end(&self) -> u8
-        ensures bound { result ≤ LEVELS }
-        ensures above { IsAbove self.now result }
+        ensures { IsEnd self.now result }
     {
         let mut end = LEVELS;
         'end: while end > 0 {

@@ -1,23 +1,23 @@
 ghost use Rattle.std.specs.Prelude.{◌≡◌, ℕ, ◌<◌, ◌≤◌, [], true, false, IfOk, IfSome, OnOk, length};
 ghost use Rattle.std.specs.FinMap as map;
 ghost use Rattle.fixed_box.specs.Bounds.{level_of};
-ghost use Rattle.hier_grid.specs.Leveled.{row_at};
+ghost use Rattle.hier_grid.specs.Leveled.{columns_at};
 ghost use Rattle.hier_grid.specs.Search.{HasMet, HasMore};
 
-use crate::level_row::LevelRow;
+use crate::level_columns::LevelColumns;
 use cell_table::LEVELS;
 use fixed_box::{FBox, NoMemory, SLOTS};
 use slot_lists::SlotBoxes;
 use std::alloc::Global;
 use std::marker::Model;
 
-/// The boxes by their slots, and each once more in the row of its level, where many are tested at a time.
+/// The boxes by their slots, and each once more in the columns of its level, where many are tested at a time.
 #[derive(Drop)]
 pub(crate) struct LeveledBoxes {
     boxes: SlotBoxes,
-    // For each slot that is present, the place of its box in the row.
+    // For each slot that is present, the place of its box in the columns.
     places: Vec<u32>,
-    rows: Vec<LevelRow>,
+    levels: Vec<LevelColumns>,
 }
 
 impl Model for LeveledBoxes {
@@ -33,7 +33,7 @@ impl Model for LeveledBoxes {
 
     ghost view = { λ l. l.boxes };
 
-    ghost invariant = { λ l. IsLeveled l.boxes l.places.items l.rows.items };
+    ghost invariant = { λ l. IsLeveled l.boxes l.places.items l.levels.items };
 }
 
 impl LeveledBoxes {
@@ -44,7 +44,7 @@ impl LeveledBoxes {
         Ok(LeveledBoxes {
             boxes: SlotBoxes::new(alloc)?,
             places: vec![in alloc; 0; SLOTS as usize]?,
-            rows: empty_rows(alloc)?,
+            levels: empty_levels(alloc)?,
         })
     }
 
@@ -62,8 +62,8 @@ impl LeveledBoxes {
         ensures { self.new ≡ map.insert self.old slot body }
     {
         let level = body.level() as usize;
-        self.places[slot as usize] = self.rows[level].len() as u32;
-        self.rows[level].push(slot, body);
+        self.places[slot as usize] = self.levels[level].len() as u32;
+        self.levels[level].push(slot, body);
         self.boxes.put(slot, body);
     }
 
@@ -98,7 +98,7 @@ impl LeveledBoxes {
         ensures { self.new ≡ map.insert self.old slot body }
     {
         let place = self.places[slot as usize] as usize;
-        self.rows[body.level() as usize].set(place, body);
+        self.levels[body.level() as usize].set(place, body);
         self.boxes.set(slot, body);
     }
 
@@ -111,8 +111,8 @@ impl LeveledBoxes {
             return;
         };
         let place = self.places[slot as usize];
-        // the last box of the row takes its place
-        let moved = self.rows[body.level() as usize].swap_out(place as usize);
+        // the last box of the columns takes its place
+        let moved = self.levels[body.level() as usize].swap_out(place as usize);
         self.places[moved as usize] = place;
         self.boxes.take(slot);
     }
@@ -129,21 +129,21 @@ impl LeveledBoxes {
         ensures more { OnOk result (HasMore out.old.items out.new.items) }
         ensures found { OnOk result (HasMet self.now level region.now out.new.items) }
     {
-        self.rows[level as usize].push_met(region, places, out)?;
+        self.levels[level as usize].push_met(region, places, out)?;
         Ok(())
     }
 }
 
-// A row with no box for each level.
-fn empty_rows(alloc: Global) -> Result<Vec<LevelRow>, NoMemory>
-    ensures len { IfOk result (λ rows. length rows.items ≡ LEVELS) }
-    ensures slots { IfOk result (λ rows. (level : ℕ) → (row_at rows.items level).slots ≡ []) }
-    ensures boxes { IfOk result (λ rows. (level : ℕ) → (row_at rows.items level).boxes ≡ []) }
-    ensures room { IfOk result (λ rows. (level : ℕ) → level < LEVELS → SLOTS ≤ (row_at rows.items level).spare) }
+// Columns with no box for each level.
+fn empty_levels(alloc: Global) -> Result<Vec<LevelColumns>, NoMemory>
+    ensures len { IfOk result (λ levels. length levels.items ≡ LEVELS) }
+    ensures slots { IfOk result (λ levels. (level : ℕ) → (columns_at levels.items level).slots ≡ []) }
+    ensures boxes { IfOk result (λ levels. (level : ℕ) → (columns_at levels.items level).boxes ≡ []) }
+    ensures room { IfOk result (λ levels. (level : ℕ) → level < LEVELS → SLOTS ≤ (columns_at levels.items level).spare) }
 {
-    let mut rows = Vec::with_capacity(alloc, LEVELS as usize)?;
-    'rows: for _level in 0..LEVELS {
-        rows.push(LevelRow::new(alloc)?)?;
+    let mut levels = Vec::with_capacity(alloc, LEVELS as usize)?;
+    'levels: for _level in 0..LEVELS {
+        levels.push(LevelColumns::new(alloc)?)?;
     }
-    Ok(rows)
+    Ok(levels)
 }

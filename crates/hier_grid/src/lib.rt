@@ -5,14 +5,17 @@
 mod bucket_boxes;
 mod cell;
 mod cell_row;
+mod findings;
 mod grid;
 mod hits;
 mod kept_boxes;
-mod level_row;
+mod level_columns;
 mod leveled_boxes;
+mod listing;
 mod near_cells;
 mod nearby;
 mod pair_search;
 mod partners;
+mod slot_box;
 
 pub use grid::HierGrid;

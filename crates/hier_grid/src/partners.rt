@@ -1,28 +1,24 @@
-ghost use Rattle.std.specs.Prelude.{◌≡◌, ◌++◌, ◌==◌, ◌&&◌, ◌||◌, not, nat_lt, filter, OnOk};
+ghost use Rattle.std.specs.Prelude.{◌≡◌, ◌++◌, ◌==◌, ◌&&◌, ◌||◌, true, not, nat_lt, filter, OnOk};
 ghost use Rattle.broad_index.specs.Touched.{ordered_pairs};
 ghost use Rattle.hier_grid.specs.Search.{is_partner, meets_at};
 
+use crate::slot_box::SlotBox;
 use broad_index::Pair;
 use fixed_box::{FBox, NoMemory};
 use slot_lists::SlotBoxes;
 
-/// Appends a slot's partners among others, either any or those with higher slots alone. Each is compared, and
-/// counted.
+/// Appends a slot's partners among others.
 pub(crate) fn push_partners(
     boxes: &SlotBoxes,
-    slot: u32,
-    body: &FBox,
-    any: bool,
+    own: &SlotBox,
     slots: &[u32],
-    looked: &mut u64,
     out: &mut Vec<u32>,
 ) -> Result<(), NoMemory>
-    ensures { OnOk result (out.new.items ≡ out.old.items ++ filter (is_partner boxes.now slot body.now any) slots.now) }
+    ensures { OnOk result (out.new.items ≡ out.old.items ++ filter (is_partner boxes.now own.now.slot own.now.body true) slots.now) }
 {
-    *looked = looked.saturating_add(slots.len() as u64);
     let mut rest = slots;
     'slots: while let [other, more @ ..] = rest {
-        if is_partner(boxes, slot, body, any, *other) {
+        if is_partner(boxes, own, true, *other) {
             out.push(*other)?;
         }
         rest = more;
@@ -30,24 +26,21 @@ pub(crate) fn push_partners(
     Ok(())
 }
 
-/// Appends a slot's pairs with its partners among others.
+/// Appends a slot's pairs with its partners among others, either any or those with higher slots alone.
 pub(crate) fn push_pairs(
     boxes: &SlotBoxes,
-    slot: u32,
-    body: &FBox,
+    own: &SlotBox,
     any: bool,
     slots: &[u32],
-    looked: &mut u64,
     out: &mut Vec<Pair>,
 ) -> Result<(), NoMemory>
     ensures { OnOk result (out.new.items
-        ≡ out.old.items ++ ordered_pairs slot (filter (is_partner boxes.now slot body.now any) slots.now)) }
+        ≡ out.old.items ++ ordered_pairs own.now.slot (filter (is_partner boxes.now own.now.slot own.now.body any) slots.now)) }
 {
-    *looked = looked.saturating_add(slots.len() as u64);
     let mut rest = slots;
     'slots: while let [other, more @ ..] = rest {
-        if is_partner(boxes, slot, body, any, *other) {
-            out.push(Pair::ordered(slot, *other))?;
+        if is_partner(boxes, own, any, *other) {
+            out.push(Pair::ordered(own.slot, *other))?;
         }
         rest = more;
     }
@@ -56,10 +49,10 @@ pub(crate) fn push_pairs(
 
 // Whether another slot is a partner. No branch is taken on which slots may be partners, since that is past telling
 // beforehand.
-fn is_partner(boxes: &SlotBoxes, slot: u32, body: &FBox, any: bool, other: u32) -> bool
-    ensures { result ≡ is_partner boxes.now slot body.now any other }
+fn is_partner(boxes: &SlotBoxes, own: &SlotBox, any: bool, other: u32) -> bool
+    ensures { result ≡ is_partner boxes.now own.now.slot own.now.body any other }
 {
-    is_sought(slot, any, other) & meets_at(boxes, body, other)
+    is_sought(own.slot, any, other) & meets_at(boxes, &own.body, other)
 }
 
 // Whether a slot has a box that meets another.

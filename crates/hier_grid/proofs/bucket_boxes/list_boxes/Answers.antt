@@ -2,7 +2,7 @@
 use Rattle.std.proofs.Common.{◌≡◌, ℕ, true, refl, sym, ap, ◌∙◌, ◌++◌, get_or, subst, rules}
 use Rattle.std.specs.FinMap.{contains_key}
 use Rattle.std.proofs.lemmas.List.Elements.{All-drop, All-take}
-use Rattle.hier_grid.specs.declared.bucket_boxes.SlotBox.{SlotBox}
+use Rattle.hier_grid.specs.declared.slot_box.SlotBox.{SlotBox}
 use Rattle.hier_grid.specs.Buckets.{AreOf}
 use Rattle.hier_grid.proofs.BucketLemmas.{of_more, slots_more, slots_of}
 use Rattle.hier_grid.proofs.RunLemmas.{rest_of}

@@ -7,8 +7,8 @@ use Rattle.hier_grid.proofs.partners.push_pairs.Given as goal
 
 abbrev pub invariant-slots : goal.invariant-slots
 invariant-slots l =
-    l.out.items ++ ordered_pairs l.slot (filter (is_partner l.boxes l.slot l.body l.any) l.rest)
-    ≡ l.fn.out.items ++ ordered_pairs l.slot (filter (is_partner l.boxes l.slot l.body l.any) l.slots)
+    l.out.items ++ ordered_pairs l.own.slot (filter (is_partner l.boxes l.own.slot l.own.body l.any) l.rest)
+    ≡ l.fn.out.items ++ ordered_pairs l.own.slot (filter (is_partner l.boxes l.own.slot l.own.body l.any) l.slots)
 
 abbrev pub decreases-slots : goal.decreases-slots
 decreases-slots l = length l.rest

@@ -7,6 +7,7 @@ use Rattle.hier_grid.proofs.grid.HierGridPairSeeker.seek_pairs.Goals as goal
 pub returns : goal.returns
 returns c =
     let pairs = c.settle_pairs.new.pairs.items in
-    subst (λ bodies. FindsRun bodies c.args.slots.now pairs) c.self.view_is (
-    settled_finds c.self.inside.kept c.args.slots.now c.find_run.new.found.pairs.items pairs c.settle_pairs.ensures.members c.in_ok-looked.ensures
-    )
+    let slots = c.args.slots.now in
+    let found = c.find_run.new.found.pairs.items in
+    let run = subst (λ bodies. FindsRun bodies slots found) c.new-search.ensures c.in_ok-looked.ensures in
+    subst (λ bodies. FindsRun bodies slots pairs) c.self.view_is (settled_finds c.self.inside.kept slots found pairs c.settle_pairs.ensures.members run)

@@ -1,10 +1,10 @@
--- No box stands in a row.
+-- No box stands in any columns.
 use Rattle.std.proofs.Common.{arith}
 use Rattle.hier_grid.proofs.LeveledLemmas.{leveled_new}
 use Rattle.hier_grid.proofs.leveled_boxes.LeveledBoxes.new.Goals as goal
 
 pub invariant_of-result : goal.invariant_of-result
 invariant_of-result c =
-    leveled_new c.in_ok-new.field-0 c.in_ok-vec.field-0.items c.in_ok-empty_rows.field-0.items c.in_ok-new.ensures
+    leveled_new c.in_ok-new.field-0 c.in_ok-vec.field-0.items c.in_ok-empty_levels.field-0.items c.in_ok-new.ensures
     (omega (arith, c.in_ok-vec.ensures.len, c.in_ok-vec.field-0.ok.0))
-    c.in_ok-empty_rows.ensures.len c.in_ok-empty_rows.ensures.slots c.in_ok-empty_rows.ensures.boxes c.in_ok-empty_rows.ensures.room
+    c.in_ok-empty_levels.ensures.len c.in_ok-empty_levels.ensures.slots c.in_ok-empty_levels.ensures.boxes c.in_ok-empty_levels.ensures.room

@@ -1,12 +1,12 @@
--- The box is the last of its row.
+-- The box is the last of its columns.
 use Rattle.std.proofs.Common.{◌≡◌, ◌<◌, ◌++◌, ◌∷◌, [], None, sym, ap, ◌∙◌, subst, arith, length}
 use Rattle.std.specs.FinMap.{contains_key, get}
 use Rattle.std.proofs.lemmas.List.{get_or_read}
 use Rattle.fixed_box.specs.Bounds.{level_of}
 use Rattle.fixed_box.specs.declared.TheConstants.{SLOTS}
 use Rattle.cell_table.specs.declared.TheConstants.{LEVELS}
-use Rattle.hier_grid.specs.Leveled.{no_row, row_at}
-use Rattle.hier_grid.proofs.LeveledLemmas.{leveled_put, room, row_spare, absent_none}
+use Rattle.hier_grid.specs.Leveled.{no_columns, columns_at}
+use Rattle.hier_grid.proofs.LeveledLemmas.{leveled_put, room, columns_spare, absent_none}
 use Rattle.hier_grid.proofs.leveled_boxes.LeveledBoxes.put.Goals as goal
 
 pub overflow_cast-len : goal.overflow_cast-len
@@ -15,9 +15,9 @@ overflow_cast-len c =
     let none : get s.boxes c.args.slot ≡ None =
     absent_none (get s.boxes c.args.slot) (ap (λ m. contains_key m c.args.slot) c.self.view_is ∙ c.requires.absent) in
     let low : c.level-level.result < LEVELS = (let b = c.level-level.ensures.bound in omega arith) in
-    let row = get_or_read s.rows.items c.level-level.result c.index.result.now (omega (arith, c.self.invariant.rows_len)) c.index.ensures no_row in
-    let few = room s.boxes s.places.items s.rows.items c.level-level.result c.args.slot c.self.invariant low c.requires.small none in
-    let len : c.len.result ≡ length (row_at s.rows.items c.level-level.result).slots = c.len.ensures ∙ ap (λ r. length r.slots) row in
+    let columns = get_or_read s.levels.items c.level-level.result c.index.result.now (omega (arith, c.self.invariant.levels_len)) c.index.ensures no_columns in
+    let few = room s.boxes s.places.items s.levels.items c.level-level.result c.args.slot c.self.invariant low c.requires.small none in
+    let len : c.len.result ≡ length (columns_at s.levels.items c.level-level.result).slots = c.len.ensures ∙ ap (λ r. length r.slots) columns in
     omega (arith, few, len)
 
 pub push-requires-clause-few : goal.push-requires-clause-few
@@ -26,10 +26,10 @@ push-requires-clause-few c =
     let none : get s.boxes c.args.slot ≡ None =
     absent_none (get s.boxes c.args.slot) (ap (λ m. contains_key m c.args.slot) c.self.view_is ∙ c.requires.absent) in
     let low : c.level-level.result < LEVELS = (let b = c.level-level.ensures.bound in omega arith) in
-    let row = get_or_read s.rows.items c.level-level.result c.index_mut-2.result.now
-    (omega (arith, c.self.invariant.rows_len)) c.index_mut-2.ensures.value no_row in
-    subst (λ r. length r.slots < SLOTS) (sym row)
-    (room s.boxes s.places.items s.rows.items c.level-level.result c.args.slot c.self.invariant low c.requires.small none)
+    let columns = get_or_read s.levels.items c.level-level.result c.index_mut-2.result.now
+    (omega (arith, c.self.invariant.levels_len)) c.index_mut-2.ensures.value no_columns in
+    subst (λ r. length r.slots < SLOTS) (sym columns)
+    (room s.boxes s.places.items s.levels.items c.level-level.result c.args.slot c.self.invariant low c.requires.small none)
 
 pub push-requires-clause-room : goal.push-requires-clause-room
 push-requires-clause-room c =
@@ -37,24 +37,24 @@ push-requires-clause-room c =
     let none : get s.boxes c.args.slot ≡ None =
     absent_none (get s.boxes c.args.slot) (ap (λ m. contains_key m c.args.slot) c.self.view_is ∙ c.requires.absent) in
     let low : c.level-level.result < LEVELS = (let b = c.level-level.ensures.bound in omega arith) in
-    let row = get_or_read s.rows.items c.level-level.result c.index_mut-2.result.now
-    (omega (arith, c.self.invariant.rows_len)) c.index_mut-2.ensures.value no_row in
-    subst (λ r. 0 < r.spare) (sym row)
-    (row_spare s.boxes s.places.items s.rows.items c.level-level.result c.args.slot c.self.invariant low c.requires.small none)
+    let columns = get_or_read s.levels.items c.level-level.result c.index_mut-2.result.now
+    (omega (arith, c.self.invariant.levels_len)) c.index_mut-2.ensures.value no_columns in
+    subst (λ r. 0 < r.spare) (sym columns)
+    (columns_spare s.boxes s.places.items s.levels.items c.level-level.result c.args.slot c.self.invariant low c.requires.small none)
 
 pub invariant_of-self : goal.invariant_of-self
 invariant_of-self c =
     let s = c.self.inside in
-    let rows = s.rows.items in
+    let levels = s.levels.items in
     let b = c.args.body in
     let none : get s.boxes c.args.slot ≡ None =
     absent_none (get s.boxes c.args.slot) (ap (λ m. contains_key m c.args.slot) c.self.view_is ∙ c.requires.absent) in
     let at : c.level-level.result ≡ level_of b = c.level-level.ensures.value in
-    let bound : c.level-level.result < length rows = (let l = c.level-level.ensures.bound in omega (arith, c.self.invariant.rows_len)) in
-    let read = get_or_read rows c.level-level.result c.index.result.now bound c.index.ensures no_row ∙ ap (row_at rows) at in
-    let row = get_or_read rows c.level-level.result c.index_mut-2.result.now bound c.index_mut-2.ensures.value no_row ∙ ap (row_at rows) at in
-    let len : c.len.result ≡ length (row_at rows (level_of b)).slots = c.len.ensures ∙ ap (λ r. length r.slots) read in
+    let bound : c.level-level.result < length levels = (let l = c.level-level.ensures.bound in omega (arith, c.self.invariant.levels_len)) in
+    let read = get_or_read levels c.level-level.result c.index.result.now bound c.index.ensures no_columns ∙ ap (columns_at levels) at in
+    let columns = get_or_read levels c.level-level.result c.index_mut-2.result.now bound c.index_mut-2.ensures.value no_columns ∙ ap (columns_at levels) at in
+    let len : c.len.result ≡ length (columns_at levels (level_of b)).slots = c.len.ensures ∙ ap (λ r. length r.slots) read in
     rw (c.put.ensures, len, at)
-    (leveled_put s.boxes s.places.items rows c.args.slot b c.push.new.self c.self.invariant c.requires.small none
-    (c.push.ensures.slots ∙ ap (λ r. r.slots ++ c.args.slot ∷ []) row) (c.push.ensures.boxes ∙ ap (λ r. r.boxes ++ b ∷ []) row)
-    (c.push.ensures.spare ∙ ap (λ r. r.spare) row))
+    (leveled_put s.boxes s.places.items levels c.args.slot b c.push.new.self c.self.invariant c.requires.small none
+    (c.push.ensures.slots ∙ ap (λ r. r.slots ++ c.args.slot ∷ []) columns) (c.push.ensures.boxes ∙ ap (λ r. r.boxes ++ b ∷ []) columns)
+    (c.push.ensures.spare ∙ ap (λ r. r.spare) columns))

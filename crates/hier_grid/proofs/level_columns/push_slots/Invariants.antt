@@ -1,6 +1,6 @@
 -- What is there, with the slots at the other places.
 use Rattle.std.proofs.Common.{◌≡◌, ◌++◌, length, map, slice_index}
-use Rattle.hier_grid.proofs.level_row.push_slots.Given as goal
+use Rattle.hier_grid.proofs.level_columns.push_slots.Given as goal
 
 abbrev pub invariant-places : goal.invariant-places
 invariant-places l = l.out.items ++ map (slice_index l.slots) l.rest ≡ l.fn.out.items ++ map (slice_index l.slots) l.places

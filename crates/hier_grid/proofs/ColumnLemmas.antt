@@ -1,4 +1,4 @@
--- A row of boxes through changes: lists whose last element takes another's place, and numbers that differ in a list.
+-- Columns of boxes through changes: lists whose last element takes another's place, and numbers that differ in a list.
 use Rattle.std.proofs.Common.{◌≡◌, ◌≢◌, ℕ, zero, suc, ◌+◌, ◌-◌, ◌<◌, ◌≤◌, Bool, true, false, cond, ◌||◌, ◌==◌, map, List, [], ◌∷◌, ◌++◌, length}
 use Rattle.std.proofs.Common.{get_or, set, refl, sym, ap, ◌∙◌, arith, inl, inr}
 use Rattle.std.specs.List.{IsDistinct, AllByRecursion, list_any, swap_remove, filter}
@@ -9,7 +9,7 @@ use Rattle.std.proofs.lemmas.Bool.Decides.{eqb_tells, nat_tests}
 use Rattle.fixed_box.specs.Bounds.{Bounds}
 use Rattle.lane_boxes.specs.Places.{placed, places}
 use Rattle.broad_index.specs.Members.{has_slot}
-use Rattle.hier_grid.specs.Leveled.{Row, blank, no_row, row_at}
+use Rattle.hier_grid.specs.Leveled.{SlotColumns, blank, no_columns, columns_at}
 use lib.Dec.{eqb}
 
 module _ {X : Type 0} where
@@ -73,20 +73,23 @@ few f n s xs sl below at other =
     within zero l = sl
     within (suc i) l = below i (omega arith)
 
--- ---- rows in a list
-pub all_rows : (Q : Row → Type 0) → Q no_row → (rows : List Row) (row : Row) → ((level : ℕ) → Q (row_at rows level)) → Q row
-    → (level : ℕ) → Q (row_at (rows ++ row ∷ []) level)
-all_rows Q none [] row h q zero = q
-all_rows Q none [] row h q (suc k) = none
-all_rows Q none (r ∷ rs) row h q zero = h 0
-all_rows Q none (r ∷ rs) row h q (suc k) = all_rows Q none rs row (λ l. h (suc l)) q k
+-- ---- columns in a list
+pub all_columns : (Q : SlotColumns → Type 0) → Q no_columns → (levels : List SlotColumns) (columns : SlotColumns) → ((level : ℕ)
+    → Q (columns_at levels level)) → Q columns
+    → (level : ℕ) → Q (columns_at (levels ++ columns ∷ []) level)
+all_columns Q none [] columns h q zero = q
+all_columns Q none [] columns h q (suc k) = none
+all_columns Q none (r ∷ rs) columns h q zero = h 0
+all_columns Q none (r ∷ rs) columns h q (suc k) = all_columns Q none rs columns (λ l. h (suc l)) q k
 
-pub low_rows : (Q : Row → Type 0) (rows : List Row) (row : Row) → ((level : ℕ) → level < length rows → Q (row_at rows level)) → Q row
-    → (level : ℕ) → level < length rows + 1 → Q (row_at (rows ++ row ∷ []) level)
-low_rows Q [] row h q zero lt = q
-low_rows Q [] row h q (suc k) lt = absurd (omega arith)
-low_rows Q (r ∷ rs) row h q zero lt = h 0 (omega arith)
-low_rows Q (r ∷ rs) row h q (suc k) lt = low_rows Q rs row (λ l i. h (suc l) (omega arith)) q k (omega arith)
+pub low_columns : (Q : SlotColumns → Type 0) (levels : List SlotColumns) (columns : SlotColumns) → ((level : ℕ) → level < length levels
+    → Q (columns_at levels level))
+    → Q columns
+    → (level : ℕ) → level < length levels + 1 → Q (columns_at (levels ++ columns ∷ []) level)
+low_columns Q [] columns h q zero lt = q
+low_columns Q [] columns h q (suc k) lt = absurd (omega arith)
+low_columns Q (r ∷ rs) columns h q zero lt = h 0 (omega arith)
+low_columns Q (r ∷ rs) columns h q (suc k) lt = low_columns Q rs columns (λ l i. h (suc l) (omega arith)) q k (omega arith)
 
 -- ---- places of boxes that pass a test
 pub place_in : (test : Bounds → Bool) (from k : ℕ) (boxes : List Bounds) → k < length boxes → test (get_or boxes k blank) ≡ true

@@ -4,9 +4,9 @@ use Rattle.fixed_box.specs.Bounds.{meets}
 use Rattle.lane_boxes.specs.Places.{places}
 use Rattle.broad_index.specs.Members.{has_slot}
 use Rattle.hier_grid.specs.Search.{HasMore}
-use Rattle.hier_grid.proofs.RowLemmas.{place_in, image_in}
+use Rattle.hier_grid.proofs.ColumnLemmas.{place_in, image_in}
 use Rattle.hier_grid.proofs.SlotLemmas.{more_left, more_right}
-use Rattle.hier_grid.proofs.level_row.LevelRow.push_met.Goals as goal
+use Rattle.hier_grid.proofs.level_columns.LevelColumns.push_met.Goals as goal
 
 pub returns-clause-more : goal.returns-clause-more
 returns-clause-more c =

@@ -12,33 +12,33 @@ use std::marker::Model;
 
 /// The boxes of a level in columns, in any order, and at the same places their slots.
 #[derive(Drop)]
-pub(crate) struct LevelRow {
+pub(crate) struct LevelColumns {
     columns: Columns,
     slots: Vec<u32>,
 }
 
-impl Model for LevelRow {
+impl Model for LevelColumns {
     ghost use Rattle.std.specs.Prelude.{◌≤◌, vec_capacity};
     ghost use Rattle.fixed_box.specs.declared.TheConstants.{SLOTS};
-    ghost use Rattle.hier_grid.specs.Leveled.{Row};
+    ghost use Rattle.hier_grid.specs.Leveled.{SlotColumns};
 
-    ghost Value = { Row };
+    ghost Value = { SlotColumns };
 
     ghost view = { λ r. record { slots = r.slots.items; boxes = r.columns.boxes; spare = r.columns.spare } };
 
     ghost invariant = { λ r. SLOTS ≤ vec_capacity r.slots };
 }
 
-impl LevelRow {
+impl LevelColumns {
     /// No box, and room for one under each slot.
-    pub(crate) fn new(alloc: Global) -> Result<LevelRow, NoMemory>
-        ensures slots { IfOk result (λ row. row.slots ≡ []) }
-        ensures boxes { IfOk result (λ row. row.boxes ≡ []) }
-        ensures room { IfOk result (λ row. SLOTS ≤ row.spare) }
+    pub(crate) fn new(alloc: Global) -> Result<LevelColumns, NoMemory>
+        ensures slots { IfOk result (λ columns. columns.slots ≡ []) }
+        ensures boxes { IfOk result (λ columns. columns.boxes ≡ []) }
+        ensures room { IfOk result (λ columns. SLOTS ≤ columns.spare) }
     {
         let mut columns = Columns::new(alloc);
         columns.reserve(SLOTS as usize)?;
-        Ok(LevelRow {
+        Ok(LevelColumns {
             columns,
             slots: Vec::with_capacity(alloc, SLOTS as usize)?,
         })
