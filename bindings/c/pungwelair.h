@@ -1,0 +1,313 @@
+/* Pungwelair's broad phase for programs in C and C++: which of many moving boxes meet, and which of them a question finds.
+ *
+ * A world has moving boxes under handles. It is proved that its answers are those of testing every live box (and every two of
+ * them), whatever structure it keeps them in.
+ *
+ *     pw_world world = PW_WORLD_INIT;
+ *     pw_open(&world, PW_TREE);
+ *     pw_add(&world, boxes, n, &how, handles, n, &done);
+ *     for (;;) {                                            // a tick
+ *         pw_move(&world, moved, m, bodies, m, &done);      // what is elsewhere now
+ *         pw_update(&world, &counts);                       // find the pairs
+ *         pw_events(&world, 0, events, room, &copied);      // which began, stayed or are over
+ *         pw_ray_hits(&world, &ray, hits, room, &count);    // ask
+ *     }
+ *     pw_close(&world);
+ *
+ * Every call gives a status. Whatever the numbers are that it is given, it does what it says or refuses: no number leads to
+ * undefined behavior. A call that is refused changes nothing of the world but what its comment names, and the numbers that it
+ * tells are 0 (batches: those done).
+ *
+ * What the caller owes, and nothing checks:
+ *   - a pointer isn't null, not even before a length of 0, is aligned, and leads to as many items as the length says; what it
+ *     leads to isn't written meanwhile, and doesn't overlap what another pointer of the same call leads to;
+ *   - the two words of a pw_world are zero, or those that the last call left there. A copy of an open pw_world isn't another
+ *     world: use one of the two and forget the other;
+ *   - one call at a time has a world. Different worlds may be used by different threads at once: the library has no state of
+ *     its own, takes no lock and starts no thread;
+ *   - malloc, realloc and free are those of one allocator, which aligns to 16, and no call comes from a signal handler.
+ *
+ * Link libpungwelair.a and pungwelair_heap.c (three functions over malloc, realloc and free). Costs are told for n live boxes
+ * and k answers. */
+#ifndef PUNGWELAIR_H
+#define PUNGWELAIR_H
+
+#include <stddef.h>
+#include <stdint.h>
+#include <string.h>
+
+#ifdef __cplusplus
+extern "C" {
+#endif
+
+/* The most boxes that live at once. Slots are below it, so an array of this length has room for any answer but pairs. */
+#define PW_SLOTS 8192u
+
+/* The most marks that a world holds. */
+#define PW_MOST_MARKS 64u
+
+/* A world. Zero words are a closed one. The words are the library's. */
+typedef struct pw_world {
+    uint32_t state;
+    void *held;
+} pw_world;
+#define PW_WORLD_INIT {0, 0}
+
+/* What a call came to. */
+typedef uint32_t pw_status;
+enum {
+    PW_OK = 0,
+    PW_STALE = 1,         /* no live box has the handle */
+    PW_FULL = 2,          /* PW_SLOTS boxes live, or PW_MOST_MARKS marks are held */
+    PW_NO_MEMORY = 3,     /* malloc gave none. Where it came in a change (pw_add, pw_move, pw_mask, pw_remove, pw_back) the world may
+                             be spent: from then on it answers nothing but this, and pw_get, pw_pairs, pw_events and pw_info alone
+                             tell what it had, and that it is spent. Close it, open another one and add your boxes there. After any
+                             other call all is as before: ask again. */
+    PW_INVERTED = 4,      /* lo > hi on some axis */
+    PW_CLOSED = 5,        /* the world isn't open */
+    PW_ARGUMENT = 6,      /* no such structure or kind of question, a region whose lo > hi, lengths that don't agree, or an open
+                             world that would be opened */
+    PW_EXHAUSTED = 7,     /* 4,294,967,295 handles were given or frames ended, or exchanges are counted out */
+    PW_NO_MARK = 8,       /* no mark is held to go back to */
+    PW_NOT_A_NUMBER = 9,  /* a float is a NaN */
+    PW_OUT_OF_RANGE = 10  /* a float, rounded as the call says, is below -32,768 or above 32,767.99998, or it is an infinity */
+};
+
+/* How a world keeps its boxes. The answers are the same; the costs are not. */
+enum {
+    PW_PLAIN = 0, /* tests every two: for a few hundred boxes */
+    PW_SAP = 1,   /* sweep and prune: for boxes that move a little at a time and are rarely added */
+    PW_TREE = 2,  /* a dynamic tree of enlarged boxes that keeps its pairs: where few boxes move, or much is asked */
+    PW_GRID = 3   /* a hashed grid of levels: where most boxes move */
+};
+
+/* What became of a pair. */
+enum {
+    PW_BEGIN = 0, /* it is new */
+    PW_STAY = 1,  /* it was there in the frame before, too */
+    PW_OVER = 2   /* it was there in the frame before, and is no more */
+};
+
+/* The kinds of pw_query. */
+enum {
+    PW_REGION = 0, /* which boxes meet the one from a to b */
+    PW_POINT = 1,  /* which hold the point a */
+    PW_RAY = 2,    /* which meet the ray from a with the direction b, which may be zero; it has no end */
+    PW_SEGMENT = 3 /* which meet the segment from a to b */
+};
+
+/* A place or a displacement, in raw units of 1/65,536. */
+typedef struct pw_point {
+    int32_t x, y, z;
+} pw_point;
+
+/* A closed axis-aligned box. Boxes that touch meet. */
+typedef struct pw_box {
+    pw_point lo, hi;
+} pw_box;
+
+/* The groups that a box is in and those that it sees, a bit each. Two boxes pair where each sees a group that the other is in. */
+typedef struct pw_masks {
+    uint32_t is, sees;
+} pw_masks;
+
+/* Whose a box is (0: nobody's), and whether it is fixed (any number but 0). Boxes of one owner don't pair, nor do two fixed
+ * ones. */
+typedef struct pw_group {
+    uint32_t owner, fixed;
+} pw_group;
+
+/* How boxes come: pw_seen_by_all() is what most have. */
+typedef struct pw_new {
+    pw_masks masks;
+    pw_group group;
+} pw_new;
+
+/* What names a live box: its slot, and how often that slot was given before. A new box takes the least free slot, so index
+ * your own arrays by it. A handle of a box that is gone is stale until 2^32 boxes were given. */
+typedef struct pw_handle {
+    uint32_t slot, generation;
+} pw_handle;
+
+/* A live box. */
+typedef struct pw_live {
+    pw_box body;
+    pw_masks masks;
+    pw_group group;
+} pw_live;
+
+/* Two boxes that meet, a's slot below b's. */
+typedef struct pw_pair {
+    pw_handle a, b;
+} pw_pair;
+
+/* What became of a pair: PW_BEGIN, PW_STAY or PW_OVER. */
+typedef struct pw_told {
+    uint32_t event;
+    pw_pair pair;
+} pw_told;
+
+/* How many pairs the frame has that pw_update ended, and how many events. */
+typedef struct pw_counts {
+    size_t pairs, events;
+} pw_counts;
+
+/* A question about the boxes of the groups of `mask`: PW_REGION, PW_POINT, PW_RAY or PW_SEGMENT. */
+typedef struct pw_query {
+    uint32_t kind, mask;
+    pw_point a, b;
+} pw_query;
+
+/* A ray without end, for the boxes of the groups of `mask`. A direction of zero asks for the boxes that hold `from`. */
+typedef struct pw_ray {
+    uint32_t mask;
+    pw_point from, direction;
+} pw_ray;
+
+/* A box that is moved along a line, by a displacement, and meets boxes of the groups of `mask` on its way. */
+typedef struct pw_cast {
+    uint32_t mask;
+    pw_box body;
+    pw_point by;
+} pw_cast;
+
+/* The boxes that are nearest to a place: at most `want`, of the groups of `mask`. */
+typedef struct pw_near {
+    uint32_t mask, want;
+    pw_point at;
+} pw_near;
+
+/* What a world is. `exchanges` are those of the endpoint lists since the last frame, where it is PW_SAP, and else 0. */
+typedef struct pw_world_info {
+    uint32_t structure, spent;
+    uint32_t boxes, frames, marks;
+    uint64_t exchanges;
+} pw_world_info;
+
+/* The bits of three floats, or of three doubles. */
+typedef struct pw_bits_32 {
+    uint32_t x, y, z;
+} pw_bits_32;
+typedef struct pw_bits_64 {
+    uint64_t x, y, z;
+} pw_bits_64;
+
+/* Opens a closed world, with no box. It takes some half a megabyte and what the structure takes (at 8,192 boxes: see
+ * docs/LIBRARY.md). PW_ARGUMENT: it is open, or there is no such structure. PW_NO_MEMORY: it stays closed. */
+pw_status pw_open(pw_world *world, uint32_t structure);
+
+/* Closes a world and frees all its memory. It may be opened again. PW_CLOSED: it was closed. */
+pw_status pw_close(pw_world *world);
+
+/* Adds boxes in order, all with the masks and the group of `how`, up to the first that is refused, whose status it gives:
+ * PW_INVERTED, PW_FULL, PW_EXHAUSTED or PW_NO_MEMORY. `done` tells how many were added; their handles are out[0] to
+ * out[done - 1], and the rest of `out` is as it was. PW_ARGUMENT, and none is added, where out_len < boxes_len. PW_SAP walks its
+ * lists for each box (up to n exchanges an axis and end); the others take some log n steps. */
+pw_status pw_add(pw_world *world, const pw_box *boxes, size_t boxes_len, const pw_new *how, pw_handle *out, size_t out_len,
+                 size_t *done);
+
+/* Moves boxes in order, each with its handle, up to the first that is refused: PW_INVERTED, PW_STALE, PW_EXHAUSTED or
+ * PW_NO_MEMORY. `done` tells how many were moved. PW_ARGUMENT, and none is moved, where the lengths differ. */
+pw_status pw_move(pw_world *world, const pw_handle *handles, size_t handles_len, const pw_box *boxes, size_t boxes_len,
+                  size_t *done);
+
+/* Gives a box other masks. PW_STALE. */
+pw_status pw_mask(pw_world *world, pw_handle handle, pw_masks masks);
+
+/* Removes boxes in order, up to the first that is refused: PW_STALE or PW_NO_MEMORY. `done` tells how many were removed. */
+pw_status pw_remove(pw_world *world, const pw_handle *handles, size_t handles_len, size_t *done);
+
+/* The live box that has a handle. PW_STALE, and `out` is as it was. One look-up; it also answers in a spent world. */
+pw_status pw_get(pw_world *world, pw_handle handle, pw_live *out);
+
+/* Ends the frame: finds the pairs of the boxes as they stand and what became of each since the last frame, and tells how many
+ * there are. They stay readable until the next update. PW_EXHAUSTED, PW_NO_MEMORY: all is as before. */
+pw_status pw_update(pw_world *world, pw_counts *counts);
+
+/* Copies the pairs of the last frame from number `from` on, in order of (a's slot, b's slot), as many as there is room for, and
+ * tells how many those are: none where `from` is past the end. After pw_back they are those of the last frame before the mark.
+ * A handle of a pair may be stale by now. */
+pw_status pw_pairs(pw_world *world, size_t from, pw_pair *out, size_t out_len, size_t *copied);
+
+/* Copies what the last update told, from number `from` on: each of its pairs in order, PW_BEGIN or PW_STAY, and then in order those
+ * that are over. As many as there is room for, and tells how many those are. After pw_back they stay what the last update told. */
+pw_status pw_events(pw_world *world, size_t from, pw_told *out, size_t out_len, size_t *copied);
+
+/* Tells how many live boxes meet a question, and copies the handles of the first of them, in order of slots, as many as there
+ * is room for. PW_ARGUMENT: it is no question. PW_NO_MEMORY. After both `out` is as before. */
+pw_status pw_hits(pw_world *world, const pw_query *query, pw_handle *out, size_t out_len, size_t *count);
+
+/* The same for the boxes that a ray meets, in the order in which it first meets them; those that it meets at one place come by
+ * their slots. The order is exact: no rounding. PW_NO_MEMORY. */
+pw_status pw_ray_hits(pw_world *world, const pw_ray *ray, pw_handle *out, size_t out_len, size_t *count);
+
+/* The same for the boxes that a moved box meets on its way, in the order in which it first meets them (those that it meets where it
+ * stands come first), and then by their slots. PW_INVERTED: the box is none. PW_NO_MEMORY. */
+pw_status pw_cast_hits(pw_world *world, const pw_cast *cast, pw_handle *out, size_t out_len, size_t *count);
+
+/* The nearest live boxes to a place, at most `want` and at most PW_SLOTS, in rising order of the square of their distance (0 for a box
+ * that holds it) and then of their slots. PW_NO_MEMORY. */
+pw_status pw_nearest(pw_world *world, const pw_near *near_to, pw_handle *out, size_t out_len, size_t *count);
+
+/* Marks the world as it stands, for rollback. It takes no memory. PW_FULL: PW_MOST_MARKS are held. */
+pw_status pw_mark(pw_world *world);
+
+/* Goes back to the newest mark, which is then gone: the live boxes, their handles and those of later boxes, the pairs of the last frame
+ * and the numbers of frames and exchanges are exactly what they were. It takes a step for each change since. PW_NO_MARK. */
+pw_status pw_back(pw_world *world);
+
+/* What the world is. */
+pw_status pw_info(pw_world *world, pw_world_info *out);
+
+/* The greatest raw number that is at most 65,536 times a float, and the least that is at least that, by the float's bits. -0 is 0.
+ * PW_NOT_A_NUMBER, PW_OUT_OF_RANGE: `out` is as it was. */
+pw_status pw_fix_below_32(uint32_t bits, int32_t *out);
+pw_status pw_fix_above_32(uint32_t bits, int32_t *out);
+pw_status pw_fix_below_64(uint64_t bits, int32_t *out);
+pw_status pw_fix_above_64(uint64_t bits, int32_t *out);
+
+/* The least box in raw units that holds a box of floats: the lower corner is rounded down and the upper one up, so boxes of floats with a
+ * common point have boxes that meet. PW_NOT_A_NUMBER, PW_OUT_OF_RANGE, PW_INVERTED (a lower float above the upper one): the first fault by
+ * axes decides, and `out` is as it was. */
+pw_status pw_box_around_32(const pw_bits_32 *lo, const pw_bits_32 *hi, pw_box *out);
+pw_status pw_box_around_64(const pw_bits_64 *lo, const pw_bits_64 *hi, pw_box *out);
+
+/* Of floats as a program has them. */
+static inline pw_status pw_box_around(const float lo[3], const float hi[3], pw_box *out) {
+    pw_bits_32 low, high;
+    memcpy(&low, lo, sizeof low);
+    memcpy(&high, hi, sizeof high);
+    return pw_box_around_32(&low, &high, out);
+}
+static inline pw_status pw_box_around_double(const double lo[3], const double hi[3], pw_box *out) {
+    pw_bits_64 low, high;
+    memcpy(&low, lo, sizeof low);
+    memcpy(&high, hi, sizeof high);
+    return pw_box_around_64(&low, &high, out);
+}
+static inline pw_status pw_fix_below(float number, int32_t *out) {
+    uint32_t bits;
+    memcpy(&bits, &number, sizeof bits);
+    return pw_fix_below_32(bits, out);
+}
+static inline pw_status pw_fix_above(float number, int32_t *out) {
+    uint32_t bits;
+    memcpy(&bits, &number, sizeof bits);
+    return pw_fix_above_32(bits, out);
+}
+
+/* How a box comes that nobody owns, that moves, and that every box sees: it is in the first group and sees all. */
+static inline pw_new pw_seen_by_all(void) {
+    pw_new how = {{1u, 0xffffffffu}, {0u, 0u}};
+    return how;
+}
+
+/* Tells whether a ray meets a box, and which one first. */
+static inline pw_status pw_first_hit(pw_world *world, const pw_ray *ray, pw_handle *first, size_t *count) {
+    return pw_ray_hits(world, ray, first, 1, count);
+}
+
+#ifdef __cplusplus
+}
+#endif
+#endif
