@@ -1,0 +1,175 @@
+//! The owner of a world.
+
+use crate::library::{self, Held};
+use crate::values::{told, Body, Cast, Error, Frame, Handle, How, Info, Live, Masks, Near, Pair, Query, Ray, Stopped, Structure, Told};
+
+/// Moving boxes under handles. It is open for as long as it lives, and closed where it is dropped.
+pub struct World {
+    held: Held,
+}
+
+// SAFETY: a world's memory is reached by its two words alone, is plain data of no thread, and comes from a heap that any thread may
+// free to. The library has no state of its own.
+unsafe impl Send for World {}
+
+// What a batch came to.
+fn ended(status: u32, done: usize) -> Result<(), Stopped> {
+    told(status).map_err(|error| Stopped { done, error })
+}
+
+// A count, where the call that told it was answered.
+fn counted(status: u32, count: usize) -> Result<usize, Error> {
+    told(status).map(|()| count)
+}
+
+impl World {
+    /// A world with no box. It refuses with `NoMemory` alone.
+    pub fn new(structure: Structure) -> Result<World, Error> {
+        let mut world = World { held: Held::CLOSED };
+        // SAFETY: the words are those of a closed world.
+        told(unsafe { library::pw_open(&mut world.held, structure as u32) })?;
+        Ok(world)
+    }
+
+    /// Adds a box, under the least free slot: `Inverted`, `Full`, `Exhausted` or `NoMemory`.
+    pub fn add(&mut self, body: Body, how: How) -> Result<Handle, Error> {
+        let mut handle = [Handle::default()];
+        self.add_all(&[body], how, &mut handle).map_err(|stopped| stopped.error)?;
+        Ok(handle[0])
+    }
+
+    /// Adds boxes in order, up to the first that is refused. The handles of those that came are the first of `out`. `Argument`, and
+    /// none is added, where `out` is shorter than `bodies`.
+    pub fn add_all(&mut self, bodies: &[Body], how: How, out: &mut [Handle]) -> Result<(), Stopped> {
+        let mut done = 0;
+        // SAFETY: the words are those that the last call left; each pointer leads to as many items as the length beside it says.
+        let status =
+            unsafe { library::pw_add(&mut self.held, bodies.as_ptr(), bodies.len(), &how, out.as_mut_ptr(), out.len(), &mut done) };
+        ended(status, done)
+    }
+
+    /// Gives a box another body: `Inverted`, `Stale`, `Exhausted` or `NoMemory`.
+    pub fn shift(&mut self, handle: Handle, body: Body) -> Result<(), Error> {
+        self.shift_all(&[handle], &[body]).map_err(|stopped| stopped.error)
+    }
+
+    /// Moves boxes in order, each with its handle, up to the first that is refused. `Argument`, and none is moved, where the lengths
+    /// differ.
+    pub fn shift_all(&mut self, handles: &[Handle], bodies: &[Body]) -> Result<(), Stopped> {
+        let mut done = 0;
+        // SAFETY: the words are those that the last call left; each pointer leads to as many items as the length beside it says.
+        let status = unsafe { library::pw_move(&mut self.held, handles.as_ptr(), handles.len(), bodies.as_ptr(), bodies.len(), &mut done) };
+        ended(status, done)
+    }
+
+    /// Gives a box other masks: `Stale` or `NoMemory`.
+    pub fn mask(&mut self, handle: Handle, masks: Masks) -> Result<(), Error> {
+        // SAFETY: the words are those that the last call left; all else is passed by value.
+        told(unsafe { library::pw_mask(&mut self.held, handle, masks) })
+    }
+
+    /// Removes a box: `Stale` or `NoMemory`.
+    pub fn remove(&mut self, handle: Handle) -> Result<(), Error> {
+        self.remove_all(&[handle]).map_err(|stopped| stopped.error)
+    }
+
+    /// Removes boxes in order, up to the first that is refused.
+    pub fn remove_all(&mut self, handles: &[Handle]) -> Result<(), Stopped> {
+        let mut done = 0;
+        // SAFETY: the words are those that the last call left; the pointer leads to as many items as the length says.
+        let status = unsafe { library::pw_remove(&mut self.held, handles.as_ptr(), handles.len(), &mut done) };
+        ended(status, done)
+    }
+
+    /// The live box that has a handle, or `Stale`.
+    pub fn get(&mut self, handle: Handle) -> Result<Live, Error> {
+        let mut out = Live::default();
+        // SAFETY: the words are those that the last call left; `out` is a value of its own.
+        told(unsafe { library::pw_get(&mut self.held, handle, &mut out) })?;
+        Ok(out)
+    }
+
+    /// Ends the frame, and tells how many pairs it has and how many events: `Exhausted` or `NoMemory`, and then all is as before.
+    pub fn update(&mut self) -> Result<Frame, Error> {
+        let mut counts = Frame::default();
+        // SAFETY: the words are those that the last call left; `counts` is a value of its own.
+        told(unsafe { library::pw_update(&mut self.held, &mut counts) })?;
+        Ok(counts)
+    }
+
+    /// Copies the pairs of the last frame from number `from` on, in order, and tells how many those are.
+    pub fn pairs(&mut self, from: usize, out: &mut [Pair]) -> Result<usize, Error> {
+        let mut copied = 0;
+        // SAFETY: the words are those that the last call left; the pointer leads to as many items as the length says.
+        let status = unsafe { library::pw_pairs(&mut self.held, from, out.as_mut_ptr(), out.len(), &mut copied) };
+        counted(status, copied)
+    }
+
+    /// Copies what the last update told from number `from` on: its pairs, and then those that are over.
+    pub fn events(&mut self, from: usize, out: &mut [Told]) -> Result<usize, Error> {
+        let mut copied = 0;
+        // SAFETY: the words are those that the last call left; the pointer leads to as many items as the length says.
+        let status = unsafe { library::pw_events(&mut self.held, from, out.as_mut_ptr(), out.len(), &mut copied) };
+        counted(status, copied)
+    }
+
+    /// Tells how many boxes of the groups of `mask` meet a question, and copies the first of their handles, by slots. `Argument`
+    /// comes for an inverted region.
+    pub fn hits(&mut self, query: Query, mask: u32, out: &mut [Handle]) -> Result<usize, Error> {
+        let mut count = 0;
+        // SAFETY: the words are those that the last call left; the pointer leads to as many items as the length says.
+        let status = unsafe { library::pw_hits(&mut self.held, &query.raw(mask), out.as_mut_ptr(), out.len(), &mut count) };
+        counted(status, count)
+    }
+
+    /// The same for a ray, in the order in which it first meets the boxes.
+    pub fn ray_hits(&mut self, ray: Ray, out: &mut [Handle]) -> Result<usize, Error> {
+        let mut count = 0;
+        // SAFETY: the words are those that the last call left; the pointer leads to as many items as the length says.
+        let status = unsafe { library::pw_ray_hits(&mut self.held, &ray, out.as_mut_ptr(), out.len(), &mut count) };
+        counted(status, count)
+    }
+
+    /// The same for a moved box, in the order in which it first meets the boxes on its way. `Inverted` where it is none.
+    pub fn cast_hits(&mut self, cast: Cast, out: &mut [Handle]) -> Result<usize, Error> {
+        let mut count = 0;
+        // SAFETY: the words are those that the last call left; the pointer leads to as many items as the length says.
+        let status = unsafe { library::pw_cast_hits(&mut self.held, &cast, out.as_mut_ptr(), out.len(), &mut count) };
+        counted(status, count)
+    }
+
+    /// The nearest boxes to a place, the nearest one first.
+    pub fn nearest(&mut self, near: Near, out: &mut [Handle]) -> Result<usize, Error> {
+        let mut count = 0;
+        // SAFETY: the words are those that the last call left; the pointer leads to as many items as the length says.
+        let status = unsafe { library::pw_nearest(&mut self.held, &near, out.as_mut_ptr(), out.len(), &mut count) };
+        counted(status, count)
+    }
+
+    /// Marks the world as it stands, for rollback. `Full` where 64 marks are held.
+    pub fn mark(&mut self) -> Result<(), Error> {
+        // SAFETY: the words are those that the last call left.
+        told(unsafe { library::pw_mark(&mut self.held) })
+    }
+
+    /// Goes back to the newest mark, which is then gone. `NoMark` where none is held.
+    pub fn back(&mut self) -> Result<(), Error> {
+        // SAFETY: the words are those that the last call left.
+        told(unsafe { library::pw_back(&mut self.held) })
+    }
+
+    /// What the world is.
+    pub fn info(&mut self) -> Result<Info, Error> {
+        let mut out = Info::default();
+        // SAFETY: the words are those that the last call left; `out` is a value of its own.
+        told(unsafe { library::pw_info(&mut self.held, &mut out) })?;
+        Ok(out)
+    }
+}
+
+impl Drop for World {
+    fn drop(&mut self) {
+        // SAFETY: the words are those that the last call left, or zero where opening was refused. No call comes later.
+        unsafe { library::pw_close(&mut self.held) };
+    }
+}
