@@ -1,0 +1,324 @@
+/* Random calls beside a model that tests every box, in whole numbers: each answer, each count and what must stay are compared.
+ * Words: the number of calls for each structure, and the seed. */
+#include "expect.h"
+#include "model.h"
+
+enum { MOST_HANDLES = 4 * MOST, BATCH = 8 };
+
+static struct model marked[PW_MOST_MARKS];
+static uint64_t exchanges_when_marked[PW_MOST_MARKS];
+static uint32_t marks;
+
+/* Handles that were given at some time. Many are stale. */
+static pw_handle handles[MOST_HANDLES];
+static size_t handle_count;
+
+static pw_world world = PW_WORLD_INIT;
+
+/* How many answers had something in them. */
+static long pairs_seen, changes_seen, hits_seen;
+
+/* Random numbers: splitmix64. */
+static uint64_t seed;
+
+static uint64_t next(void) {
+    uint64_t z = seed += 0x9e3779b97f4a7c15u;
+    z = (z ^ z >> 30) * 0xbf58476d1ce4e5b9u;
+    z = (z ^ z >> 27) * 0x94d049bb133111ebu;
+    return z ^ z >> 31;
+}
+
+static uint32_t below(uint32_t limit) { return (uint32_t)(next() % limit); }
+
+/* Mostly near each other and on a coarse lattice, so that boxes meet and tie; sometimes at the ends of the range. */
+static int32_t coordinate(void) {
+    static const int32_t ends[] = {INT32_MIN, INT32_MIN + 1, -1, 0, 1, INT32_MAX - 1, INT32_MAX};
+    switch (below(16)) {
+    case 0: return ends[below(7)];
+    case 1: return (int32_t)next();
+    case 2: case 3: return (int32_t)below(1200) - 600;
+    default: return ((int32_t)below(24) - 12) * 50;
+    }
+}
+
+static pw_point place(void) { return (pw_point){coordinate(), coordinate(), coordinate()}; }
+
+static void put_in_order(int32_t *low, int32_t *high) {
+    if (*low > *high) {
+        int32_t kept = *low;
+        *low = *high, *high = kept;
+    }
+}
+
+/* A box, and one time in thirty any two corners, which are mostly inverted. */
+static pw_box some_box(void) {
+    pw_box body = {place(), place()};
+    if (below(30) == 0) return body;
+    put_in_order(&body.lo.x, &body.hi.x);
+    put_in_order(&body.lo.y, &body.hi.y);
+    put_in_order(&body.lo.z, &body.hi.z);
+    return body;
+}
+
+static uint32_t some_mask(void) { return below(4) ? 0xffffffffu : below(16); }
+
+/* Mostly a live box's, sometimes an old one, and sometimes any. */
+static pw_handle some_handle(void) {
+    uint32_t slot = below(MOST), kind = below(20);
+    if (handle_count == 0 || kind == 0) return (pw_handle){below(2 * MOST), below(4)};
+    if (now.boxes == 0 || kind == 1) return handles[below((uint32_t)handle_count)];
+    while (!now.lives[slot]) slot = (slot + 1) % MOST;
+    return handle_of(slot);
+}
+
+static bool are_copied(const void *out, size_t room, const void *items, size_t count, size_t size) {
+    size_t copied = count < room ? count : room;
+    return memcmp(out, items, copied * size) == 0 && is_filled((const char *)out + copied * size, (room - copied) * size);
+}
+
+/* The calls, each beside the model. */
+
+static void try_add(void) {
+    pw_box boxes[BATCH] = {0};
+    pw_handle out[BATCH], given[BATCH];
+    pw_new how = {{1u << below(4), some_mask()}, {below(4) ? 0 : 1 + below(3), below(6) == 0 ? 1 + below(2) : 0}};
+    size_t len = below(BATCH + 1), count = 0, done = 99;
+    pw_status wanted = PW_OK;
+    if (now.boxes + len > MOST) return;
+    for (size_t k = 0; k < len; k++) boxes[k] = some_box();
+    memset(out, FILL, sizeof out);
+    pw_status status = pw_add(&world, boxes, len, &how, out, BATCH, &done);
+    for (; count < len; count++) {
+        uint32_t slot = 0;
+        if (is_inverted(&boxes[count])) {
+            wanted = PW_INVERTED;
+            break;
+        }
+        while (now.lives[slot]) slot++;
+        now.lives[slot] = true, now.given[slot]++, now.boxes++;
+        now.live[slot] = (pw_live){boxes[count], how.masks, how.group};
+        given[count] = handle_of(slot);
+        handles[handle_count < MOST_HANDLES ? handle_count++ : below(MOST_HANDLES)] = given[count];
+    }
+    EXPECT(status == wanted && done == count && are_copied(out, BATCH, given, count, sizeof *out));
+}
+
+static void try_move(void) {
+    pw_handle which[BATCH] = {0};
+    pw_box boxes[BATCH] = {0};
+    size_t len = below(BATCH + 1), count = 0, done = 99;
+    pw_status wanted = PW_OK;
+    for (size_t k = 0; k < len; k++) which[k] = some_handle(), boxes[k] = some_box();
+    pw_status status = pw_move(&world, which, len, boxes, len, &done);
+    for (; count < len && wanted == PW_OK; count++) {
+        if (is_inverted(&boxes[count])) wanted = PW_INVERTED;
+        else if (is_stale(which[count])) wanted = PW_STALE;
+        else now.live[which[count].slot].body = boxes[count];
+    }
+    EXPECT(status == wanted && done == (wanted == PW_OK ? count : count - 1));
+}
+
+static void try_mask(void) {
+    pw_handle which = some_handle();
+    pw_masks masks = {below(8) ? 1u << below(4) : 0, some_mask()};
+    bool stale = is_stale(which);
+    EXPECT(pw_mask(&world, which, masks) == (stale ? PW_STALE : PW_OK));
+    if (!stale) now.live[which.slot].masks = masks;
+}
+
+static void try_remove(void) {
+    pw_handle which[BATCH] = {0};
+    size_t len = below(4), count = 0, done = 99;
+    for (size_t k = 0; k < len; k++) which[k] = some_handle();
+    pw_status status = pw_remove(&world, which, len, &done);
+    for (; count < len && !is_stale(which[count]); count++) now.lives[which[count].slot] = false, now.boxes--;
+    EXPECT(status == (count < len ? PW_STALE : PW_OK) && done == count);
+}
+
+static void try_get(void) {
+    pw_handle which = some_handle();
+    pw_live out, *live = &now.live[which.slot % MOST];
+    memset(&out, FILL, sizeof out);
+    pw_status status = pw_get(&world, which, &out);
+    if (is_stale(which)) {
+        EXPECT(status == PW_STALE && is_filled(&out, sizeof out));
+        return;
+    }
+    EXPECT(status == PW_OK && memcmp(&out.body, &live->body, sizeof out.body) == 0);
+    EXPECT(memcmp(&out.masks, &live->masks, sizeof out.masks) == 0);
+    EXPECT(out.group.owner == live->group.owner && (out.group.fixed != 0) == (live->group.fixed != 0));
+}
+
+static void try_update(void) {
+    pw_counts counts = {99, 99};
+    pw_status status = pw_update(&world, &counts);
+    end_frame_of_model();
+    EXPECT(status == PW_OK && counts.pairs == now.last_count && counts.events == told_count);
+    pairs_seen += (long)now.last_count, changes_seen += (long)(told_count - now.last_count);
+}
+
+/* From any number on, with any room, past the end too. */
+static void try_lists(void) {
+    static pw_pair pairs[MOST_PAIRS];
+    static pw_told events[2 * MOST_PAIRS];
+    size_t room = below(3) ? below(40) : MOST_PAIRS, from = below(3) ? 0 : below(40), copied = 99;
+    size_t left = from < now.last_count ? now.last_count - from : 0;
+    memset(pairs, FILL, room * sizeof *pairs);
+    EXPECT(pw_pairs(&world, from, pairs, room, &copied) == PW_OK && copied == (left < room ? left : room));
+    EXPECT(are_copied(pairs, room, now.last + from, left, sizeof *pairs));
+    left = from < told_count ? told_count - from : 0;
+    memset(events, FILL, room * sizeof *events);
+    EXPECT(pw_events(&world, from, events, room, &copied) == PW_OK && copied == (left < room ? left : room));
+    EXPECT(are_copied(events, room, told + from, left, sizeof *events));
+}
+
+static void expect_hits(pw_status status, const pw_handle *out, size_t room, size_t count, const struct hit *hits, size_t wanted) {
+    pw_handle found[MOST];
+    for (size_t k = 0; k < wanted; k++) found[k] = handle_of(hits[k].slot);
+    EXPECT(status == PW_OK && count == wanted && are_copied(out, room, found, wanted, sizeof *out));
+    hits_seen += (long)wanted;
+}
+
+static void set_way(struct question *q, pw_point from, pw_point to) {
+    q->way[0] = (int64_t)to.x - from.x, q->way[1] = (int64_t)to.y - from.y, q->way[2] = (int64_t)to.z - from.z;
+}
+
+static pw_point direction(void) {
+    if (below(2)) return place();
+    return (pw_point){(int32_t)below(7) - 3, (int32_t)below(7) - 3, (int32_t)below(7) - 3};
+}
+
+static void try_hits(void) {
+    static const pw_point origin = {0, 0, 0};
+    pw_query query = {below(4), some_mask(), place(), place()};
+    struct question q = {query.mask, {query.a, query.a}, {0, 0, 0}, true};
+    struct hit hits[MOST];
+    pw_handle out[MOST];
+    size_t room = below(2) ? MOST : below(5), count = 99;
+    if (query.kind == PW_REGION) {
+        pw_box region = some_box();
+        query.a = region.lo, query.b = region.hi, q.body = region;
+    } else if (query.kind == PW_RAY) {
+        query.b = direction();
+        q.has_end = false;
+        set_way(&q, origin, query.b);
+    } else if (query.kind == PW_SEGMENT) {
+        set_way(&q, query.a, query.b);
+    }
+    memset(out, FILL, sizeof out);
+    pw_status status = pw_hits(&world, &query, out, room, &count);
+    if (query.kind == PW_REGION && is_inverted(&q.body)) {
+        EXPECT(status == PW_ARGUMENT && count == 0 && is_filled(out, sizeof out));
+        return;
+    }
+    expect_hits(status, out, room, count, hits, model_hits(&q, false, hits));
+}
+
+static void try_ray_hits(void) {
+    static const pw_point origin = {0, 0, 0};
+    pw_ray ray = {some_mask(), place(), direction()};
+    struct question q = {ray.mask, {ray.from, ray.from}, {0, 0, 0}, false};
+    struct hit hits[MOST];
+    pw_handle out[MOST];
+    size_t room = below(2) ? MOST : below(5), count = 99;
+    set_way(&q, origin, ray.direction);
+    memset(out, FILL, sizeof out);
+    pw_status status = pw_ray_hits(&world, &ray, out, room, &count);
+    expect_hits(status, out, room, count, hits, model_hits(&q, true, hits));
+}
+
+static void try_cast_hits(void) {
+    static const pw_point origin = {0, 0, 0};
+    pw_cast cast = {some_mask(), some_box(), direction()};
+    struct question q = {cast.mask, cast.body, {0, 0, 0}, true};
+    struct hit hits[MOST];
+    pw_handle out[MOST];
+    size_t room = below(2) ? MOST : below(5), count = 99;
+    set_way(&q, origin, cast.by);
+    memset(out, FILL, sizeof out);
+    pw_status status = pw_cast_hits(&world, &cast, out, room, &count);
+    if (is_inverted(&cast.body)) {
+        EXPECT(status == PW_INVERTED && count == 0 && is_filled(out, sizeof out));
+        return;
+    }
+    expect_hits(status, out, room, count, hits, model_hits(&q, true, hits));
+}
+
+static void try_nearest(void) {
+    pw_near near_to = {some_mask(), below(3) ? below(9) : below(2) ? MOST + below(9000) : 0xffffffffu, place()};
+    struct hit hits[MOST];
+    pw_handle out[MOST];
+    size_t room = below(2) ? MOST : below(5), count = 99;
+    memset(out, FILL, sizeof out);
+    pw_status status = pw_nearest(&world, &near_to, out, room, &count);
+    expect_hits(status, out, room, count, hits, model_nearest(&near_to, hits));
+}
+
+static uint64_t exchanges(void) {
+    pw_world_info info = {0};
+    EXPECT(pw_info(&world, &info) == PW_OK);
+    return info.exchanges;
+}
+
+static void try_mark(void) {
+    uint64_t counted = exchanges();
+    if (marks == PW_MOST_MARKS) {
+        EXPECT(pw_mark(&world) == PW_FULL);
+        return;
+    }
+    EXPECT(pw_mark(&world) == PW_OK);
+    exchanges_when_marked[marks] = counted;
+    marked[marks++] = now;
+}
+
+static void try_back(void) {
+    if (marks == 0) {
+        EXPECT(pw_back(&world) == PW_NO_MARK);
+        return;
+    }
+    EXPECT(pw_back(&world) == PW_OK);
+    now = marked[--marks];
+    EXPECT(exchanges() == exchanges_when_marked[marks]);
+}
+
+static void try_info(uint32_t structure) {
+    pw_world_info info = {0};
+    EXPECT(pw_info(&world, &info) == PW_OK && info.structure == structure && info.spent == 0);
+    EXPECT(info.boxes == now.boxes && info.frames == now.frames && info.marks == marks);
+    EXPECT(structure == PW_SAP || info.exchanges == 0);
+}
+
+/* Marks come a little more often than ways back, so that a long run holds all that there may be. */
+static void try_some_call(uint32_t structure) {
+    switch (below(20)) {
+    case 0: case 1: try_add(); break;
+    case 2: case 3: case 4: try_move(); break;
+    case 5: try_mask(); break;
+    case 6: case 7: try_remove(); break;
+    case 8: try_get(); break;
+    case 9: case 10: try_update(); break;
+    case 11: try_lists(); break;
+    case 12: case 13: try_hits(); break;
+    case 14: try_ray_hits(); break;
+    case 15: try_cast_hits(); break;
+    case 16: try_nearest(); break;
+    case 17: below(8) < 5 ? try_mark() : try_back(); break;
+    case 18: below(8) < 3 ? try_mark() : try_back(); break;
+    default: try_info(structure); break;
+    }
+}
+
+int main(int count, char **words) {
+    long calls = count > 1 ? atol(words[1]) : 20000;
+    for (uint32_t structure = PW_PLAIN; structure <= PW_GRID; structure++) {
+        seed = (count > 2 ? strtoull(words[2], NULL, 10) : 1) * 4 + structure;
+        now = (struct model){0};
+        marks = 0, told_count = handle_count = 0;
+        EXPECT(pw_open(&world, structure) == PW_OK);
+        for (long k = 0; k < calls; k++) try_some_call(structure);
+        EXPECT(pw_close(&world) == PW_OK);
+    }
+    printf("random_calls: %ld pairs, %ld over, %ld hits\n", pairs_seen, changes_seen, hits_seen);
+    EXPECT(pairs_seen > 0 && changes_seen > 0 && hits_seen > 0);
+    return tested("random_calls");
+}

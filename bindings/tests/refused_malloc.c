@@ -1,0 +1,273 @@
+/* A fixed run over each structure, again and again, in which the heap refuses the first request, then the second, and so on until a
+ * run has none refused. What is answered after a refusal is compared with the run that had all memory. */
+#include "expect.h"
+#include "pungwelair.h"
+#include <stdbool.h>
+#include <stdlib.h>
+
+enum { BOXES = 300, MORE = 30, MOVED = 150, ROOM = 8192, LOG = 1 << 20 };
+
+/* The heap, in place of pungwelair_heap.c. */
+struct tried {
+    bool ok;
+    void *p;
+};
+
+static long requests, refused_request, refusals, blocks;
+static char nothing;
+
+static bool is_refused(void) {
+    bool refused = requests++ == refused_request;
+    refusals += refused;
+    return refused;
+}
+
+struct tried rattle_alloc(size_t size, size_t align) {
+    if (is_refused()) return (struct tried){false, &nothing};
+    void *p = malloc(size ? size : align);
+    if (!p) abort();
+    blocks++;
+    return (struct tried){true, p};
+}
+
+struct tried rattle_realloc(void *p, size_t kept, size_t size, size_t align) {
+    (void)kept;
+    if (is_refused()) return (struct tried){false, &nothing};
+    p = realloc(p, size ? size : align);
+    if (!p) abort();
+    return (struct tried){true, p};
+}
+
+void rattle_dealloc(void *p) {
+    blocks--;
+    free(p);
+}
+
+/* What the first run of a structure, which has all memory, was answered. */
+static unsigned char answers[LOG];
+static size_t answer_at;
+static bool is_first_run;
+
+static void answered(const void *answer, size_t size) {
+    if (answer_at + size > LOG) abort();
+    if (is_first_run) memcpy(answers + answer_at, answer, size);
+    else EXPECT(!memcmp(answers + answer_at, answer, size));
+    answer_at += size;
+}
+
+static pw_world world = PW_WORLD_INIT;
+static pw_handle handles[BOXES + MORE];
+static bool is_spent;
+static long spent_worlds;
+
+/* The lists of the last frame. */
+static pw_pair pairs[ROOM];
+static pw_told events[ROOM];
+
+/* A call says that memory was refused exactly where some was. */
+#define TELLS(status, call)                                         \
+    do {                                                            \
+        long before = refusals;                                     \
+        (status) = (call);                                          \
+        EXPECT(((status) == PW_NO_MEMORY) == (refusals > before));  \
+    } while (0)
+
+/* A call that changes nothing where memory is refused: asked again, it answers. */
+#define ASK(call)                                                   \
+    do {                                                            \
+        pw_status status;                                           \
+        TELLS(status, call);                                        \
+        if (status == PW_NO_MEMORY) status = (call);                \
+        EXPECT(status == PW_OK);                                    \
+    } while (0)
+
+static pw_box box_of(int32_t k, int32_t shift) {
+    int32_t x = k % 7 * 100 + shift, y = k / 7 % 7 * 100, z = k / 49 * 100 + shift / 2;
+    return (pw_box){{x, y, z}, {x + 100 + k % 3, y + 90 + k % 5 * 5, z + 120}};
+}
+
+/* A spent world refuses each change and question, and tells that it is spent. It is closed, and another one takes its boxes. */
+static void leave_spent_world(void) {
+    pw_box body = box_of(0, 0);
+    pw_new how = pw_seen_by_all();
+    pw_handle handle;
+    pw_counts counts;
+    pw_query query = {PW_POINT, ~0u, {0, 0, 0}, {0, 0, 0}};
+    pw_ray ray = {~0u, {0, 0, 0}, {1, 0, 0}};
+    pw_cast cast = {~0u, body, {1, 0, 0}};
+    pw_near near_to = {~0u, 1, {0, 0, 0}};
+    size_t count;
+    is_spent = true;
+    spent_worlds++;
+    EXPECT(pw_add(&world, &body, 1, &how, &handle, 1, &count) == PW_NO_MEMORY && count == 0);
+    EXPECT(pw_move(&world, handles, 1, &body, 1, &count) == PW_NO_MEMORY && count == 0);
+    EXPECT(pw_remove(&world, handles, 1, &count) == PW_NO_MEMORY && count == 0);
+    EXPECT(pw_mask(&world, handles[0], how.masks) == PW_NO_MEMORY);
+    EXPECT(pw_update(&world, &counts) == PW_NO_MEMORY && counts.pairs == 0 && counts.events == 0);
+    EXPECT(pw_hits(&world, &query, &handle, 1, &count) == PW_NO_MEMORY && count == 0);
+    EXPECT(pw_ray_hits(&world, &ray, &handle, 1, &count) == PW_NO_MEMORY && count == 0);
+    EXPECT(pw_cast_hits(&world, &cast, &handle, 1, &count) == PW_NO_MEMORY && count == 0);
+    EXPECT(pw_nearest(&world, &near_to, &handle, 1, &count) == PW_NO_MEMORY && count == 0);
+    EXPECT(pw_mark(&world) == PW_NO_MEMORY && pw_back(&world) == PW_NO_MEMORY);
+    /* What it had can be read still. */
+    EXPECT(pw_pairs(&world, 0, pairs, ROOM, &count) == PW_OK);
+    EXPECT(pw_events(&world, 0, events, ROOM, &count) == PW_OK);
+    EXPECT(pw_close(&world) == PW_OK && blocks == 0);
+    EXPECT(pw_open(&world, PW_PLAIN) == PW_OK);
+    EXPECT(pw_add(&world, &body, 1, &how, &handle, 1, &count) == PW_OK && count == 1);
+    EXPECT(pw_close(&world) == PW_OK);
+}
+
+/* After a change, whether there is more to do for it: where memory was refused and the world isn't spent, the rest of it. */
+static bool goes_on(pw_status status, bool is_done) {
+    pw_world_info info;
+    if (status != PW_NO_MEMORY) {
+        EXPECT(status == PW_OK && is_done);
+        return false;
+    }
+    EXPECT(pw_info(&world, &info) == PW_OK);
+    if (info.spent) leave_spent_world();
+    return !is_spent;
+}
+
+static void add(size_t first, size_t count, int32_t shift) {
+    pw_box boxes[BOXES];
+    pw_new how = {{3, ~0u}, {first ? 0 : 5, 0}};
+    size_t at = 0, done;
+    pw_status status;
+    for (size_t k = 0; k < count; k++) boxes[k] = box_of((int32_t)(first + k), shift);
+    do {
+        TELLS(status, pw_add(&world, boxes + at, count - at, &how, handles + first + at, count - at, &done));
+        at += done;
+    } while (goes_on(status, at == count));
+}
+
+static void move(size_t first, size_t count, int32_t shift) {
+    pw_box boxes[BOXES];
+    size_t at = 0, done;
+    pw_status status;
+    for (size_t k = 0; k < count; k++) boxes[k] = box_of((int32_t)(first + k), shift);
+    do {
+        TELLS(status, pw_move(&world, handles + first + at, count - at, boxes + at, count - at, &done));
+        at += done;
+    } while (goes_on(status, at == count));
+}
+
+static void remove_some(size_t first, size_t count) {
+    size_t at = 0, done;
+    pw_status status;
+    do {
+        TELLS(status, pw_remove(&world, handles + first + at, count - at, &done));
+        at += done;
+    } while (goes_on(status, at == count));
+}
+
+static void mask(size_t k) {
+    pw_status status;
+    do TELLS(status, pw_mask(&world, handles[k], (pw_masks){2, 2}));
+    while (goes_on(status, true));
+}
+
+static void back(void) {
+    pw_status status;
+    do TELLS(status, pw_back(&world));
+    while (goes_on(status, true));
+}
+
+static void update(void) {
+    pw_counts counts;
+    size_t copied;
+    ASK(pw_update(&world, &counts));
+    answered(&counts, sizeof counts);
+    ASK(pw_pairs(&world, 0, pairs, ROOM, &copied));
+    EXPECT(copied == counts.pairs);
+    answered(pairs, copied * sizeof *pairs);
+    ASK(pw_events(&world, 0, events, ROOM, &copied));
+    EXPECT(copied == counts.events);
+    answered(events, copied * sizeof *events);
+}
+
+static void ask(void) {
+    pw_query queries[4] = {{PW_REGION, ~0u, {0, 0, 0}, {300, 300, 300}},
+                           {PW_POINT, 1, {150, 50, 150}, {0, 0, 0}},
+                           {PW_RAY, ~0u, {-9, 50, 50}, {3, 1, 2}},
+                           {PW_SEGMENT, ~0u, {700, 700, 700}, {0, 0, 0}}};
+    pw_ray ray = {~0u, {-9, 50, 50}, {5, 1, 1}};
+    pw_cast cast = {~0u, {{0, 0, 0}, {50, 50, 50}}, {900, 900, 900}};
+    pw_near near_to = {~0u, 50, {350, 350, 350}};
+    pw_handle found[BOXES + MORE];
+    size_t count;
+    for (int k = 0; k < 4; k++) {
+        ASK(pw_hits(&world, &queries[k], found, BOXES + MORE, &count));
+        answered(found, count * sizeof *found);
+    }
+    ASK(pw_ray_hits(&world, &ray, found, BOXES + MORE, &count));
+    answered(found, count * sizeof *found);
+    ASK(pw_cast_hits(&world, &cast, found, BOXES + MORE, &count));
+    answered(found, count * sizeof *found);
+    ASK(pw_nearest(&world, &near_to, found, BOXES + MORE, &count));
+    EXPECT(count == 50);
+    answered(found, count * sizeof *found);
+}
+
+static void see(void) {
+    pw_live live[2];
+    pw_world_info info;
+    ASK(pw_get(&world, handles[0], &live[0]));
+    ASK(pw_get(&world, handles[BOXES - 1], &live[1]));
+    answered(live, sizeof live);
+    ASK(pw_info(&world, &info));
+    uint64_t fields[5] = {info.structure, info.boxes, info.frames, info.marks, info.exchanges};
+    answered(fields, sizeof fields);
+}
+
+/* The steps of a run. Each of the changes may end it, with a spent world. */
+static void fill(void) { add(0, BOXES, 0); }
+static void move_half(void) { move(0, MOVED, 30); }
+static void mask_one(void) { mask(7); }
+static void mark(void) { ASK(pw_mark(&world)); }
+static void move_behind_mark(void) { move(MOVED, MOVED, -40); }
+static void mask_behind_mark(void) { mask(9); }
+static void remove_behind_mark(void) { remove_some(20, 30); }
+static void add_behind_mark(void) { add(BOXES, MORE, 10); }
+static void empty(void) { remove_some(0, BOXES); }
+
+/* The way back leads over what came and went behind both marks, so the handles of `fill` name its boxes again. */
+static void (*const steps[])(void) = {fill, update, ask, move_half, update, mask_one, mark, move_behind_mark, mask_behind_mark, update,
+                                      mark, remove_behind_mark, add_behind_mark, update, ask, back, ask, back, update, see, ask, empty, update};
+enum { STEPS = sizeof steps / sizeof *steps };
+
+/* One run, with one request refused or none. */
+static void run(uint32_t structure) {
+    requests = refusals = 0;
+    answer_at = 0;
+    is_spent = false;
+    pw_status status;
+    TELLS(status, pw_open(&world, structure));
+    if (status == PW_NO_MEMORY) {
+        pw_world_info info;
+        EXPECT(pw_info(&world, &info) == PW_CLOSED && blocks == 0);
+        status = pw_open(&world, structure);
+    }
+    EXPECT(status == PW_OK);
+    for (int k = 0; k < STEPS && !is_spent; k++) steps[k]();
+    if (!is_spent) EXPECT(pw_close(&world) == PW_OK);
+    EXPECT(blocks == 0);
+}
+
+int main(void) {
+    static const char *const names[] = {"plain", "sap", "tree", "grid"};
+    for (uint32_t structure = PW_PLAIN; structure <= PW_GRID; structure++) {
+        refused_request = -1;
+        is_first_run = true;
+        run(structure);
+        is_first_run = false;
+        spent_worlds = 0;
+        refused_request = 0;
+        do run(structure);
+        while (refusals && ++refused_request);
+        printf("%s: %ld requests, each refused once; %ld of them spent the world\n", names[structure], refused_request, spent_worlds);
+        EXPECT(refused_request > 0);
+    }
+    return tested("refused_malloc");
+}

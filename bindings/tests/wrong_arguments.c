@@ -1,0 +1,360 @@
+/* Each call with each wrong argument that it can be given: its status, its counts, and that all else stays. */
+#include "expect.h"
+#include "pungwelair.h"
+#include <math.h>
+#include <stdlib.h>
+
+enum { BOXES = 3, ROOM = 8 };
+
+static pw_world world = PW_WORLD_INIT;
+static pw_handle handles[BOXES];
+
+/* Boxes 0 and 1 meet, and box 2 is alone. */
+static const pw_box boxes[BOXES] = {{{0, 0, 0}, {9, 9, 9}}, {{9, 0, 0}, {20, 9, 9}}, {{50, 50, 50}, {60, 60, 60}}};
+static const pw_point origin = {0, 0, 0};
+
+/* All that a world tells of itself. */
+struct view {
+    uint64_t info[6];
+    pw_live live[BOXES];
+    pw_pair pairs[ROOM];
+    pw_told events[ROOM];
+    size_t pair_count, event_count;
+};
+
+static void look(struct view *view) {
+    pw_world_info info;
+    memset(view, 0, sizeof *view);
+    EXPECT(pw_info(&world, &info) == PW_OK);
+    uint64_t fields[6] = {info.structure, info.spent, info.boxes, info.frames, info.marks, info.exchanges};
+    memcpy(view->info, fields, sizeof fields);
+    for (int k = 0; k < BOXES; k++) EXPECT(pw_get(&world, handles[k], &view->live[k]) == PW_OK);
+    EXPECT(pw_pairs(&world, 0, view->pairs, ROOM, &view->pair_count) == PW_OK);
+    EXPECT(pw_events(&world, 0, view->events, ROOM, &view->event_count) == PW_OK);
+}
+
+/* What leaves the world as it was. */
+#define STAYS(...)                                      \
+    do {                                                \
+        struct view before, after;                      \
+        look(&before);                                  \
+        __VA_ARGS__;                                    \
+        look(&after);                                   \
+        EXPECT(!memcmp(&before, &after, sizeof after)); \
+    } while (0)
+
+/* A call that is refused so. */
+#define REFUSED(call, wanted) STAYS(EXPECT((call) == (wanted)))
+
+/* A call that tells a count of 0, and leaves the room for answers as it was. */
+#define EMPTY(call, wanted, count, out)                     \
+    do {                                                    \
+        memset(out, FILL, sizeof out);                      \
+        (count) = 99;                                       \
+        EXPECT((call) == (wanted));                         \
+        EXPECT((count) == 0 && is_filled(out, sizeof out)); \
+    } while (0)
+
+static pw_box inverted_on(int axis) {
+    pw_box body = {{0, 0, 0}, {0, 0, 0}};
+    int32_t *low[3] = {&body.lo.x, &body.lo.y, &body.lo.z};
+    *low[axis] = 1;
+    return body;
+}
+
+static void closed_world(void) {
+    pw_new how = pw_seen_by_all();
+    pw_handle out[ROOM], none = {0, 0};
+    pw_pair pairs[ROOM];
+    pw_told events[ROOM];
+    pw_live live[1];
+    pw_query query = {PW_POINT, ~0u, origin, origin};
+    pw_ray ray = {~0u, origin, origin};
+    pw_cast cast = {~0u, boxes[0], origin};
+    pw_near near_to = {~0u, 1, origin};
+    pw_counts counts = {99, 99};
+    pw_world_info info[1];
+    size_t count;
+    EXPECT(pw_close(&world) == PW_CLOSED);
+    EXPECT(pw_open(&world, 4) == PW_ARGUMENT);
+    EXPECT(pw_open(&world, ~0u) == PW_ARGUMENT);
+    EMPTY(pw_add(&world, boxes, BOXES, &how, out, BOXES, &count), PW_CLOSED, count, out);
+    EMPTY(pw_add(&world, boxes, BOXES, &how, out, 0, &count), PW_CLOSED, count, out);
+    EMPTY(pw_move(&world, &none, 1, boxes, 1, &count), PW_CLOSED, count, out);
+    EMPTY(pw_move(&world, &none, 0, boxes, 1, &count), PW_CLOSED, count, out);
+    EMPTY(pw_remove(&world, &none, 1, &count), PW_CLOSED, count, out);
+    EXPECT(pw_mask(&world, none, how.masks) == PW_CLOSED);
+    memset(live, FILL, sizeof live);
+    EXPECT(pw_get(&world, none, live) == PW_CLOSED && is_filled(live, sizeof live));
+    EXPECT(pw_update(&world, &counts) == PW_CLOSED && counts.pairs == 0 && counts.events == 0);
+    EMPTY(pw_pairs(&world, 0, pairs, ROOM, &count), PW_CLOSED, count, pairs);
+    EMPTY(pw_events(&world, 0, events, ROOM, &count), PW_CLOSED, count, events);
+    EMPTY(pw_hits(&world, &query, out, ROOM, &count), PW_CLOSED, count, out);
+    EMPTY(pw_ray_hits(&world, &ray, out, ROOM, &count), PW_CLOSED, count, out);
+    EMPTY(pw_cast_hits(&world, &cast, out, ROOM, &count), PW_CLOSED, count, out);
+    EMPTY(pw_nearest(&world, &near_to, out, ROOM, &count), PW_CLOSED, count, out);
+    EXPECT(pw_mark(&world) == PW_CLOSED && pw_back(&world) == PW_CLOSED);
+    memset(info, FILL, sizeof info);
+    EXPECT(pw_info(&world, info) == PW_CLOSED && is_filled(info, sizeof info));
+    EXPECT(pw_close(&world) == PW_CLOSED);
+}
+
+static void open_with_boxes(uint32_t structure) {
+    pw_new how = pw_seen_by_all();
+    pw_counts counts;
+    size_t done;
+    EXPECT(pw_open(&world, structure) == PW_OK);
+    EXPECT(pw_add(&world, boxes, BOXES, &how, handles, BOXES, &done) == PW_OK && done == BOXES);
+    EXPECT(pw_update(&world, &counts) == PW_OK && counts.pairs == 1 && counts.events == 1);
+}
+
+static void wrong_opening(void) {
+    REFUSED(pw_open(&world, PW_PLAIN), PW_ARGUMENT);
+    REFUSED(pw_open(&world, PW_GRID), PW_ARGUMENT);
+    REFUSED(pw_open(&world, 77), PW_ARGUMENT);
+}
+
+static void wrong_adds(void) {
+    pw_new how = pw_seen_by_all();
+    pw_handle out[ROOM];
+    size_t done;
+    for (int axis = 0; axis < 3; axis++) {
+        pw_box body = inverted_on(axis);
+        STAYS(EMPTY(pw_add(&world, &body, 1, &how, out, 1, &done), PW_INVERTED, done, out));
+        STAYS(EMPTY(pw_add(&world, &body, 1, &how, out, 0, &done), PW_ARGUMENT, done, out));
+    }
+    STAYS(EMPTY(pw_add(&world, boxes, BOXES, &how, out, BOXES - 1, &done), PW_ARGUMENT, done, out));
+    STAYS(EMPTY(pw_add(&world, boxes, 0, &how, out, ROOM, &done), PW_OK, done, out));
+    /* Those before the first that is refused are added, and the room behind them stays. */
+    pw_box two[2] = {boxes[2], inverted_on(1)};
+    memset(out, FILL, sizeof out);
+    EXPECT(pw_add(&world, two, 2, &how, out, ROOM, &done) == PW_INVERTED && done == 1);
+    EXPECT(out[0].slot == BOXES && out[0].generation == 0 && is_filled(out + 1, sizeof out - sizeof *out));
+    EXPECT(pw_remove(&world, out, 1, &done) == PW_OK && done == 1);
+}
+
+static void wrong_moves(void) {
+    pw_handle stale[5] = {{0, 1}, {BOXES, 0}, {PW_SLOTS, 0}, {0xffffffffu, 0xffffffffu}, {2, 0xffffffffu}};
+    pw_box inverted = inverted_on(2), to[2] = {boxes[1], boxes[0]};
+    size_t done;
+    for (int k = 0; k < 5; k++) {
+        pw_handle two[2] = {handles[0], stale[k]};
+        pw_live live;
+        pw_masks masks = {2, 2};
+        memset(&live, FILL, sizeof live);
+        done = 99;
+        REFUSED(pw_move(&world, &stale[k], 1, boxes, 1, &done), PW_STALE);
+        EXPECT(done == 0);
+        /* A box that is none is refused first. */
+        REFUSED(pw_move(&world, &stale[k], 1, &inverted, 1, &done), PW_INVERTED);
+        REFUSED(pw_mask(&world, stale[k], masks), PW_STALE);
+        REFUSED(pw_get(&world, stale[k], &live), PW_STALE);
+        EXPECT(is_filled(&live, sizeof live));
+        done = 99;
+        REFUSED(pw_remove(&world, &stale[k], 1, &done), PW_STALE);
+        EXPECT(done == 0);
+        EXPECT(pw_move(&world, two, 2, to, 2, &done) == PW_STALE && done == 1);
+        EXPECT(pw_get(&world, handles[0], &live) == PW_OK && !memcmp(&live.body, &boxes[1], sizeof live.body));
+        EXPECT(pw_move(&world, handles, 1, boxes, 1, &done) == PW_OK && done == 1);
+    }
+    for (int axis = 0; axis < 3; axis++) {
+        inverted = inverted_on(axis);
+        done = 99;
+        REFUSED(pw_move(&world, handles, 1, &inverted, 1, &done), PW_INVERTED);
+        EXPECT(done == 0);
+    }
+    done = 99;
+    REFUSED(pw_move(&world, handles, BOXES, boxes, BOXES - 1, &done), PW_ARGUMENT);
+    EXPECT(done == 0);
+    REFUSED(pw_move(&world, handles, BOXES - 1, boxes, BOXES, &done), PW_ARGUMENT);
+    REFUSED(pw_move(&world, handles, 0, boxes, 1, &done), PW_ARGUMENT);
+    REFUSED(pw_move(&world, handles, 0, boxes, 0, &done), PW_OK);
+    REFUSED(pw_remove(&world, handles, 0, &done), PW_OK);
+}
+
+static void removed_twice(void) {
+    pw_new how = pw_seen_by_all();
+    pw_handle twice[2];
+    size_t done;
+    EXPECT(pw_add(&world, &boxes[2], 1, &how, twice, 1, &done) == PW_OK);
+    twice[1] = twice[0];
+    EXPECT(pw_remove(&world, twice, 2, &done) == PW_STALE && done == 1);
+    REFUSED(pw_remove(&world, twice, 1, &done), PW_STALE);
+    EXPECT(done == 0);
+}
+
+/* Less room than there are answers, more room, none, and a start past the end. */
+static void room_for_lists(void) {
+    pw_pair pairs[ROOM];
+    pw_told events[ROOM];
+    size_t copied;
+    const size_t past[3] = {1, 2, SIZE_MAX};
+    for (int k = 0; k < 3; k++) {
+        STAYS(EMPTY(pw_pairs(&world, past[k], pairs, ROOM, &copied), PW_OK, copied, pairs));
+        STAYS(EMPTY(pw_events(&world, past[k], events, ROOM, &copied), PW_OK, copied, events));
+    }
+    STAYS(EMPTY(pw_pairs(&world, 0, pairs, 0, &copied), PW_OK, copied, pairs));
+    STAYS(EMPTY(pw_events(&world, 0, events, 0, &copied), PW_OK, copied, events));
+    memset(pairs, FILL, sizeof pairs);
+    memset(events, FILL, sizeof events);
+    EXPECT(pw_pairs(&world, 0, pairs, ROOM, &copied) == PW_OK && copied == 1);
+    EXPECT(pairs[0].a.slot == 0 && pairs[0].b.slot == 1 && is_filled(pairs + 1, sizeof pairs - sizeof *pairs));
+    EXPECT(pw_events(&world, 0, events, ROOM, &copied) == PW_OK && copied == 1);
+    EXPECT(events[0].event == PW_BEGIN && events[0].pair.b.slot == 1 && is_filled(events + 1, sizeof events - sizeof *events));
+}
+
+static void wrong_questions(void) {
+    static const uint32_t unknown[3] = {4, 99, 0xffffffffu};
+    pw_handle out[ROOM];
+    size_t count;
+    for (int k = 0; k < 3; k++) {
+        pw_query query = {unknown[k], ~0u, origin, origin};
+        pw_box body = inverted_on(k);
+        pw_query region = {PW_REGION, ~0u, body.lo, body.hi};
+        pw_cast cast = {~0u, body, origin};
+        STAYS(EMPTY(pw_hits(&world, &query, out, ROOM, &count), PW_ARGUMENT, count, out));
+        STAYS(EMPTY(pw_hits(&world, &region, out, ROOM, &count), PW_ARGUMENT, count, out));
+        STAYS(EMPTY(pw_cast_hits(&world, &cast, out, ROOM, &count), PW_INVERTED, count, out));
+    }
+}
+
+/* Questions of each kind that find boxes 0 and 1, with room for 0, 1, 2 and more of them. */
+static void room_for_hits(void) {
+    pw_query region = {PW_REGION, ~0u, origin, {9, 9, 9}}, ray = {PW_RAY, ~0u, {-5, 1, 1}, {1, 0, 0}};
+    pw_ray entering = {~0u, {-5, 1, 1}, {1, 0, 0}};
+    pw_cast cast = {~0u, boxes[0], {1, 0, 0}};
+    pw_near near_to = {~0u, 2, origin};
+    for (size_t room = 0; room <= ROOM; room++) {
+        pw_handle out[ROOM];
+        for (int call = 0; call < 5; call++) {
+            size_t count = 99, copied = room < 2 ? room : 2;
+            memset(out, FILL, sizeof out);
+            pw_status status = call == 0   ? pw_hits(&world, &region, out, room, &count)
+                               : call == 1 ? pw_hits(&world, &ray, out, room, &count)
+                               : call == 2 ? pw_ray_hits(&world, &entering, out, room, &count)
+                               : call == 3 ? pw_cast_hits(&world, &cast, out, room, &count)
+                                           : pw_nearest(&world, &near_to, out, room, &count);
+            EXPECT(status == PW_OK && count == 2 && !memcmp(out, handles, copied * sizeof *out));
+            EXPECT(is_filled(out + copied, sizeof out - copied * sizeof *out));
+        }
+    }
+}
+
+/* Questions whose numbers are as large as they may be, or name no box. */
+static void questions_at_the_ends(void) {
+    const int32_t least = INT32_MIN, most = INT32_MAX;
+    pw_handle out[ROOM];
+    size_t count;
+    pw_ray ray = {~0u, {least, least, least}, {most, most, most}}, no_group = {0, {-5, 1, 1}, {1, 0, 0}};
+    pw_cast cast = {~0u, {{least, least, least}, {least, least, least}}, {most, most, most}};
+    pw_query segment = {PW_SEGMENT, ~0u, {least, 0, 0}, {most, 0, 0}}, all = {PW_REGION, ~0u, {least, least, least}, {most, most, most}};
+    pw_near none = {~0u, 0, origin}, nobody = {0, 5, origin}, everybody = {~0u, ~0u, {most, most, most}};
+    EXPECT(pw_ray_hits(&world, &ray, out, ROOM, &count) == PW_OK && count == 3 && !memcmp(out, handles, sizeof handles));
+    EXPECT(pw_cast_hits(&world, &cast, out, ROOM, &count) == PW_OK && count == 0);
+    EXPECT(pw_hits(&world, &segment, out, ROOM, &count) == PW_OK && count == 2);
+    EXPECT(pw_hits(&world, &all, out, ROOM, &count) == PW_OK && count == 3);
+    EXPECT(pw_nearest(&world, &everybody, out, ROOM, &count) == PW_OK && count == 3 && out[0].slot == 2);
+    EMPTY(pw_ray_hits(&world, &no_group, out, ROOM, &count), PW_OK, count, out);
+    EMPTY(pw_nearest(&world, &none, out, ROOM, &count), PW_OK, count, out);
+    EMPTY(pw_nearest(&world, &nobody, out, ROOM, &count), PW_OK, count, out);
+}
+
+static void marks_at_the_ends(void) {
+    pw_world_info info;
+    REFUSED(pw_back(&world), PW_NO_MARK);
+    for (uint32_t held = 0; held < PW_MOST_MARKS; held++) EXPECT(pw_mark(&world) == PW_OK);
+    REFUSED(pw_mark(&world), PW_FULL);
+    EXPECT(pw_info(&world, &info) == PW_OK && info.marks == PW_MOST_MARKS);
+    for (uint32_t held = 0; held < PW_MOST_MARKS; held++) EXPECT(pw_back(&world) == PW_OK);
+    REFUSED(pw_back(&world), PW_NO_MARK);
+}
+
+/* 8,192 boxes live at once, whatever was asked for. */
+static void one_box_too_many(void) {
+    static pw_box many[PW_SLOTS + 1];
+    static pw_handle out[PW_SLOTS + 1];
+    pw_new how = pw_seen_by_all();
+    pw_world_info info;
+    size_t done, left = PW_SLOTS - BOXES;
+    for (size_t k = 0; k <= PW_SLOTS; k++) {
+        int32_t x = 100 + 2 * (int32_t)k;
+        many[k] = (pw_box){{x, 0, 0}, {x + 1, 1, 1}};
+    }
+    memset(out, FILL, sizeof out);
+    EXPECT(pw_add(&world, many, PW_SLOTS + 1, &how, out, PW_SLOTS + 1, &done) == PW_FULL && done == left);
+    EXPECT(is_filled(out + left, (PW_SLOTS + 1 - left) * sizeof *out) && out[left - 1].slot == PW_SLOTS - 1);
+    REFUSED(pw_add(&world, many, 1, &how, out + left, 1, &done), PW_FULL);
+    EXPECT(done == 0);
+    pw_box inverted = inverted_on(0);
+    REFUSED(pw_add(&world, &inverted, 1, &how, out + left, 1, &done), PW_INVERTED);
+    EXPECT(pw_info(&world, &info) == PW_OK && info.boxes == PW_SLOTS);
+    EXPECT(pw_remove(&world, out, left, &done) == PW_OK && done == left);
+}
+
+static void wrong_floats(void) {
+    const struct {
+        float number;
+        pw_status below, above;
+    } floats[] = {{NAN, PW_NOT_A_NUMBER, PW_NOT_A_NUMBER},       {-NAN, PW_NOT_A_NUMBER, PW_NOT_A_NUMBER},
+                  {INFINITY, PW_OUT_OF_RANGE, PW_OUT_OF_RANGE},  {-INFINITY, PW_OUT_OF_RANGE, PW_OUT_OF_RANGE},
+                  {32768.0f, PW_OUT_OF_RANGE, PW_OUT_OF_RANGE},  {-32768.004f, PW_OUT_OF_RANGE, PW_OUT_OF_RANGE},
+                  {3.4e38f, PW_OUT_OF_RANGE, PW_OUT_OF_RANGE},   {32767.998f, PW_OK, PW_OK},
+                  {-32768.0f, PW_OK, PW_OK},                     {1e-45f, PW_OK, PW_OK}};
+    for (size_t k = 0; k < sizeof floats / sizeof *floats; k++) {
+        int32_t out = 77;
+        float lo[3] = {0, floats[k].number, NAN}, hi[3] = {1, INFINITY, 0};
+        pw_box around;
+        EXPECT(pw_fix_below(floats[k].number, &out) == floats[k].below && (out == 77) == (floats[k].below != PW_OK));
+        out = 77;
+        EXPECT(pw_fix_above(floats[k].number, &out) == floats[k].above && (out == 77) == (floats[k].above != PW_OK));
+        /* The first axis with a fault decides, and on it the lower float. */
+        memset(&around, FILL, sizeof around);
+        EXPECT(pw_box_around(lo, hi, &around) == (floats[k].below ? floats[k].below : PW_OUT_OF_RANGE));
+        EXPECT(is_filled(&around, sizeof around));
+    }
+    const float one[3] = {1, 1, 1}, less[3] = {1, 0.5f, 1}, zero[3] = {0, 0, 0}, below_zero[3] = {-0.0f, -0.0f, -0.0f};
+    pw_box around;
+    memset(&around, FILL, sizeof around);
+    EXPECT(pw_box_around(one, less, &around) == PW_INVERTED && is_filled(&around, sizeof around));
+    EXPECT(pw_box_around(zero, below_zero, &around) == PW_OK && around.lo.x == 0 && around.hi.z == 0);
+}
+
+/* Doubles lie between raw numbers: the last of them is within reach from below alone, and the first from above alone. */
+static void wrong_doubles(void) {
+    const double last = 32767.99999, first = -32768.000001, tenth[3] = {0.1, -0.1, 0.1}, more[3] = {0.1, 0.1, NAN};
+    uint64_t bits;
+    int32_t out = 77;
+    pw_box around;
+    memcpy(&bits, &last, sizeof bits);
+    EXPECT(pw_fix_above_64(bits, &out) == PW_OUT_OF_RANGE && out == 77);
+    EXPECT(pw_fix_below_64(bits, &out) == PW_OK && out == INT32_MAX);
+    memcpy(&bits, &first, sizeof bits);
+    out = 77;
+    EXPECT(pw_fix_below_64(bits, &out) == PW_OUT_OF_RANGE && out == 77);
+    EXPECT(pw_fix_above_64(bits, &out) == PW_OK && out == INT32_MIN);
+    memset(&around, FILL, sizeof around);
+    EXPECT(pw_box_around_double(tenth, more, &around) == PW_NOT_A_NUMBER && is_filled(&around, sizeof around));
+    EXPECT(pw_box_around_double(tenth, tenth, &around) == PW_OK && around.lo.x == 6553 && around.hi.x == 6554 && around.lo.y == -6554);
+}
+
+int main(void) {
+    closed_world();
+    for (uint32_t structure = PW_PLAIN; structure <= PW_GRID; structure++) {
+        open_with_boxes(structure);
+        wrong_opening();
+        wrong_adds();
+        wrong_moves();
+        removed_twice();
+        room_for_lists();
+        wrong_questions();
+        room_for_hits();
+        questions_at_the_ends();
+        marks_at_the_ends();
+        one_box_too_many();
+        EXPECT(pw_close(&world) == PW_OK);
+        closed_world();
+    }
+    wrong_floats();
+    wrong_doubles();
+    return tested("wrong_arguments");
+}
