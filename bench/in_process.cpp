@@ -1,0 +1,323 @@
+// Times a frame in process: each structure of the library, and Bullet's dynamic tree where it is built with it, over the same moving
+// boxes and the same questions. Text is nowhere. Both answers are compared by a sum before any time is told.
+//
+//     in_process BOXES FRAMES ROUNDS [LOAD..]
+#include "pungwelair.h"
+#include <algorithm>
+#include <cmath>
+#include <cstdint>
+#include <cstdio>
+#include <cstdlib>
+#include <cstring>
+#include <ctime>
+#include <memory>
+#include <string>
+#include <vector>
+#ifdef WITH_BULLET
+#include <BulletCollision/BroadphaseCollision/btDbvtBroadphase.h>
+#endif
+
+namespace {
+
+constexpr int32_t unit = 65536;
+constexpr uint32_t all_groups = 0xffffffffu;
+
+// Numbers that are the same on each machine (splitmix64).
+struct Dice {
+    uint64_t state;
+    uint64_t next() {
+        uint64_t z = state += 0x9e3779b97f4a7c15u;
+        z = (z ^ z >> 30) * 0xbf58476d1ce4e5b9u;
+        z = (z ^ z >> 27) * 0x94d049bb133111ebu;
+        return z ^ z >> 31;
+    }
+    // From lo to hi units.
+    int32_t raw(double lo, double hi) {
+        return int32_t((lo + (hi - lo) * double(next() >> 11) / 9007199254740992.0) * unit);
+    }
+    bool chance(double share) { return double(next() >> 11) / 9007199254740992.0 < share; }
+};
+
+struct Load {
+    const char *name;
+    double room;        // boxes lie from -room to room, in units a cube root of their number
+    double least, most; // sides in units
+    bool by_powers;     // sides by powers of two from least to most
+    bool flat;          // long and flat, in rows
+    double share;       // of the boxes moves a frame
+    double step;        // at most so far, in units
+    int questions;      // of each kind a frame
+};
+
+const Load loads[] = {
+    {"sparse", 4.0, 0.5, 1.5, false, false, 1.0, 0.5, 0},
+    {"dense", 0.8, 0.5, 2.0, false, false, 1.0, 0.5, 0},
+    {"still", 4.0, 0.5, 1.5, false, false, 0.03, 0.05, 0},
+    {"mixed", 4.0, 0.06, 64.0, true, false, 0.3, 0.5, 0},
+    {"rows", 2.0, 0.5, 1.0, false, true, 0.3, 0.5, 0},
+    {"asked", 4.0, 0.5, 1.5, false, false, 0.03, 0.05, 250},
+};
+
+struct Move {
+    uint32_t slot;
+    pw_box body;
+};
+
+// All that is played: the boxes at first, and what moves and what is asked in each frame.
+struct Play {
+    std::vector<pw_box> first;
+    std::vector<std::vector<Move>> moves;
+    std::vector<std::vector<pw_query>> questions;
+};
+
+int32_t moved(int32_t at, int32_t by) {
+    return int32_t(std::min<int64_t>(std::max<int64_t>(int64_t(at) + by, INT32_MIN), INT32_MAX));
+}
+
+pw_box box_at(pw_point lo, const int32_t side[3]) {
+    return {lo, {moved(lo.x, side[0]), moved(lo.y, side[1]), moved(lo.z, side[2])}};
+}
+
+Play made(const Load &load, int boxes, int frames) {
+    Dice dice{42};
+    Play play;
+    double room = load.room * std::cbrt(double(boxes));
+    auto place = [&] { return pw_point{dice.raw(-room, room), dice.raw(-room, room), dice.raw(-room, room)}; };
+    for (int i = 0; i < boxes; i++) {
+        int32_t side[3];
+        if (load.by_powers) {
+            double longest = load.least * std::pow(2.0, double(dice.next() % uint64_t(1 + std::log2(load.most / load.least))));
+            for (int32_t &s : side) s = dice.raw(longest / 2, longest);
+        } else {
+            for (int32_t &s : side) s = dice.raw(load.least, load.most);
+        }
+        if (load.flat) side[0] = dice.raw(20, 40), side[1] = dice.raw(0.05, 0.1);
+        play.first.push_back(box_at(place(), side));
+    }
+    std::vector<pw_box> now = play.first;
+    for (int f = 0; f < frames; f++) {
+        play.moves.emplace_back(), play.questions.emplace_back();
+        for (int i = 0; i < boxes; i++) {
+            if (!dice.chance(load.share)) continue;
+            int32_t x = dice.raw(-load.step, load.step), y = dice.raw(-load.step, load.step), z = dice.raw(-load.step, load.step);
+            pw_box &b = now[i];
+            b = {{moved(b.lo.x, x), moved(b.lo.y, y), moved(b.lo.z, z)}, {moved(b.hi.x, x), moved(b.hi.y, y), moved(b.hi.z, z)}};
+            play.moves.back().push_back({uint32_t(i), b});
+        }
+        for (int q = 0; q < load.questions; q++) {
+            pw_point a = place(), b = place();
+            int32_t side[3] = {dice.raw(0.5, 8), dice.raw(0.5, 8), dice.raw(0.5, 8)};
+            pw_box region = box_at(a, side);
+            play.questions.back().push_back({PW_REGION, all_groups, region.lo, region.hi});
+            play.questions.back().push_back({PW_POINT, all_groups, a, a});
+            play.questions.back().push_back({PW_SEGMENT, all_groups, a, b});
+        }
+    }
+    return play;
+}
+
+uint64_t nanoseconds() {
+    timespec t;
+    clock_gettime(CLOCK_THREAD_CPUTIME_ID, &t);
+    return uint64_t(t.tv_sec) * 1000000000u + uint64_t(t.tv_nsec);
+}
+
+// What is timed: boxes come, and each frame they move, pairs are found, and questions are asked.
+struct Engine {
+    virtual ~Engine() = default;
+    virtual void add(const std::vector<pw_box> &boxes) = 0;
+    virtual void move(const std::vector<Move> &moves) = 0;
+    virtual void update() = 0;
+    virtual uint64_t pairs_sum() = 0;
+    virtual uint64_t ask(const pw_query &query) = 0;
+};
+
+void must(pw_status status) {
+    if (status != PW_OK) std::fprintf(stderr, "status %u\n", status), std::exit(1);
+}
+
+uint64_t pair_key(uint64_t a, uint64_t b) { return (std::min(a, b) << 13 | std::max(a, b)) * 0x9e3779b97f4a7c15u; }
+
+struct Pungwelair final : Engine {
+    pw_world world = PW_WORLD_INIT;
+    bool each;
+    std::vector<pw_handle> handles, whose, hits = std::vector<pw_handle>(PW_SLOTS);
+    std::vector<pw_box> bodies;
+    std::vector<pw_pair> pairs;
+    pw_counts counts = {0, 0};
+
+    Pungwelair(uint32_t structure, bool each) : each(each) { must(pw_open(&world, structure)); }
+    ~Pungwelair() override { must(pw_close(&world)); }
+    void add(const std::vector<pw_box> &boxes) override {
+        handles.resize(boxes.size());
+        pw_new how = pw_seen_by_all();
+        size_t done;
+        must(pw_add(&world, boxes.data(), boxes.size(), &how, handles.data(), handles.size(), &done));
+    }
+    void move(const std::vector<Move> &moves) override {
+        size_t done;
+        if (each) {
+            for (const Move &m : moves) must(pw_move(&world, &handles[m.slot], 1, &m.body, 1, &done));
+            return;
+        }
+        whose.clear(), bodies.clear();
+        for (const Move &m : moves) whose.push_back(handles[m.slot]), bodies.push_back(m.body);
+        if (!moves.empty()) must(pw_move(&world, whose.data(), whose.size(), bodies.data(), bodies.size(), &done));
+    }
+    void update() override {
+        size_t copied;
+        must(pw_update(&world, &counts));
+        if (pairs.size() < counts.pairs + 1) pairs.resize(counts.pairs * 2 + 1);
+        must(pw_pairs(&world, 0, pairs.data(), pairs.size(), &copied));
+    }
+    uint64_t pairs_sum() override {
+        uint64_t sum = 0;
+        for (size_t i = 0; i < counts.pairs; i++) sum += pair_key(pairs[i].a.slot, pairs[i].b.slot);
+        return sum;
+    }
+    uint64_t ask(const pw_query &query) override {
+        size_t count;
+        must(pw_hits(&world, &query, hits.data(), hits.size(), &count));
+        return count;
+    }
+};
+
+#ifdef WITH_BULLET
+bool meet(const pw_box &a, const pw_box &b) {
+    return a.lo.x <= b.hi.x && b.lo.x <= a.hi.x && a.lo.y <= b.hi.y && b.lo.y <= a.hi.y && a.lo.z <= b.hi.z && b.lo.z <= a.hi.z;
+}
+
+// Its pair cache keeps pairs of enlarged boxes, in single precision: those that meet are picked out, as the engine above it does.
+struct Bullet final : Engine {
+    btDbvtBroadphase tree;
+    std::vector<pw_box> bodies;
+    std::vector<btBroadphaseProxy *> proxies;
+    std::vector<std::pair<uint32_t, uint32_t>> met;
+
+    static btVector3 at(const pw_point &p) { return {float(p.x) / unit, float(p.y) / unit, float(p.z) / unit}; }
+    static uint32_t slot_of(const btBroadphaseProxy *p) { return uint32_t(reinterpret_cast<uintptr_t>(p->m_clientObject)); }
+    void add(const std::vector<pw_box> &boxes) override {
+        bodies = boxes;
+        for (size_t i = 0; i < boxes.size(); i++)
+            proxies.push_back(tree.createProxy(at(boxes[i].lo), at(boxes[i].hi), 0, reinterpret_cast<void *>(i), 1, 1, nullptr));
+    }
+    ~Bullet() override {
+        for (btBroadphaseProxy *p : proxies) tree.destroyProxy(p, nullptr);
+    }
+    void move(const std::vector<Move> &moves) override {
+        for (const Move &m : moves) bodies[m.slot] = m.body, tree.setAabb(proxies[m.slot], at(m.body.lo), at(m.body.hi), nullptr);
+    }
+    void update() override {
+        tree.calculateOverlappingPairs(nullptr);
+        btBroadphasePairArray &kept = tree.getOverlappingPairCache()->getOverlappingPairArray();
+        met.clear();
+        for (int i = 0; i < kept.size(); i++) {
+            uint32_t a = slot_of(kept[i].m_pProxy0), b = slot_of(kept[i].m_pProxy1);
+            if (meet(bodies[a], bodies[b])) met.push_back({a, b});
+        }
+    }
+    uint64_t pairs_sum() override {
+        uint64_t sum = 0;
+        for (auto &p : met) sum += pair_key(p.first, p.second);
+        return sum;
+    }
+    struct Boxes final : btBroadphaseAabbCallback {
+        const Bullet &b;
+        pw_box region;
+        uint64_t count = 0;
+        Boxes(const Bullet &b, const pw_box &region) : b(b), region(region) {}
+        bool process(const btBroadphaseProxy *p) override { return count += meet(b.bodies[slot_of(p)], region), true; }
+    };
+    struct Segment final : btBroadphaseRayCallback {
+        uint64_t count = 0;
+        bool process(const btBroadphaseProxy *) override { return count++, true; }
+    };
+    uint64_t ask(const pw_query &query) override {
+        if (query.kind == PW_SEGMENT) {
+            Segment found;
+            btVector3 from = at(query.a), way = at(query.b) - from;
+            for (int k = 0; k < 3; k++) {
+                found.m_rayDirectionInverse[k] = way[k] == 0 ? btScalar(BT_LARGE_FLOAT) : 1 / way[k];
+                found.m_signs[k] = found.m_rayDirectionInverse[k] < 0;
+            }
+            found.m_lambda_max = 1;
+            tree.rayTest(from, at(query.b), found);
+            return found.count;
+        }
+        Boxes found(*this, {query.a, query.b});
+        tree.aabbTest(at(query.a), at(query.b), found);
+        return found.count;
+    }
+};
+#endif
+
+struct Named {
+    const char *name;
+    std::unique_ptr<Engine> (*make)();
+    bool exact_segments; // its segments are those of enlarged boxes in single precision, so their hits aren't compared
+};
+
+template <uint32_t structure, bool each> std::unique_ptr<Engine> ours() { return std::make_unique<Pungwelair>(structure, each); }
+
+const Named engines[] = {
+    {"plain", ours<PW_PLAIN, false>, true}, {"sap", ours<PW_SAP, false>, true},       {"tree", ours<PW_TREE, false>, true},
+    {"tree, a call a move", ours<PW_TREE, true>, true}, {"grid", ours<PW_GRID, false>, true}, {"grid, a call a move", ours<PW_GRID, true>, true},
+#ifdef WITH_BULLET
+    {"bullet's dbvt", [] { return std::unique_ptr<Engine>(new Bullet); }, false},
+#endif
+};
+
+struct Times {
+    uint64_t frame = UINT64_MAX, kind[3] = {UINT64_MAX, UINT64_MAX, UINT64_MAX}, sum = 0, hits = 0;
+};
+
+void play(const Named &named, const Play &play, Times &least) {
+    std::unique_ptr<Engine> engine = named.make();
+    engine->add(play.first);
+    engine->update();
+    uint64_t frame = 0, kind[3] = {0, 0, 0};
+    least.sum = engine->pairs_sum(), least.hits = 0;
+    for (size_t f = 0; f < play.moves.size(); f++) {
+        uint64_t begun = nanoseconds();
+        engine->move(play.moves[f]);
+        engine->update();
+        frame += nanoseconds() - begun;
+        least.sum = least.sum * 31 + engine->pairs_sum();
+        for (int k = 0; k < 3; k++) {
+            begun = nanoseconds();
+            uint64_t count = 0;
+            for (size_t q = size_t(k); q < play.questions[f].size(); q += 3) count += engine->ask(play.questions[f][q]);
+            kind[k] += nanoseconds() - begun;
+            if (k < 2 || named.exact_segments) least.hits = least.hits * 31 + count;
+        }
+    }
+    least.frame = std::min(least.frame, frame);
+    for (int k = 0; k < 3; k++) least.kind[k] = std::min(least.kind[k], kind[k]);
+}
+
+} // namespace
+
+int main(int argc, char **argv) {
+    if (argc < 4) return std::fprintf(stderr, "usage: in_process BOXES FRAMES ROUNDS [LOAD..]\n"), 2;
+    int boxes = std::atoi(argv[1]), frames = std::atoi(argv[2]), rounds = std::atoi(argv[3]);
+    constexpr size_t count = sizeof engines / sizeof *engines;
+    std::printf("%d boxes, %d frames, least of %d; microseconds a frame of moves and pairs, nanoseconds a question\n", boxes, frames, rounds);
+    std::printf("%-8s %-22s %12s %9s %9s %9s\n", "load", "engine", "frame", "box", "point", "segment");
+    for (const Load &load : loads) {
+        bool wanted = argc == 4;
+        for (int i = 4; i < argc; i++) wanted |= !std::strcmp(argv[i], load.name);
+        if (!wanted) continue;
+        Play all = made(load, boxes, frames);
+        Times times[count];
+        for (int r = 0; r < rounds; r++)
+            for (size_t e = 0; e < count; e++) play(engines[e], all, times[e]);
+        for (size_t e = 0; e < count; e++) {
+            if (times[e].sum != times[0].sum) return std::fprintf(stderr, "%s, %s: other pairs\n", load.name, engines[e].name), 1;
+            if (engines[e].exact_segments && times[e].hits != times[0].hits)
+                return std::fprintf(stderr, "%s, %s: other hits\n", load.name, engines[e].name), 1;
+            std::printf("%-8s %-22s %12.1f", load.name, engines[e].name, double(times[e].frame) / frames / 1000);
+            for (uint64_t k : times[e].kind) load.questions ? std::printf(" %9.0f", double(k) / frames / load.questions) : std::printf(" %9s", "-");
+            std::printf("\n");
+        }
+    }
+}
