@@ -59,8 +59,8 @@ enum {
     PW_OK = 0,
     PW_STALE = 1,         /* no live box has the handle */
     PW_FULL = 2,          /* PW_SLOTS boxes live, or PW_MOST_MARKS marks are held */
-    PW_NO_MEMORY = 3,     /* malloc gave none. Where it came in a change (pw_add, pw_move, pw_mask, pw_remove, pw_back) the world may
-                             be spent: from then on it answers nothing but this, and pw_get, pw_pairs, pw_events and pw_info alone
+    PW_NO_MEMORY = 3,     /* malloc gave none. Where it came in pw_add, pw_move or pw_back the world may be
+                             spent: from then on it answers nothing but this, and pw_get, pw_pairs, pw_events and pw_info alone
                              tell what it had, and that it is spent. Close it, open another one and add your boxes there. After any
                              other call all is as before: ask again. */
     PW_INVERTED = 4,      /* lo > hi on some axis */

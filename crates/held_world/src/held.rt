@@ -114,9 +114,10 @@ impl HeldWorld {
         Reply { status: OK, count }
     }
 
-    /// Boxes go, in order.
+    /// Boxes go, in order. No world is spent by it.
     pub fn remove_all(&mut self, handles: &[PwHandle]) -> Reply
         ensures removed { IsBatch removes handles.now result.count result.status (state_of self.old.world) (state_of self.new.world) }
+        ensures spent { (state_of self.new.world).spent ≡ (state_of self.old.world).spent }
         ensures structure { structure_of self.new.world ≡ structure_of self.old.world }
         ensures found { self.new.found ≡ self.old.found }
     {
@@ -185,6 +186,7 @@ impl HeldWorld {
     // One box goes.
     fn remove(&mut self, handle: &PwHandle) -> Result<(), u32>
         ensures step { Stepped removes handle.now result (state_of self.old.world) (state_of self.new.world) }
+        ensures spent { (state_of self.new.world).spent ≡ (state_of self.old.world).spent }
         ensures structure { structure_of self.new.world ≡ structure_of self.old.world }
         ensures found { self.new.found ≡ self.old.found }
     {

@@ -3,6 +3,7 @@ use Rattle.std.specs.Prelude.{◌≡◌, ◌≢◌, ◌↔◌, ◌⊎◌, ℕ, �
 use Rattle.std.specs.Prelude.{Option, None, Some, Result, Ok, Err}
 use Rattle.live_table.specs.declared.group.Group.{Group}
 use Rattle.live_table.specs.declared.handle.Handle.{Handle}
+use Rattle.live_table.specs.declared.live.Live.{Live}
 use Rattle.live_table.specs.declared.masks.Masks.{Masks}
 use Rattle.box_world.specs.World.{masked, marked, gone_back}
 use Rattle.box_world.specs.Answers.{opened, with_world, with_time, after_frame, change_refusal, frame_refusal}
@@ -14,6 +15,7 @@ use Rattle.held_world.specs.declared.held.HeldWorld.{HeldWorld}
 use Rattle.held_world.specs.declared.plain.PwBox.{PwBox}
 use Rattle.held_world.specs.declared.plain.PwHandle.{PwHandle}
 use Rattle.held_world.specs.declared.reading.PwCounts.{PwCounts}
+use Rattle.held_world.specs.Asks.{Asks}
 use Rattle.held_world.specs.Batches.{IsBatch}
 use Rattle.held_world.specs.Changes.{adds, moves, removes, handles_given}
 use Rattle.held_world.specs.Copies.{copied}
@@ -76,7 +78,14 @@ pub record Moves (handles : List PwHandle) (boxes : List PwBox) (reply : Reply) 
 -- What a batch of boxes that go says.
 pub record Removes (handles : List PwHandle) (reply : Reply) (was now : AnyWorld) : Type 0 where
   pub removed : IsBatch removes handles reply.count reply.status (state_of was) (state_of now)
+  pub spent : (state_of now).spent ≡ (state_of was).spent
   pub structure : structure_of now ≡ structure_of was
+
+-- What a question says: what it comes to among the live boxes, where `none` is the status of one that is no question, and that no world is
+-- changed by it.
+pub record Asked (none : ℕ) (hits : List Live → Option (List Handle)) (reply : Reply) (room out : List PwHandle) (was now : AnyWorld) : Type 0 where
+  pub answer : Asks none (hits (state_of was).time.now.table.entries) (state_of was).spent reply room out
+  pub kept : IsKept was now
 
 -- What a call says that copies items from number `from` on.
 pub record Copies {A B : Type 0} (shape : A → B) (from : ℕ) (items : List A) (reply : Reply) (room out : List B) : Type 0 where

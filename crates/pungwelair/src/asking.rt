@@ -2,12 +2,10 @@ ghost use Rattle.std.specs.Prelude.{◌≡◌, min, Some, option_map};
 ghost use Rattle.fixed_box.specs.declared.TheConstants.{SLOTS};
 ghost use Rattle.live_queries.specs.Pairs.{hits_of};
 ghost use Rattle.live_queries.specs.Queries.{entered_of, cast_of, nearest_to};
-ghost use Rattle.any_world.specs.AnyWorld.{state_of};
 ghost use Rattle.held_world.specs.declared.TheConstants.{ARGUMENT, INVERTED};
-ghost use Rattle.held_world.specs.Asks.{Asks};
 ghost use Rattle.held_world.specs.Plain.{query_in, ray_in, cast_in, near_in};
 ghost use Rattle.held_world.specs.declared.answers.Reply.{Reply};
-ghost use Rattle.pungwelair.specs.Exports.{Calls, IsClosed, IsKept};
+ghost use Rattle.pungwelair.specs.Exports.{Asked, Calls, IsClosed};
 
 use crate::world::PwWorld;
 use held_world::{CLOSED, PwCast, PwHandle, PwNear, PwQuery, PwRay};
@@ -23,8 +21,8 @@ pub extern "C" fn pw_hits(
     count: &mut usize,
 ) -> u32
     ensures { let reply : Reply = record { status = result; count = count.new } in
-        Calls (λ was now. IsKept was.world now.world × (let old = state_of was.world in let entries = old.time.now.table.entries in
-        Asks ARGUMENT (option_map (λ asked. hits_of entries asked query.now.mask) (query_in query.now)) old.spent reply out.old out.new))
+        Calls (λ was now. Asked ARGUMENT (λ entries. option_map (λ asked. hits_of entries asked query.now.mask) (query_in query.now))
+            reply out.old out.new was.world now.world)
         (IsClosed reply out.old out.new) world.old.held.inner world.new.held.inner }
 {
     let Some(mut held) = world.take(alloc) else {
@@ -47,8 +45,8 @@ pub extern "C" fn pw_ray_hits(
     count: &mut usize,
 ) -> u32
     ensures { let reply : Reply = record { status = result; count = count.new } in
-        Calls (λ was now. IsKept was.world now.world × (let old = state_of was.world in let entries = old.time.now.table.entries in
-        Asks ARGUMENT (Some (entered_of entries (ray_in ray.now) ray.now.mask)) old.spent reply out.old out.new))
+        Calls (λ was now. Asked ARGUMENT (λ entries. Some (entered_of entries (ray_in ray.now) ray.now.mask))
+            reply out.old out.new was.world now.world)
         (IsClosed reply out.old out.new) world.old.held.inner world.new.held.inner }
 {
     let Some(mut held) = world.take(alloc) else {
@@ -71,8 +69,8 @@ pub extern "C" fn pw_cast_hits(
     count: &mut usize,
 ) -> u32
     ensures { let reply : Reply = record { status = result; count = count.new } in
-        Calls (λ was now. IsKept was.world now.world × (let old = state_of was.world in let entries = old.time.now.table.entries in
-        Asks INVERTED (option_map (λ asked. cast_of entries asked cast.now.mask) (cast_in cast.now)) old.spent reply out.old out.new))
+        Calls (λ was now. Asked INVERTED (λ entries. option_map (λ asked. cast_of entries asked cast.now.mask) (cast_in cast.now))
+            reply out.old out.new was.world now.world)
         (IsClosed reply out.old out.new) world.old.held.inner world.new.held.inner }
 {
     let Some(mut held) = world.take(alloc) else {
@@ -95,8 +93,8 @@ pub extern "C" fn pw_nearest(
     count: &mut usize,
 ) -> u32
     ensures { let reply : Reply = record { status = result; count = count.new } in
-        Calls (λ was now. IsKept was.world now.world × (let old = state_of was.world in let entries = old.time.now.table.entries in
-        Asks ARGUMENT (Some (nearest_to entries (near_in near.now).at (min near.now.want SLOTS) near.now.mask)) old.spent reply out.old out.new))
+        Calls (λ was now. Asked ARGUMENT (λ entries. Some (nearest_to entries (near_in near.now).at (min near.now.want SLOTS) near.now.mask))
+            reply out.old out.new was.world now.world)
         (IsClosed reply out.old out.new) world.old.held.inner world.new.held.inner }
 {
     let Some(mut held) = world.take(alloc) else {

@@ -11,6 +11,8 @@ use Rattle.held_world.proofs.held.HeldWorld.entered.Goals as goal
 pub returns-clause-asks : goal.returns-clause-asks
 returns-clause-asks c =
     let old = state_of c.args.self.now.world in let entries = old.time.now.table.entries in let mask = c.args.ray.now.mask in
-    subst (λ (ray : Ray). Asks ARGUMENT (Some (entered_of entries ray mask)) old.spent c.answered.result c.args.out.now c.answered.new.out) c.ray_of.ensures
-    (answered c.entered-answer.result old.spent (entered_of entries c.ray_of.result mask) c.clear.new.self.items c.entered-answer.new.out.items c.answered.result
-    c.args.out.now c.answered.new.out c.clear.ensures.items c.entered-answer.ensures.sound c.entered-answer.ensures.ok c.answered.ensures.ok c.answered.ensures.err)
+    subst (λ (ray : Ray). Asks ARGUMENT (Some (entered_of entries ray mask)) old.spent c.answered.result c.args.out.now c.answered.new.out)
+    c.ray_of.ensures
+    (answered c.entered-answer.result old.spent (entered_of entries c.ray_of.result mask) c.clear.new.self.items c.entered-answer.new.out.items
+    c.answered.result c.args.out.now c.answered.new.out c.clear.ensures.items c.entered-answer.ensures.sound c.entered-answer.ensures.ok
+    c.answered.ensures.ok c.answered.ensures.err)

@@ -11,6 +11,7 @@ removes-preserved c =
       batch = batch_goes_on removes c.args.handles.now c.removes.rest.now c.in-Some.more.now c.in-Some.next.now c.removes.count
           (state_of c.args.self.now.world) (state_of c.removes.self.world) (state_of c.remove.new.self.world) c.removes.invariant.batch first
           c.in-Ok.ensures.step;
+      spent = c.in-Ok.ensures.spent ∙ c.removes.invariant.spent;
       structure = c.in-Ok.ensures.structure ∙ c.removes.invariant.structure;
       found = c.in-Ok.ensures.found ∙ c.removes.invariant.found;
     }

@@ -8,6 +8,7 @@ use Rattle.held_world.proofs.held.HeldWorld.remove_all.Given as goal
 abbrev pub invariant-removes : goal.invariant-removes
 invariant-removes l = record {
   batch : IsUnderWay removes l.handles l.rest l.count (state_of l.fn.self.world) (state_of l.self.world);
+  spent : (state_of l.self.world).spent ≡ (state_of l.fn.self.world).spent;
   structure : structure_of l.self.world ≡ structure_of l.fn.self.world;
   found : l.self.found ≡ l.fn.self.found;
 }
