@@ -16,12 +16,12 @@ use Rattle.ordered_lists.specs.Leasts.{none_below, one_of}
 use Rattle.fixed_box.specs.Bounds.{Bounds}
 use Rattle.fixed_box.specs.declared.point.Point.{Point}
 use Rattle.ray_slabs.specs.Vector.{widened}
-use Rattle.ray_slabs.specs.Crossing.{Fraction, fits_seg, in_ray}
+use Rattle.ray_slabs.specs.Crossing.{Fraction, in_ray}
 use Rattle.ray_slabs.specs.Crossing as crossing
 use Rattle.ray_slabs.specs.First.{value_cmp, first}
 use Rattle.ray_slabs.specs.FirstLaws.{value_total, no_later, by_products}
 use Rattle.ray_slabs.specs.Law.{RayMeetsFirst}
-use Rattle.ray_slabs.specs.ProductLaws.{le_of_test, test_of_le}
+use Rattle.fixed_box.proofs.Numbers.{le_of_test, test_of_le}
 use Rattle.box_cast.specs.Cast.{Track, touches, contacts_by, contacts, tracks, candidates, fits, in_cast, least, first_contact, IsSameValue}
 use Rattle.box_cast.specs.Law.{IsTouching, CastMeets, CastMeetsFirst}
 use Rattle.box_cast.specs.Widening.{origin, widened_by, reached}

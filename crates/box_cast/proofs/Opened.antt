@@ -4,7 +4,7 @@ use Rattle.std.proofs.Common.{Option, Some, None, is_some, SomeIff, IsTrue}
 use Rattle.std.specs.Cmp.{first_so, second_so}
 use Rattle.std.proofs.lemmas.Int.{ints}
 use Rattle.ray_slabs.specs.Crossing.{Fraction}
-use Rattle.ray_slabs.specs.ProductLaws.{le_of_test}
+use Rattle.fixed_box.proofs.Numbers.{le_of_test}
 use Rattle.ray_slabs.specs.Vector.{is_in_reach}
 use Rattle.box_cast.specs.Widening.{reached}
 

@@ -8,7 +8,7 @@ use Rattle.fixed_box.specs.Bounds.{Bounds}
 use Rattle.fixed_box.specs.Point.{is_at_most}
 use Rattle.fixed_box.specs.declared.point.Point.{Point}
 use Rattle.ray_slabs.specs.Vector as wide
-use Rattle.ray_slabs.specs.ProductLaws.{le_of_test, test_of_le}
+use Rattle.fixed_box.proofs.Numbers.{le_of_test, test_of_le}
 use Rattle.box_cast.specs.Hull.{moved_point}
 use Rattle.box_cast.specs.Widening.{apart}
 

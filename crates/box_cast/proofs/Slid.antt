@@ -1,5 +1,5 @@
 -- A cast is a segment from the origin along the displacement against the wider box.
-use Rattle.std.proofs.Common.{◌≡◌, ℕ, zero, suc, refl, sym, subst, ◌∙◌, ◌*◌, ◌<◌, ◌≤◌, Bool, true, false, ◌&&◌, ℤ, pos, negsuc, ◌+ℤ◌, ◌-ℤ◌, ◌*ℤ◌, ◌≤ℤ◌}
+use Rattle.std.proofs.Common.{◌≡◌, ℕ, zero, suc, refl, sym, subst, ◌∙◌, ◌*◌, ◌<◌, ◌≤◌, true, ◌&&◌, ℤ, pos, negsuc, ◌+ℤ◌, ◌-ℤ◌, ◌*ℤ◌, ◌≤ℤ◌}
 use Rattle.std.proofs.Common.{int_le, List, [], ◌∷◌, ◌++◌, IsTrue, ◌↔◌, arith}
 use Rattle.std.specs.List.{list_any, Contains}
 use Rattle.std.specs.Cmp.{first_so, second_so}
@@ -12,7 +12,9 @@ use Rattle.ray_slabs.specs.Crossing.{Slab, Fraction, slabs_of, fits_seg, crossin
 use Rattle.ray_slabs.specs.Crossing as crossing
 use Rattle.ray_slabs.specs.First.{first}
 use Rattle.ray_slabs.specs.Law.{IsWithin, RayMeets, SegMeets, RayMeetsFirst}
-use Rattle.ray_slabs.specs.ProductLaws.{sub_mul, same_le, same_test, scaled, unscaled, le_of_test, test_of_le}
+use Rattle.ray_slabs.specs.ProductLaws.{sub_mul, same_le, scaled, unscaled}
+use Rattle.fixed_box.proofs.Bools.{same_bool, and_comm}
+use Rattle.fixed_box.proofs.Numbers.{le_of_test, test_of_le}
 use Rattle.box_cast.specs.Cast.{Track, touches, contacts_by, candidates, fits, in_cast}
 use Rattle.box_cast.specs.Law.{IsTouching, CastMeets}
 use Rattle.box_cast.specs.Widening.{origin, widened_by, reached}
@@ -38,12 +40,6 @@ contacts_are a (negsuc n) =
     let lower : a.far -ℤ a.lo ≡ pos 0 -ℤ (a.lo -ℤ a.far) = omega (arith, ints) in
     let upper : a.near -ℤ a.hi ≡ pos 0 -ℤ (a.hi -ℤ a.near) = omega (arith, ints) in
     λ i. record { num = lower i; den = pos (suc n) } ∷ record { num = upper i; den = pos (suc n) } ∷ []
-
-and_comm : (x y : Bool) → (x && y) ≡ (y && x)
-and_comm true true = refl
-and_comm true false = refl
-and_comm false true = refl
-and_comm false false = refl
 
 touches_is : (t : Fraction) (a : Track) → touches t a ≡ crossing.fits t (slab a)
 touches_is t a =
@@ -157,7 +153,7 @@ pub met_law : RayTold → (c : Bounds) (v : Point) (b : Bounds)
 met_law laws c v b =
     let w : WideBounds = widened_by b c in
     let f : Fraction = first origin (widened v) w in
-    same_test (in_cast c v b) (in_ray origin (widened v) w && reached f)
+    same_bool (in_cast c v b) (in_ray origin (widened v) w && reached f)
     (λ e.
     let s : Slides c v b = slides c v b laws e in
     let there : IsTrue (in_ray origin (widened v) w) = (laws.ray origin (widened v) w).1 s.meets in

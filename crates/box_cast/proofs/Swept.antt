@@ -7,7 +7,8 @@ use Rattle.std.proofs.lemmas.Int.{ints, clamps, by_lt_z}
 use Rattle.fixed_box.specs.Bounds.{Bounds, meets}
 use Rattle.fixed_box.specs.Point.{is_at_most}
 use Rattle.fixed_box.specs.declared.point.Point.{Point}
-use Rattle.ray_slabs.specs.ProductLaws.{scaled, add_mul, sub_mul, sub_mul_sub, le_of_test, test_of_le}
+use Rattle.ray_slabs.specs.ProductLaws.{scaled, add_mul, sub_mul, sub_mul_sub}
+use Rattle.fixed_box.proofs.Numbers.{le_of_test, test_of_le}
 use Rattle.fixed_box.specs.Space.{space}
 use Rattle.box_cast.specs.Hull.{cast_hull}
 use Rattle.box_cast.specs.Law.{CastMeets}

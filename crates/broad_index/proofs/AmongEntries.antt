@@ -12,7 +12,8 @@ use Rattle.broad_index.specs.Found.{found_of, query_meets}
 use Rattle.broad_index.specs.Members.{has_slot, both_meet, meets_query, is_found, is_reached}
 use Rattle.broad_index.specs.Reach.{reach_of}
 use Rattle.broad_index.specs.Held.{Holds}
-use Rattle.broad_index.proofs.MapMembers.{passes, slots_where, has_cons, and_false}
+use Rattle.broad_index.proofs.MapMembers.{passes, slots_where, has_cons}
+use Rattle.fixed_box.proofs.Bools.{and_false}
 
 -- slots of which a test holds, one after another
 fused : (p : ℕ × Bounds → Bool) (k : ℕ) (es : List (ℕ × Bounds)) → has_slot (slots_where p es) k ≡ list_any (λ e. p e && (k == e.0)) es

@@ -1,5 +1,5 @@
 -- How many exchanges one change can make.
-use Rattle.std.proofs.Common.{ℕ, ℤ, ◌+◌, ◌*◌, ◌≤◌, Bool, true, false, cond, not, List, [], ◌∷◌, filter, length, arith, Option, Some, None, nat_eq}
+use Rattle.std.proofs.Common.{ℕ, ℤ, ◌+◌, ◌*◌, ◌≤◌, Bool, not, List, [], ◌∷◌, length, arith, Option, Some, None, nat_eq}
 use Rattle.std.specs.List.{count_by}
 use Rattle.std.specs.Ordering.{nat_cmp}
 use Rattle.std.specs.FinMap.{FinMap, entries, get}
@@ -8,13 +8,7 @@ use Rattle.fixed_box.specs.Bounds.{Bounds}
 use Rattle.fixed_box.specs.declared.point.Point.{Point}
 use Rattle.fixed_box.specs.declared.TheConstants.{SLOTS}
 use Rattle.broad_index.specs.Exchanges.{Key, key_lt, is_between, min_key, max_key, keys, others, over_axes, passed_by_add, passed_from, passed_by_shift}
-
-kept_le : {A : Type 0} (p : A → Bool) (xs : List A) → length (filter p xs) ≤ length xs
-kept_le p [] = omega arith
-kept_le p (x ∷ xs) = elim (p x) as (λ t. length (cond t (x ∷ filter p xs) (filter p xs)) ≤ length (x ∷ xs)) [
-  | true ↦ omega (arith, kept_le p xs)
-  | false ↦ omega (arith, kept_le p xs)
-]
+use Rattle.fixed_box.proofs.Lists.{kept_le}
 
 others_le : (slot : ℕ) (es : List (ℕ × Bounds)) → length (others slot es) ≤ length es
 others_le slot es = kept_le (λ e. not (nat_eq e.0 slot)) es

@@ -14,7 +14,7 @@ use Rattle.std.proofs.lemmas.List.Sorted.{Contains-permutation, IsPermutation-sy
 use Rattle.fixed_box.specs.Bounds.{Bounds}
 use Rattle.broad_index.specs.Members.{has_slot}
 use Rattle.broad_index.specs.Held.{Holds, apart}
-use Rattle.broad_index.proofs.MapMembers.{eq_cmp}
+use Rattle.fixed_box.proofs.Numbers.{eq_cmp}
 
 pub holds_none : Holds empty []
 holds_none = record { present = λ k b c. absurd (no_place c.0 c.1); whole = λ k b e. none k b (sym (get-empty nat_cmp k) ∙ e) }

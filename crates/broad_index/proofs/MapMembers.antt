@@ -2,12 +2,11 @@
 use Rattle.std.proofs.Common.{◌≡◌, ℕ, ◌<◌, ◌≤◌, Bool, true, false, cond, not, ◌&&◌, ◌||◌, ◌==◌, nat_lt, List, [], ◌∷◌, map, Option, Some, None, refl}
 use Rattle.std.proofs.Common.{sym, ap, ◌∙◌, arith, inl, inr, subst}
 use Rattle.std.specs.List.{filter}
-use Rattle.std.specs.Ordering.{nat_cmp, is_lt, is_eq, eq_by_cmp}
-use Rattle.std.specs.declared.cmp.Ordering.TheVariants.{Less, Equal, Greater}
-use Rattle.std.specs.Cmp.{ranked, first_so, second_so}
+use Rattle.std.specs.Ordering.{nat_cmp}
+use Rattle.std.specs.Cmp.{first_so, second_so}
 use Rattle.std.specs.FinMap.{FinMap, entries, entries_sorted, is_sorted, find, get, get-entries}
 use Rattle.std.specs.FinMap.Entries.{below_all}
-use Rattle.std.proofs.lemmas.Bool.{eq-eqb, eqb-true, cases_Bool, ltb-true}
+use Rattle.std.proofs.lemmas.Bool.{eqb-true, cases_Bool, ltb-true}
 use Rattle.std.proofs.lemmas.Bool.Decides.{nat_tests}
 use Rattle.std.proofs.lemmas.List.Folds.{list_any-append}
 use Rattle.fixed_box.specs.Bounds.{Bounds, meets}
@@ -16,23 +15,11 @@ use Rattle.broad_index.specs.declared.query.Query.{Query}
 use Rattle.broad_index.specs.Found.{found, query_meets}
 use Rattle.slot_lists.specs.RisingLaws.{filtered_rise, mapped_rise}
 use Rattle.broad_index.specs.Near.{partners, near_of, near}
-use Rattle.broad_index.specs.NearRises.{true_from, slot_lt, entries_rise}
+use Rattle.broad_index.specs.NearRises.{slot_lt, entries_rise}
+use Rattle.fixed_box.proofs.Bools.{true_from, or_false, and_false, and_true}
 use Rattle.broad_index.specs.Members.{same_pair, has_pair, has_slot, slots_rise, both_meet, is_near, meets_query, is_found, is_reached}
 use Rattle.broad_index.specs.Reach.{reach, reach_of}
-
-lt_from : (x y : ℕ) → is_lt (nat_cmp x y) ≡ true → x < y
-lt_from x y h =
-    elim (nat_cmp x y) as (λ r. r ≡ nat_cmp x y → is_lt r ≡ true → x < y) [ Less ↦ λ e _. ranked x y Less e | Equal ↦ λ _ h. cc | Greater ↦ λ _ h. cc ] refl h
-
-pub eq_cmp : (k x : ℕ) → eq_by_cmp nat_cmp k x ≡ (k == x)
-eq_cmp k x = elim (nat_cmp k x) as (λ r. r ≡ nat_cmp k x → is_eq r ≡ (k == x)) [
-  | Less ↦ λ e. let l : k < x = ranked k x Less e in (let d : (k == x) ≡ false = grind (arith, nat_tests) in sym d)
-  | Equal ↦ λ e. let l : k ≡ x = ranked k x Equal e in sym (eq-eqb k x l)
-  | Greater ↦ λ e. let l : x < k = ranked k x Greater e in (let d : (k == x) ≡ false = grind (arith, nat_tests) in sym d)
-] refl
-
-at_most : (k x : ℕ) → k ≡ x → k ≤ x
-at_most k x e = omega arith
+use Rattle.fixed_box.proofs.Numbers.{lt_from, eq_cmp, eq_le}
 
 pub not_eq : (k x : ℕ) → x < k → (k == x) ≡ false
 not_eq k x l = grind (arith, nat_tests)
@@ -75,18 +62,6 @@ has_cons p k e es =
     (λ b. has_slot (map (λ e. e.0) (cond b (e ∷ filter p es) (filter p es))) k
     ≡ ((b && (k == e.0)) || has_slot (slots_where p es) k)) [ true ↦ refl | false ↦ refl ]
 
-pub and_false : (b : Bool) → (b && false) ≡ false
-and_false true = refl
-and_false false = refl
-
-and_true : (b : Bool) → (b && true) ≡ b
-and_true true = refl
-and_true false = refl
-
-or_false : (b : Bool) → (b || false) ≡ b
-or_false true = refl
-or_false false = refl
-
 pub has_where : (p : ℕ × Bounds → Bool) (k : ℕ) (es : List (ℕ × Bounds)) → is_sorted nat_cmp es ≡ true → has_slot (slots_where p es) k ≡ passes p k (at k es)
 has_where p k [] h = refl
 has_where p k (e ∷ es) h =
@@ -94,7 +69,7 @@ has_where p k (e ∷ es) h =
     has_cons p k e es ∙ elim (cases_Bool (k == e.0)) as (λ _. ((p e && (k == e.0)) || has_slot (slots_where p es) k) ≡ passes p k (at k (e ∷ es))) [
       | inl t ↦
           let same : k ≡ e.0 = eqb-true k e.0 t in
-          let le : k ≤ e.0 = at_most k e.0 same in
+          let le : k ≤ e.0 = eq_le k e.0 same in
           let none : at k es ≡ None = none_below k e.0 es le (first_so _ _ h) in
           let gone : has_slot (slots_where p es) k ≡ false = rest ∙ ap (passes p k) none in
           let here : at k (e ∷ es) ≡ Some e.1 = at_cons k e es ∙ ap (λ b. cond b (Some e.1) (at k es)) t in
@@ -148,7 +123,7 @@ has_near_of (e ∷ es) p h =
     parts ∙ elim (cases_Bool (p.a == e.0)) as (λ _. (((p.a == e.0) && both_meet (Some e.1) (at p.b es)) || near_at es p) ≡ near_at (e ∷ es) p) [
       | inl t ↦
           let same : p.a ≡ e.0 = eqb-true p.a e.0 t in
-          let le_a : p.a ≤ e.0 = at_most p.a e.0 same in
+          let le_a : p.a ≤ e.0 = eq_le p.a e.0 same in
           let gone : at p.a es ≡ None = none_below p.a e.0 es le_a below in
           let here : at p.a (e ∷ es) ≡ Some e.1 = at_cons p.a e es ∙ ap (λ b. cond b (Some e.1) (at p.a es)) t in
           let left : (((p.a == e.0) && both_meet (Some e.1) (at p.b es)) || near_at es p) ≡ both_meet (Some e.1) (at p.b es) =

@@ -11,6 +11,7 @@ use Rattle.broad_index.specs.declared.pair.Pair.{Pair}
 use Rattle.slot_lists.specs.RisingLaws.{all_weaker}
 use Rattle.broad_index.specs.Near.{precedes, rises}
 use Rattle.broad_index.specs.Members.{same_pair, has_pair}
+use Rattle.fixed_box.proofs.Bools.{or_assoc}
 
 through : (a b c d e f : ℕ) → (nat_lt a c || (a == c && nat_lt b d)) ≡ true → (nat_lt c e || (c == e && nat_lt d f)) ≡ true
     → (nat_lt a e || (a == e && nat_lt b f)) ≡ true
@@ -108,10 +109,6 @@ step_same out (x ∷ xs) (y ∷ ys) goal a b e m =
           λ p. drop_same (has_pair out p) (same_pair p x) (has_pair xs p) (has_pair ys p)
           ∙ ap (λ q. has_pair out p || ((same_pair p x || has_pair xs p) || (same_pair p q || has_pair ys p))) e ∙ m.members p;
     })
-
-or_assoc : (a b c : Bool) → ((a || b) || c) ≡ (a || (b || c))
-or_assoc true b c = refl
-or_assoc false b c = refl
 
 pub has_three : (out left right : List Pair) (p : Pair) → has_pair ((out ++ left) ++ right) p ≡ (has_pair out p || (has_pair left p || has_pair right p))
 has_three out left right p =

@@ -1,5 +1,5 @@
 -- Where a ray or a segment meets a box, the box has on each axis a place between the ends of the query's region.
-use Rattle.std.proofs.Common.{◌≡◌, ℕ, zero, suc, ◌+◌, ◌-◌, ◌<◌, ◌≤◌, true, ◌&&◌, arith, inl, inr, sym, ap, ◌∙◌}
+use Rattle.std.proofs.Common.{◌≡◌, ℕ, zero, suc, ◌+◌, ◌-◌, ◌<◌, ◌≤◌, true, ◌&&◌, arith, inl, inr}
 use Rattle.std.proofs.lemmas.Int.{ints, by_lt_z}
 use Rattle.std.proofs.lemmas.Bool.{and_parts, and_from}
 use Rattle.std.proofs.Math.IntN.{suc_ℤ-*ℤ, zero-*ℤ}
@@ -13,6 +13,8 @@ use Rattle.ray_slabs.specs.Vector.{Vector}
 use Rattle.ray_slabs.specs.WideBounds.{widened_box}
 use Rattle.fixed_box.specs.Space.{space}
 use Rattle.broad_index.specs.Regions.{IsNearest, IsFar, IsTouched, AreTouched}
+use Rattle.fixed_box.proofs.Numbers.{at_least, at_most}
+use Rattle.fixed_box.proofs.Corners.{all_three}
 
 -- ---- products by a number that isn't negative
 step : (n : ℕ) (x : ℤ) → (pos (suc n) *ℤ x) ≡ ((pos n *ℤ x) +ℤ x)
@@ -92,12 +94,6 @@ record InSpace (b : Bounds) : Type 0 where
   pub high_y : b.lo.y ≤ℤ pos 2147483647
   pub high_z : b.lo.z ≤ℤ pos 2147483647
 
-at_least : (x : ℤ) → int_le (negsuc 2147483647) x ≡ true → negsuc 2147483647 ≤ℤ x
-at_least x h = omega (arith, ints)
-
-at_most : (x : ℤ) → int_le x (pos 2147483647) ≡ true → x ≤ℤ pos 2147483647
-at_most x h = omega (arith, ints)
-
 in_space : (b : Bounds) → meets space b ≡ true → InSpace b
 in_space b h =
     let parts = and_parts (is_at_most space.lo b.hi) (is_at_most b.lo space.hi) h in
@@ -153,13 +149,10 @@ lesser p r lo hi t = elim t.below as (λ _. int_le (int_min p r) hi ≡ true) [ 
 greater : (p r lo hi : ℤ) → IsTouched p r lo hi → int_le lo (int_max p r) ≡ true
 greater p r lo hi t = elim t.above as (λ _. int_le lo (int_max p r) ≡ true) [ inl h ↦ greater_first p r lo h | inr h ↦ greater_second p r lo h ]
 
-all_of : (p q : Point) → int_le p.x q.x ≡ true → int_le p.y q.y ≡ true → int_le p.z q.z ≡ true → is_at_most p q ≡ true
-all_of p q x y z = and_from (int_le p.x q.x && int_le p.y q.y) (int_le p.z q.z) (and_from (int_le p.x q.x) (int_le p.y q.y) x y) z
-
 -- a box that has a place between two points on each axis meets the hull of the two
 pub touched_met : (p r : Point) (b : Bounds) → AreTouched p r b → meets (hull (record { lo = p; hi = p }) (record { lo = r; hi = r })) b ≡ true
 touched_met p r b t =
     let region = hull (record { lo = p; hi = p }) (record { lo = r; hi = r }) in
     and_from (is_at_most region.lo b.hi) (is_at_most b.lo region.hi)
-    (all_of region.lo b.hi (lesser p.x r.x b.lo.x b.hi.x t.x) (lesser p.y r.y b.lo.y b.hi.y t.y) (lesser p.z r.z b.lo.z b.hi.z t.z))
-    (all_of b.lo region.hi (greater p.x r.x b.lo.x b.hi.x t.x) (greater p.y r.y b.lo.y b.hi.y t.y) (greater p.z r.z b.lo.z b.hi.z t.z))
+    (all_three region.lo b.hi (lesser p.x r.x b.lo.x b.hi.x t.x) (lesser p.y r.y b.lo.y b.hi.y t.y) (lesser p.z r.z b.lo.z b.hi.z t.z))
+    (all_three b.lo region.hi (greater p.x r.x b.lo.x b.hi.x t.x) (greater p.y r.y b.lo.y b.hi.y t.y) (greater p.z r.z b.lo.z b.hi.z t.z))

@@ -8,7 +8,7 @@ use Rattle.fixed_box.specs.Bounds.{Bounds}
 use Rattle.broad_index.specs.declared.pair.Pair.{Pair}
 use Rattle.broad_index.specs.Members.{has_pair, has_slot, both_meet, is_near, is_reached}
 use Rattle.broad_index.specs.Touched.{gathered_with, stays, Renewed}
-use Rattle.broad_index.proofs.MapMembers.{and_false}
+use Rattle.fixed_box.proofs.Bools.{and_false}
 use Rattle.broad_index.proofs.Holding.{after_insert, after_remove}
 use Rattle.broad_index.proofs.Touching.{touched_members}
 

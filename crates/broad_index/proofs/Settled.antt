@@ -18,7 +18,7 @@ use Rattle.slot_lists.specs.Rising.{rises_by}
 use Rattle.broad_index.specs.Near.{precedes, rises}
 use Rattle.broad_index.specs.PairOrder.{pair_cmp}
 use Rattle.broad_index.specs.Members.{same_pair, slots_rise}
-use Rattle.broad_index.proofs.MapMembers.{eq_cmp}
+use Rattle.fixed_box.proofs.Numbers.{eq_cmp}
 use Rattle.broad_index.proofs.OneRising.{is_same}
 
 or_twice : (a b : Bool) → (a || b) ≡ (a || (a || b))

@@ -12,6 +12,7 @@ use Rattle.std.specs.FinMap.{nat_cmp-IsAntisymmetric, empty_of_len, len-entries,
 use Rattle.std.specs.FinMap.Entries.{put, below_all, is_sorted-put, where_key, is_sorted-where_key, find-where_key}
 use Rattle.std.proofs.lemmas.Cmp.{nat_cmp_total}
 use Rattle.std.proofs.lemmas.Bool.Decides.{nat_tests}
+use Rattle.fixed_box.proofs.Bools.{cond_not}
 
 both_from : (a b : Bool) → T (a && b) → T a × T b
 both_from true b h = (tt, h)
@@ -36,11 +37,6 @@ before k x lt ne =
 -- all keys but one
 abbrev other_than : ℕ → ℕ → Bool
 other_than k x = not (eq_by_cmp nat_cmp k x)
-
--- where a test doesn't hold, and where it doesn't fail
-turned : {A : Type 0} (b : Bool) (x y : A) → cond (not b) x y ≡ cond b y x
-turned true x y = refl
-turned false x y = refl
 
 same_tie : (k q : ℕ) → eq_by_cmp nat_cmp k q ≡ eq_by_cmp nat_cmp q k
 same_tie k q = (eq_by_cmp_equiv nat_cmp_total).symm k q
@@ -187,7 +183,7 @@ module _ {X : Type 0} where
       get-from_sorted nat_cmp (remove es i) q (sorted_removed es k i h present le below above)
       ∙ ap (find nat_cmp q) (remove_is_filter es k i h present le below above)
       ∙ find-where_key nat_cmp (other_than k) q (λ x t. ap (λ r. not (is_eq r)) (sym (alike_right nat_cmp_total q x k t))) es
-      ∙ turned (eq_by_cmp nat_cmp k q) _ _ ∙ ap (λ b. cond b None (find nat_cmp q es)) (same_tie k q)
+      ∙ cond_not (eq_by_cmp nat_cmp k q) _ _ ∙ ap (λ b. cond b None (find nat_cmp q es)) (same_tie k q)
       ∙ sym (get-remove nat_cmp_total (from_sorted {R = nat_cmp} es) k q ∙ ap (cond (eq_by_cmp nat_cmp q k) None) (get-from_sorted nat_cmp es q h)))
 
   pub present_from : (es : List (ℕ × X)) (k : ℕ) → T (is_sorted nat_cmp es) → contains_key (from_sorted {R = nat_cmp} es) k ≡ true

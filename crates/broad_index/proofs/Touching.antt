@@ -14,7 +14,8 @@ use Rattle.broad_index.specs.declared.pair.Pair.{Pair}
 use Rattle.broad_index.specs.Near.{near, rises}
 use Rattle.broad_index.specs.Members.{same_pair, has_pair, has_slot, both_meet, is_near, is_reached}
 use Rattle.broad_index.specs.Touched.{ordered, ordered_pairs, gathered_with, stays, Renewed}
-use Rattle.broad_index.proofs.MapMembers.{and_false, not_eq}
+use Rattle.broad_index.proofs.MapMembers.{not_eq}
+use Rattle.fixed_box.proofs.Bools.{and_false, and_comm}
 use Rattle.broad_index.proofs.OneRising.{is_same}
 use Rattle.broad_index.proofs.Answering.{near_is}
 
@@ -51,12 +52,6 @@ or_swap true false = refl
 or_swap false true = refl
 or_swap false false = refl
 
-and_swap : (x y : Bool) → (x && y) ≡ (y && x)
-and_swap true true = refl
-and_swap true false = refl
-and_swap false true = refl
-and_swap false false = refl
-
 one_ordered : (s k : ℕ) (p : Pair) → (s == k) ≡ false → same_pair p (ordered s k) ≡ (nat_lt p.a p.b && ((p.a == s && p.b == k) || (p.b == s && p.a == k)))
 one_ordered s k p ne =
     elim (cases_Bool (nat_lt s k)) as (λ _. same_pair p (ordered s k) ≡ (nat_lt p.a p.b && ((p.a == s && p.b == k) || (p.b == s && p.a == k)))) [
@@ -65,8 +60,8 @@ one_ordered s k p ne =
           let lt : k < s = other s k ne l in
           ap (λ c. same_pair p (cond c (record { a = s; b = k }) (record { a = k; b = s }))) l ∙ one_lower k s p.a p.b lt
           ∙ ap (λ b. nat_lt p.a p.b && b)
-          (or_swap (p.a == k && p.b == s) (p.b == k && p.a == s) ∙ ap (λ b. b || (p.a == k && p.b == s)) (and_swap (p.b == k) (p.a == s))
-          ∙ ap (λ b. (p.a == s && p.b == k) || b) (and_swap (p.a == k) (p.b == s)))
+          (or_swap (p.a == k && p.b == s) (p.b == k && p.a == s) ∙ ap (λ b. b || (p.a == k && p.b == s)) (and_comm (p.b == k) (p.a == s))
+          ∙ ap (λ b. (p.a == s && p.b == k) || b) (and_comm (p.a == k) (p.b == s)))
     ]
   where
     other : (s k : ℕ) → (s == k) ≡ false → nat_lt s k ≡ false → k < s
@@ -109,7 +104,7 @@ meet_back : (o q : Option Bounds) → both_meet o q ≡ both_meet q o
 meet_back None None = refl
 meet_back None (Some b) = refl
 meet_back (Some a) None = refl
-meet_back (Some a) (Some b) = and_swap (is_at_most a.lo b.hi) (is_at_most b.lo a.hi)
+meet_back (Some a) (Some b) = and_comm (is_at_most a.lo b.hi) (is_at_most b.lo a.hi)
 
 module _ (bodies : FinMap nat_cmp Bounds) where
   one_touched : (s : ℕ) (ks : List ℕ) (p : Pair) → ((k : ℕ) → has_slot ks k ≡ is_reached bodies s k)

@@ -1,5 +1,5 @@
 -- Serves proofs alone: the pairs of a map that meet stand in rising order.
-use Rattle.std.specs.Prelude.{◌≡◌, ℕ, ◌<◌, Bool, true, false, T, ◌&&◌, ◌||◌, nat_lt, ◌==◌, List, [], ◌∷◌, filter, refl}
+use Rattle.std.specs.Prelude.{◌≡◌, ℕ, ◌<◌, Bool, true, ◌&&◌, ◌||◌, nat_lt, ◌==◌, List, [], ◌∷◌, filter, refl}
 use Rattle.std.proofs.Common.{arith, ap, ◌∙◌}
 use Rattle.std.specs.Ordering.{nat_cmp, is_lt}
 use Rattle.std.specs.declared.cmp.Ordering.TheVariants.{Less, Equal, Greater}
@@ -15,10 +15,7 @@ use Rattle.slot_lists.specs.Rising.{rises_by}
 use Rattle.slot_lists.specs.RisingLaws.{all_hold, filtered_rise, joined_rise, mapped_rise}
 use Rattle.broad_index.specs.declared.pair.Pair.{Pair}
 use Rattle.broad_index.specs.Near.{partners, near_of, near, precedes, rises}
-
-pub true_from : (b : Bool) → T b → b ≡ true
-true_from true h = refl
-true_from false h = absurd h
+use Rattle.fixed_box.proofs.Bools.{true_from}
 
 lt_from : (x y : ℕ) → is_lt (nat_cmp x y) ≡ true → nat_lt x y ≡ true
 lt_from x y h = elim (nat_cmp x y) as (λ r. r ≡ nat_cmp x y → is_lt r ≡ true → nat_lt x y ≡ true) [

@@ -3,14 +3,13 @@ use Rattle.std.proofs.Common.{◌≡◌, ℕ, zero, suc, ◌+◌, ◌<◌, ◌�
 use Rattle.std.proofs.Common.{◌∷◌, ◌++◌, length, get_or, take, drop, map, Option, None, Some, is_some, refl, sym, ap, ◌∙◌, subst, arith, ⊎_elim, ◌⊎◌}
 use Rattle.std.specs.List.{filter, Contains}
 use Rattle.std.specs.List.Sorted.{IsPermutation, IsSorted, IsStrictlyIncreasing}
-use Rattle.std.specs.Ordering.{nat_cmp, int_eq}
+use Rattle.std.specs.Ordering.{nat_cmp}
 use Rattle.std.proofs.lemmas.List.{take-append-drop}
 use Rattle.std.proofs.Math.Seq.{take-append_seam, drop-append_seam}
 use Rattle.std.proofs.lemmas.List.Sorted.{Contains-permutation, IsPermutation-sym, IsNonDecreasingBy-from_sort}
 use Rattle.std.proofs.lemmas.Map.Keys.{IsDistinct-IsPermutation, IsStrictlyIncreasing-from_distinct}
 use Rattle.std.proofs.lemmas.Bool.{and_parts}
 use Rattle.std.proofs.lemmas.Bool.Decides.{nat_tests}
-use Rattle.std.proofs.lemmas.Int.{ints}
 use Rattle.std.specs.Prelude.{ℤ}
 use Rattle.fixed_box.specs.declared.TheConstants.{SLOTS}
 use Rattle.cell_table.specs.declared.TheConstants.{BUCKETS}
@@ -22,6 +21,8 @@ use Rattle.slot_lists.specs.LinkLaws.{distinct_is}
 use Rattle.cell_table.specs.Kept.{IsBucket, IsKept, Rings, picked, at, meets_test, ring_of, walk}
 use Rattle.slot_lists.specs.SlotMapLaws.{entries_of_map, get_map}
 use Rattle.cell_table.proofs.RingLemmas.{fresh_not, walk_ring}
+use Rattle.fixed_box.proofs.Numbers.{eqb_same, same_int}
+use Rattle.fixed_box.proofs.Bools.{same_bool}
 
 abbrev pub Above : ℕ → List ℕ → Type 0
 Above x [] = Unit {0}
@@ -39,9 +40,6 @@ above_trans x y (z ∷ ys) lt a = (omega arith, above_trans x y ys lt a.1)
 not_above : (x k : ℕ) (xs : List ℕ) → k ≤ x → Above x xs → has xs k ≡ false
 not_above x k [] le a = refl
 not_above x k (y ∷ ys) le a = let e : eqb y k ≡ false = (let lt = a.0 in grind (arith, nat_tests)) in let r = not_above x k ys le a.1 in rw (e, r) refl
-
-eqb_same : (x : ℕ) → eqb x x ≡ true
-eqb_same x = grind (arith, nat_tests)
 
 has_head : (x : ℕ) (xs : List ℕ) → has (x ∷ xs) x ≡ true
 has_head x xs = let e = eqb_same x in rw e refl
@@ -105,11 +103,6 @@ has_at (x ∷ xs) k (suc i) l e = let r = has_at xs k i (omega arith) e in elim 
 
 pub contains_has : (xs : List ℕ) (k : ℕ) → Contains xs k → has xs k ≡ true
 contains_has xs k c = has_at xs k c.0 c.1 c.2
-
-same_bool : (a b : Bool) → (a ≡ true → b ≡ true) → (b ≡ true → a ≡ true) → a ≡ b
-same_bool true b f g = sym (f refl)
-same_bool false true f g = g refl
-same_bool false false f g = refl
 
 pub up_increasing : (xs : List ℕ) → IsStrictlyIncreasing xs → Up xs
 up_increasing [] h = tt
@@ -205,9 +198,6 @@ module _ {X : Type 0} (p : X → Bool) where
 -- ---- a key's slots are in its bucket
 same_level : (x y : ℕ) → eqb x y ≡ true → x ≡ y
 same_level x y h = grind (arith, nat_tests)
-
-same_int : (x y : ℤ) → int_eq x y ≡ true → x ≡ y
-same_int x y h = grind (arith, ints)
 
 one_key : (a b : CellKey) → same_cell a b ≡ true → bucket_of a ≡ bucket_of b
 one_key a b h =

@@ -17,6 +17,7 @@ use Rattle.cell_table.specs.Cells.{bucket_of, slots_at}
 use Rattle.cell_table.specs.Kept.{Ring, IsKept, in_bucket, meets_test, put_next, put_prev, take_next, take_prev, slots_from}
 use Rattle.slot_lists.specs.SlotMapLaws.{get_map, entries_of_map}
 use Rattle.cell_table.proofs.RingLemmas.{put_same, put_other, take_same, take_other, Beside, take_inside}
+use Rattle.fixed_box.proofs.Numbers.{eqb_other}
 
 abbrev pub one_if : Bool → ℕ
 one_if b = cond b 1 0
@@ -28,9 +29,6 @@ count_set p xs i y d l = sum_by-set (λ x. cond (p x) 1 0) xs i y d l
 
 same_tie : (x y : ℕ) → x ≡ y → (x == y) ≡ true
 same_tie x y e = grind (arith, nat_tests)
-
-other_tie : (x y : ℕ) → x ≢ y → (x == y) ≡ false
-other_tie x y ne = grind (arith, nat_tests)
 
 abbrev level_is : ℕ → Option CellKey → Bool
 level_is l = meets_test (λ k. k.level == l)
@@ -64,7 +62,7 @@ kept_put keys N P L s key k sl ll bl absent = record {
             subst (λ z. get_or (set L key.level (get_or L key.level 0 + 1)) z 0 ≡ get_or L z 0 + 1) e g in
             omega (arith, n, was, t, c, h)
         | inr ne ↦
-            let t : one_if (key.level == l) ≡ 0 = ap one_if (other_tie key.level l ne) in
+            let t : one_if (key.level == l) ≡ 0 = ap one_if (eqb_other key.level l ne) in
             let c = k.counted l ok in
             let h : get_or (set L key.level (get_or L key.level 0 + 1)) l 0 ≡ get_or L l 0 =
             get_or-set_other L key.level l (get_or L key.level 0 + 1) 0 (λ e. ne (sym e)) in
@@ -106,7 +104,7 @@ kept_take keys N P L s key k sl bl here =
                 subst (λ z. get_or (set L key.level (get_or L key.level 0 - 1)) z 0 ≡ get_or L z 0 - 1) e g in
                 omega (arith, n, t, c, h)
             | inr ne ↦
-                let t : one_if (level_is l (get_or keys s None)) ≡ 0 = ap (λ o. one_if (level_is l o)) here ∙ ap one_if (other_tie key.level l ne) in
+                let t : one_if (level_is l (get_or keys s None)) ≡ 0 = ap (λ o. one_if (level_is l o)) here ∙ ap one_if (eqb_other key.level l ne) in
                 let c = k.counted l ok in
                 let h : get_or (set L key.level (get_or L key.level 0 - 1)) l 0 ≡ get_or L l 0 =
                 get_or-set_other L key.level l (get_or L key.level 0 - 1) 0 (λ e. ne (sym e)) in

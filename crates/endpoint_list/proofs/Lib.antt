@@ -1,6 +1,6 @@
 mod ExchangeLemmas
 mod LinkLemmas
-mod NodeLemmas
+pub mod NodeLemmas
 mod PushLemmas
 mod PutLemmas
 mod UnlinkLemmas

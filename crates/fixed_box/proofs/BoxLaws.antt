@@ -1,11 +1,12 @@
 -- What encloses a box, and what meets it.
-use Rattle.std.proofs.Common.{◌≡◌, true, false, Bool, ◌&&◌, ℤ, int_le, refl, arith}
+use Rattle.std.proofs.Common.{◌≡◌, true, ◌&&◌, ℤ, int_le, arith}
 use Rattle.std.proofs.lemmas.Int.{ints}
 use Rattle.std.proofs.lemmas.Bool.{and_parts, and_from}
 use Rattle.fixed_box.specs.declared.point.Point.{Point}
 use Rattle.fixed_box.specs.Point.{is_at_most}
 use Rattle.fixed_box.specs.Bounds.{Bounds, meets, holds, encloses, hull}
 use Rattle.fixed_box.proofs.Corners.{at_most_chain, lower_left, lower_right, upper_left, upper_right}
+use Rattle.fixed_box.proofs.Bools.{and_comm}
 
 own_coordinate : (x : ℤ) → int_le x x ≡ true
 own_coordinate x = grind (arith, ints)
@@ -36,14 +37,8 @@ pub hull_that : (a b : Bounds) → encloses (hull a b) b ≡ true
 hull_that a b =
     and_from (is_at_most (hull a b).lo b.lo) (is_at_most b.hi (hull a b).hi) (lower_right a.lo b.lo) (upper_right a.hi b.hi)
 
-exchanged : (p q : Bool) → (p && q) ≡ (q && p)
-exchanged true true = refl
-exchanged true false = refl
-exchanged false true = refl
-exchanged false false = refl
-
 pub meets_either_way : (a b : Bounds) → meets a b ≡ meets b a
-meets_either_way a b = exchanged (is_at_most a.lo b.hi) (is_at_most b.lo a.hi)
+meets_either_way a b = and_comm (is_at_most a.lo b.hi) (is_at_most b.lo a.hi)
 
 pub met_outside : (outer inner other : Bounds) → encloses outer inner ≡ true → meets inner other ≡ true → meets outer other ≡ true
 met_outside outer inner other h m =

@@ -27,7 +27,7 @@ max_least x y z a b = grind (arith, ints)
 le_chain : (x y z : ℤ) → int_le x y ≡ true → int_le y z ≡ true → int_le x z ≡ true
 le_chain x y z a b = grind (arith, ints)
 
-all_three : (p q : Point) → int_le p.x q.x ≡ true → int_le p.y q.y ≡ true → int_le p.z q.z ≡ true → is_at_most p q ≡ true
+pub all_three : (p q : Point) → int_le p.x q.x ≡ true → int_le p.y q.y ≡ true → int_le p.z q.z ≡ true → is_at_most p q ≡ true
 all_three p q x y z = and_from (int_le p.x q.x && int_le p.y q.y) (int_le p.z q.z) (and_from (int_le p.x q.x) (int_le p.y q.y) x y) z
 
 pub record Axes (p q : Point) : Type 0 where

@@ -1,7 +1,10 @@
+pub mod Bools
 mod BoxLaws
-mod Corners
+pub mod Corners
 mod DigitRuns
 mod Levels
+pub mod Lists
+pub mod Numbers
 mod PutsThen
 mod RoundTrip
 mod Shown

@@ -12,6 +12,7 @@ use Rattle.float_bounds.specs.declared.format.Format.{Format}
 use Rattle.float_bounds.specs.declared.parts.Parts.{Parts}
 use Rattle.float_bounds.specs.Value.{value_of, value, and_then, signed, is_negative, biased_exponent, fraction_of}
 use Rattle.float_bounds.specs.Rank.{rank}
+use Rattle.fixed_box.proofs.Numbers.{test_of_le}
 
 -- a magnitude from a biased exponent and a trailing significand below p
 abbrev magnitude : ℕ → ℕ → ℕ → ℕ
@@ -94,16 +95,13 @@ none_at p m r a h = same_at p m r 0 0 a (zero_at p (omega (arith, a.small))) h
 some_at : (p m r : ℕ) → IsMagnitudeAt p m r → 0 < r → 0 < m
 some_at p m r a h = less_at p 0 0 m r (zero_at p (omega (arith, a.small))) a h
 
-test_passes : (x y : ℤ) → x ≤ℤ y → int_le x y ≡ true
-test_passes x y h = grind (arith, ints)
-
 test_fails : (x y : ℤ) → y <ℤ x → int_le x y ≡ false
 test_fails x y h = grind (arith, ints)
 
 -- a test that keeps both of its answers
 same_answer : (x y z w : ℤ) → (x ≤ℤ y → z ≤ℤ w) → (y <ℤ x → w <ℤ z) → int_le x y ≡ int_le z w
 same_answer x y z w keeps breaks =
-    by_lt_z y x (λ h. test_fails x y h ∙ sym (test_fails z w (breaks h))) (λ h. test_passes x y h ∙ sym (test_passes z w (keeps h)))
+    by_lt_z y x (λ h. test_fails x y h ∙ sym (test_fails z w (breaks h))) (λ h. test_of_le x y h ∙ sym (test_of_le z w (keeps h)))
 
 -- m keeps to the place r: it is zero there alone
 record Follows (m r : ℕ) : Type 0 where

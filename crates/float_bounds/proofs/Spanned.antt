@@ -19,6 +19,7 @@ use Rattle.float_bounds.specs.Around.{span_around, box_of, box_around}
 use Rattle.float_bounds.specs.Laws.{HoldsInterval, HoldsFloats}
 use Rattle.float_bounds.proofs.Ranked.{ranked}
 use Rattle.float_bounds.proofs.Bounding.{had, greatest, least, step_positive, below_above, below_bounds, above_bounds}
+use Rattle.fixed_box.proofs.Numbers.{test_of_le, le_of_test}
 
 -- a float with a raw number has a value
 pub below_value : (f : Format) (bits : ℕ) (r : ℤ) → fix_below f bits ≡ Ok r → (v : ℤ) × (value f bits ≡ Ok v)
@@ -37,18 +38,12 @@ compared f a b r s low high =
     let w = above_value f b s high in
     float_le_is f a b v.0 w.0 v.1 w.1 ∙ sym (ranked f a b v.0 w.0 v.1 w.1)
 
-test_says : (x y : ℤ) → int_le x y ≡ true → x ≤ℤ y
-test_says x y e = omega (arith, ints)
-
-test_passes : (x y : ℤ) → x ≤ℤ y → int_le x y ≡ true
-test_passes x y h = grind (arith, ints)
-
 -- floats in order have raw numbers in order, the lower rounded down and the higher up
 pub in_order : (f : Format) (a b : ℕ) (r s : ℤ) → fix_below f a ≡ Ok r → fix_above f b ≡ Ok s → float_le f a b ≡ true → r ≤ℤ s
 in_order f a b r s low high le =
     let v = below_value f a r low in
     let w = above_value f b s high in
-    below_above f a b v.0 w.0 r s v.1 w.1 low high (test_says v.0 w.0 (sym (float_le_is f a b v.0 w.0 v.1 w.1) ∙ le))
+    below_above f a b v.0 w.0 r s v.1 w.1 low high (le_of_test v.0 w.0 (sym (float_le_is f a b v.0 w.0 v.1 w.1) ∙ le))
 
 kept : (t : Bool) (p s : Span) → cond {A = Result Span FloatFault} t (Ok p) (Err Inverted) ≡ Ok s → p ≡ s
 kept true p s e = cc
@@ -127,8 +122,8 @@ interval_least f lo hi s low high e holds =
     let v = below_value f lo s.lo rounded.0 in
     let w = above_value f hi s.hi rounded.1 in
     let both = holds v.0 w.0 v.1 w.1 in (
-      test_passes low s.lo (greatest low v.0 s.lo (raw_step f) (step_positive f) (below_bounds f lo v.0 s.lo v.1 rounded.0) both.0),
-      test_passes s.hi high (least high w.0 s.hi (raw_step f) (step_positive f) (above_bounds f hi w.0 s.hi w.1 rounded.1) both.1),
+      test_of_le low s.lo (greatest low v.0 s.lo (raw_step f) (step_positive f) (below_bounds f lo v.0 s.lo v.1 rounded.0) both.0),
+      test_of_le s.hi high (least high w.0 s.hi (raw_step f) (step_positive f) (above_bounds f hi w.0 s.hi w.1 rounded.1) both.1),
     )
 
 -- a box that holds the floats encloses theirs
@@ -147,7 +142,7 @@ least_box f lo hi a b e holds =
 axis : (f : Format) (lo hi other_lo other_hi : ℕ) (s t : Span) → span_around f lo hi ≡ Ok s → span_around f other_lo other_hi ≡ Ok t
     → float_le f lo other_hi ≡ true → int_le s.lo t.hi ≡ true
 axis f lo hi other_lo other_hi s t here there le =
-    test_passes s.lo t.hi (in_order f lo other_hi s.lo t.hi (ends f lo hi s here).0 (ends f other_lo other_hi t there).1 le)
+    test_of_le s.lo t.hi (in_order f lo other_hi s.lo t.hi (ends f lo hi s here).0 (ends f other_lo other_hi t there).1 le)
 
 corner : (f : Format) (lo hi other_lo other_hi : List ℕ) (a b : Bounds) → IsBoxed f lo hi a → IsBoxed f other_lo other_hi b
     → corner_le f lo other_hi ≡ true → is_at_most a.lo b.hi ≡ true

@@ -8,6 +8,7 @@ use Rattle.held_world.specs.declared.TheConstants.{OK}
 use Rattle.held_world.specs.Batches.{Steps, world_after, state_after, stops_first, stops_at, Stopped, RanOutAt, WasSpent, IsBatch}
 use Rattle.held_world.specs.Steps.{StepDone, StepRefused, StepRanOut, StepSpent}
 use Rattle.held_world.proofs.RoomFilled.{some_left, later_left, one_more}
+use Rattle.fixed_box.proofs.Numbers.{nat_next}
 
 -- The first `count` steps are done, and `rest` is left.
 pub record IsUnderWay {A : Type 0} (by : Steps A) (all rest : List A) (count : ℕ) (old now : State) : Type 0 where
@@ -32,9 +33,6 @@ sound_still : {A : Type 0} (by : Steps A) (all rest : List A) (count : ℕ) (old
     → IsUnderWay by all rest count old now → old.spent ≡ now.spent
 sound_still by all rest count old now u = ap (λ (s : State). s.spent) (sym u.made)
 
-below_or_at : (k n : ℕ) → k < n + 1 → (k < n) ⊎ (k ≡ n)
-below_or_at k n lt = grind arith
-
 pub batch_goes_on : {A : Type 0} (by : Steps A) (all rest more : List A) (x : A) (count : ℕ) (old now new : State)
     → IsUnderWay by all rest count old now → rest ≡ x ∷ more → StepDone by x now new → IsUnderWay by all more (count + 1) old new
 batch_goes_on by all rest more x count old now new before first s =
@@ -43,7 +41,7 @@ batch_goes_on by all rest more x count old now new before first s =
     let here : stops_at by old all count ≡ None = stops_next by all more x count old now u ∙ s.allowed in record {
       left = later_left all more x count u.left;
       most = omega (arith, some);
-      free = λ k lt. elim (below_or_at k count lt) [
+      free = λ k lt. elim (nat_next k count lt) [
         | inl below ↦ u.free k below
         | inr at ↦ ap (stops_at by old all) at ∙ here
       ];

@@ -1,6 +1,5 @@
 -- The live boxes of some groups, as a map from slot to box.
 use Rattle.std.proofs.Common.{◌≡◌, ℕ, suc, ◌<◌, Bool, true, false, cond, ◌==◌, nat_lt, List, [], ◌∷◌, filter, Option, None, Some, refl, sym, ap, ◌∙◌, subst, arith, inl, inr}
-use Rattle.std.specs.Prelude.{T}
 use Rattle.std.specs.List.{All, list_all}
 use Rattle.std.specs.Ordering.{nat_cmp, is_lt, eq_by_cmp}
 use Rattle.std.specs.declared.cmp.Ordering.TheVariants.{Less, Equal, Greater}
@@ -19,6 +18,7 @@ use Rattle.near_boxes.specs.Bodies.{AreInSpace, AreAmong}
 use Rattle.live_table.specs.Bodies.{slots_with_bodies, bodies_of}
 use Rattle.live_queries.specs.Pairs.{is_asked_for}
 use Rattle.live_queries.specs.Queries.{asked_for}
+use Rattle.fixed_box.proofs.Bools.{true_to}
 
 -- a box, where there is one that passes a test
 abbrev pub picked : (Live → Bool) → Option Live → Option Bounds
@@ -77,19 +77,16 @@ module _ (p : Live → Bool) where
       here k e true es h n = ap (λ t. cond t (Some e.body) (find nat_cmp k (slots_with_bodies es))) h
       here k e false es h n = n
 
-truly : (b : Bool) → b ≡ true → T b
-truly b h = subst T (sym h) tt
-
 -- what a slot has among the boxes of some groups
 pub get_asked : (mask : ℕ) (t : Table) → IsTable t → (k : ℕ) → get (bodies_of (asked_for t.entries mask)) k ≡ picked (is_asked_for mask) (live_at k t.entries)
 get_asked mask t table k =
-    get-from_sorted nat_cmp (slots_with_bodies (asked_for t.entries mask)) k (truly _ (sorted_of (is_asked_for mask) t.entries table.rising))
+    get-from_sorted nat_cmp (slots_with_bodies (asked_for t.entries mask)) k (true_to _ (sorted_of (is_asked_for mask) t.entries table.rising))
     ∙ found_live (is_asked_for mask) k t.entries table.rising
 
 -- and their entries
 pub entries_asked : (mask : ℕ) (t : Table) → IsTable t → entries (bodies_of (asked_for t.entries mask)) ≡ slots_with_bodies (asked_for t.entries mask)
 entries_asked mask t table =
-    entries-from_sorted nat_cmp (slots_with_bodies (asked_for t.entries mask)) (truly _ (sorted_of (is_asked_for mask) t.entries table.rising))
+    entries-from_sorted nat_cmp (slots_with_bodies (asked_for t.entries mask)) (true_to _ (sorted_of (is_asked_for mask) t.entries table.rising))
 
 all_pass : (es : List Live) → filter (λ _. true) es ≡ es
 all_pass [] = refl
@@ -99,7 +96,7 @@ all_pass (e ∷ es) = ap (λ rest. e ∷ rest) (all_pass es)
 get_all : (t : Table) → IsTable t → (k : ℕ) → get (bodies_of t.entries) k ≡ picked (λ _. true) (live_at k t.entries)
 get_all t table k =
     ap (λ es. get (bodies_of es) k) (sym (all_pass t.entries))
-    ∙ get-from_sorted nat_cmp (slots_with_bodies (filter (λ _. true) t.entries)) k (truly _ (sorted_of (λ _. true) t.entries table.rising))
+    ∙ get-from_sorted nat_cmp (slots_with_bodies (filter (λ _. true) t.entries)) k (true_to _ (sorted_of (λ _. true) t.entries table.rising))
     ∙ found_live (λ _. true) k t.entries table.rising
 
 live_holds : (P : Live → Type 0) (k : ℕ) (es : List Live) → All P es → (e : Live) → live_at k es ≡ Some e → P e

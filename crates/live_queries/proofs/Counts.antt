@@ -1,17 +1,11 @@
 -- How many pairs there can be.
-use Rattle.std.proofs.Common.{ℕ, ◌*◌, ◌≤◌, Bool, true, false, cond, List, [], ◌∷◌, filter, length, arith}
+use Rattle.std.proofs.Common.{ℕ, ◌*◌, ◌≤◌, List, [], ◌∷◌, filter, length, arith}
 use Rattle.std.proofs.lemmas.List.{length-append, length-map}
 use Rattle.live_table.specs.declared.live.Live.{Live}
 use Rattle.pair_events.specs.declared.hpair.HPair.{HPair}
 use Rattle.fixed_box.specs.declared.TheConstants.{SLOTS}
 use Rattle.live_queries.specs.Pairs.{may_touch, partners, pairs_of}
-
-kept_le : {A : Type 0} (p : A → Bool) (xs : List A) → length (filter p xs) ≤ length xs
-kept_le p [] = omega arith
-kept_le p (x ∷ xs) = elim (p x) as (λ t. length (cond t (x ∷ filter p xs) (filter p xs)) ≤ length (x ∷ xs)) [
-  | true ↦ omega (arith, kept_le p xs)
-  | false ↦ omega (arith, kept_le p xs)
-]
+use Rattle.fixed_box.proofs.Lists.{kept_le}
 
 partners_few : (a : Live) (later : List Live) → length (partners a later) ≤ length later
 partners_few a later =

@@ -5,7 +5,7 @@ use Rattle.std.specs.List.{AllByRecursion, Contains, filter_map, cons_option, li
 use Rattle.std.specs.Option.{option_cmp}
 use Rattle.std.specs.declared.cmp.Ordering.{Ordering}
 use Rattle.std.specs.declared.cmp.Ordering.TheVariants.{Less, Equal, Greater}
-use Rattle.std.specs.Ordering.{is_eq, nat_cmp, on, then_cmp, ordering_then}
+use Rattle.std.specs.Ordering.{nat_cmp, on, then_cmp, ordering_then}
 use Rattle.std.specs.Cmp.{alike_right, first_so, second_so, ranked}
 use Rattle.std.specs.Cmp.Derive.{both_true}
 use Rattle.std.proofs.lemmas.Bool.{cases_Bool, ltb-true}
@@ -25,6 +25,7 @@ use Rattle.live_queries.specs.Beside.{AreBeside, IsHit, ListsMet, handle_at, pas
 use Rattle.live_queries.specs.declared.hit.Hit.{Hit}
 use Rattle.live_queries.proofs.BesideLaws.{ordered_beside, handles_beside}
 use Rattle.live_queries.proofs.Touches.{AreFound, all_found}
+use Rattle.ordered_lists.specs.Ascending.{equal_is}
 
 -- ---- the slots that are looked at have all that are met
 
@@ -67,16 +68,11 @@ met_of_listed place mask t slots is lists =
 abbrev by_hit : Hit → Hit → Ordering
 by_hit = then_cmp (on (λ h. h.entry) value_cmp) (on (λ h. h.slot) nat_cmp)
 
-tied : (r : Ordering) → is_eq r ≡ true → r ≡ Equal
-tied Less e = let no : ⊥ = cc in absurd no
-tied Equal e = refl
-tied Greater e = let no : ⊥ = cc in absurd no
-
 same_order : (a b : Fraction) (o p : Option Fraction) → IsSameValue (Some a) o → IsSameValue (Some b) p → value_cmp a b ≡ option_cmp value_cmp o p
 same_order a b None p h g = absurd h
 same_order a b (Some u) None h g = absurd g
 same_order a b (Some u) (Some v) h g =
-    value_total.congr a u b (tied (value_cmp a u) h) ∙ alike_right value_total b v u (tied (value_cmp b v) g)
+    value_total.congr a u b (equal_is (value_cmp a u) h) ∙ alike_right value_total b v u (equal_is (value_cmp b v) g)
 
 module _ (place : Bounds → Option Fraction) (all : List Live) where
   agree : (h k : Hit) (e f : Live) → IsHit place all h e → IsHit place all k f → by_hit h k ≡ by_place place e f

@@ -3,8 +3,7 @@ use Rattle.std.proofs.Common.{◌≡◌, ◌≢◌, ℕ, suc, ◌<◌, Bool, tru
 use Rattle.std.proofs.Common.{length, Some, None, is_some, option_map, refl, sym, ap, ◌∙◌, subst, arith, nat_eq, nat_lt}
 use Rattle.std.specs.List.{list_all, All}
 use Rattle.std.specs.Ordering.{nat_cmp, is_lt, is_eq, eq_by_cmp}
-use Rattle.std.specs.declared.cmp.Ordering.TheVariants.{Less, Equal, Greater}
-use Rattle.std.specs.Cmp.{first_so, second_so, nat_cmp_is, eq_by_cmp_equiv, alike_right}
+use Rattle.std.specs.Cmp.{first_so, second_so, eq_by_cmp_equiv, alike_right}
 use Rattle.std.specs.Cmp.Derive.{both_true}
 use Rattle.std.specs.FinMap.{get, entries, entries-insert, entries-from_sorted, from_sorted, is_sorted, insert, remove, find}
 use Rattle.std.specs.FinMap.{put, contains_key, get-from_sorted, get-remove, same_entries_map}
@@ -21,22 +20,8 @@ use Rattle.live_table.specs.Entries.{slot_of, has, live_at, entry_at, entered, w
 use Rattle.live_table.specs.Bodies.{slots_with_bodies, bodies_of, body_of}
 use Rattle.live_table.specs.declared.group.Group.{Group}
 use Rattle.live_table.specs.Table.{Table, IsTable, IsVacated, next_handle, after_give, after_set_box, after_set_masks, after_put_back}
-
-true_to : (b : Bool) → b ≡ true → T b
-true_to true h = tt
-true_to false h = absurd (cc)
-
-less : (k x : ℕ) → k < x → nat_cmp k x ≡ Less
-less k x h = sym (nat_cmp_is k x Less h)
-
-equal : (k x : ℕ) → k ≡ x → nat_cmp k x ≡ Equal
-equal k x h = sym (nat_cmp_is k x Equal h)
-
-greater : (k x : ℕ) → x < k → nat_cmp k x ≡ Greater
-greater k x h = sym (nat_cmp_is k x Greater h)
-
-lt_of : (k x : ℕ) → nat_lt k x ≡ true → k < x
-lt_of k x h = grind (arith, nat_tests)
+use Rattle.fixed_box.proofs.Bools.{cond_not, true_to}
+use Rattle.fixed_box.proofs.Numbers.{less, equal, greater, lt_of}
 
 abbrev above : ℕ → List Live → Bool
 above slot es = list_all (λ o. nat_lt slot (slot_of o)) es
@@ -111,7 +96,7 @@ indexed_absent es slot r free =
 abbrev lives : Handle → List Live → Bool
 lives h es = is_some (entry_at h es)
 
-same_slot : (h : Handle) (e : Live) → has h e ≡ true → slot_of e ≡ h.slot
+pub same_slot : (h : Handle) (e : Live) → has h e ≡ true → slot_of e ≡ h.slot
 same_slot h e is = eqb-true (slot_of e) h.slot (first_so _ _ is)
 
 lives_above : (h : Handle) (es : List Live) (s : ℕ) → lives h es ≡ true → above s es ≡ true → s < h.slot
@@ -212,17 +197,13 @@ left_out h (e ∷ es) r some =
           (ap (λ xs. (slot_of e, e.body) ∷ xs) (left_out h es (second_so _ _ r) later))
     ] refl some
 
-turned : {A : Type 0} (b : Bool) (x y : A) → cond (not b) x y ≡ cond b y x
-turned true x y = refl
-turned false x y = refl
-
 remove-bodies_of : (h : Handle) (es : List Live) → rises es ≡ true → lives h es ≡ true → remove (bodies_of es) h.slot ≡ bodies_of (without h es)
 remove-bodies_of h es r some =
     let xs = slots_with_bodies es in
     let left : T (is_sorted nat_cmp (where_key nat_cmp (other_than h.slot) xs)) = is_sorted-where_key nat_cmp (other_than h.slot) xs (sorted es r) in
     same_map nat_cmp_total nat_cmp-IsAntisymmetric _ _ (λ q.
     get-remove nat_cmp_total (bodies_of es) h.slot q ∙ ap (cond (eq_by_cmp nat_cmp q h.slot) None) (get-from_sorted nat_cmp xs q (sorted es r))
-    ∙ ap (λ b. cond b None (find nat_cmp q xs)) ((eq_by_cmp_equiv nat_cmp_total).symm q h.slot) ∙ sym (turned (eq_by_cmp nat_cmp h.slot q) _ _)
+    ∙ ap (λ b. cond b None (find nat_cmp q xs)) ((eq_by_cmp_equiv nat_cmp_total).symm q h.slot) ∙ sym (cond_not (eq_by_cmp nat_cmp h.slot q) _ _)
     ∙ sym (get-from_sorted nat_cmp (where_key nat_cmp (other_than h.slot) xs) q left
     ∙ find-where_key nat_cmp (other_than h.slot) q (λ x t. ap (λ o. not (is_eq o)) (sym (alike_right nat_cmp_total q x h.slot t))) xs))
     ∙ ap (λ ys. from_sorted {R = nat_cmp} ys) (left_out h es r some)

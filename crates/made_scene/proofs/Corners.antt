@@ -1,5 +1,5 @@
 -- The corners of made boxes, and of boxes that move: in order, and near to where they were made.
-use Rattle.std.proofs.Common.{◌≡◌, ℕ, ◌+◌, ◌*◌, ◌^◌, ◌<◌, ◌≤◌, Bool, true, false, ◌&&◌, T, ℤ, pos, neg_ℤ, ◌+ℤ◌, ◌≤ℤ◌, int_le, IsTrue}
+use Rattle.std.proofs.Common.{◌≡◌, ℕ, ◌+◌, ◌*◌, ◌^◌, ◌<◌, ◌≤◌, true, ◌&&◌, ℤ, pos, neg_ℤ, ◌+ℤ◌, ◌≤ℤ◌, int_le, IsTrue}
 use Rattle.std.proofs.Common.{◌/◌, ◌%◌, refl, sym, subst, ap, ◌∙◌, arith}
 use Rattle.std.proofs.lemmas.Int.{ints}
 use Rattle.fixed_box.specs.declared.point.Point.{Point}
@@ -7,23 +7,7 @@ use Rattle.fixed_box.specs.Bounds.{Bounds}
 use Rattle.fixed_box.specs.Point.{is_at_most}
 use Rattle.made_scene.specs.MadeScene.{made_bounds, step, stepped, moved, zero_box}
 use Rattle.made_scene.specs.Ranges.{IsNear, IsNearPoint}
-
-true_from : (b : Bool) → T b → b ≡ true
-true_from true h = refl
-true_from false h = absurd h
-
-T_from : (b : Bool) → b ≡ true → T b
-T_from true h = tt
-T_from false h = absurd (cc)
-
-and_left : (a b : Bool) → (a && b) ≡ true → a ≡ true
-and_left true b h = refl
-and_left false b h = h
-
-and_right : (a b : Bool) → (a && b) ≡ true → b ≡ true
-and_right true b h = h
-and_right false true h = refl
-and_right false false h = h
+use Rattle.fixed_box.proofs.Bools.{true_from, true_to, and_left, and_right}
 
 in_order : (p q : Point) → p.x ≤ℤ q.x → p.y ≤ℤ q.y → p.z ≤ℤ q.z → IsTrue (is_at_most p q)
 in_order p q x y z =
@@ -60,7 +44,7 @@ made_near w1 w2 w3 w4 a b c = record {
 
 add_order : (a b d : ℤ) → int_le a b ≡ true → int_le (a +ℤ d) (b +ℤ d) ≡ true
 add_order a b d h =
-    let le : a ≤ℤ b = record { le = T_from (int_le a b) h } in
+    let le : a ≤ℤ b = record { le = true_to (int_le a b) h } in
     let more : (a +ℤ d) ≤ℤ (b +ℤ d) = omega (arith, ints) in
     true_from (int_le (a +ℤ d) (b +ℤ d)) more.le
 

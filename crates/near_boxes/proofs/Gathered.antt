@@ -24,6 +24,7 @@ use Rattle.near_boxes.specs.Nearest.{square, seen_from}
 use Rattle.near_boxes.specs.Within.{is_within, all_within, within_of, within, spot, cube, Reaches}
 use Rattle.near_boxes.proofs.MapEntries.{Looked, looked_in, slots_up, has_slots}
 use Rattle.near_boxes.proofs.Reached.{near_meets, all_near}
+use Rattle.fixed_box.proofs.Bools.{and_false}
 
 -- ---- slots of a list
 
@@ -33,10 +34,6 @@ slots_tell = record {
   self = λ x. eq-eqb x x refl;
   one_way = λ x y h g. let a = ltb-true x y h in let b = ltb-true y x g in absurd (omega arith);
 }
-
-and_false : (b : Bool) → (b && false) ≡ false
-and_false true = refl
-and_false false = refl
 
 has_cons : (k x : ℕ) (b : Bool) (xs : List ℕ) → has_slot (cond b (x ∷ xs) xs) k ≡ ((b && (k == x)) || has_slot xs k)
 has_cons k x true xs = refl

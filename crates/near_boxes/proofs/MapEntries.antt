@@ -1,29 +1,26 @@
 -- The entries of a map: each is what is looked up under its slot, and they rise by their slots.
-use Rattle.std.proofs.Common.{◌≡◌, ℕ, suc, ◌<◌, Bool, true, false, cond, ◌||◌, ◌==◌, nat_lt, List, [], ◌∷◌, Option, Some, refl, sym, ap, ◌∙◌, arith, inl, inr}
+use Rattle.std.proofs.Common.{◌≡◌, ℕ, suc, Bool, true, false, cond, ◌||◌, ◌==◌, nat_lt, List, [], ◌∷◌, Option, Some, refl, sym, ap, ◌∙◌, arith, inl, inr}
 use Rattle.std.specs.Prelude.{is_some}
 use Rattle.std.specs.List.{list_any, Contains}
 use Rattle.std.specs.Ordering.{nat_cmp, is_lt, eq_by_cmp}
-use Rattle.std.specs.declared.cmp.Ordering.TheVariants.{Less, Equal, Greater}
-use Rattle.std.specs.Cmp.{ranked, first_so, second_so}
+use Rattle.std.specs.Cmp.{first_so, second_so}
 use Rattle.std.specs.FinMap.{FinMap, entries, entries_sorted, is_sorted, find, get, get-entries, contains_key-keys}
 use Rattle.std.specs.FinMap.Entries.{below_all}
-use Rattle.std.proofs.lemmas.Bool.{eq-eqb, eqb-true, cases_Bool, false≢true}
+use Rattle.std.proofs.lemmas.Bool.{eqb-true, cases_Bool}
 use Rattle.fixed_box.specs.Bounds.{Bounds}
 use Rattle.slot_lists.specs.Rising.{rises_by}
 use Rattle.slot_lists.specs.RisingLaws.{mapped_rise}
 use Rattle.slot_lists.specs.SlotMapLaws.{tie_same, tie_other}
 use Rattle.slot_lists.specs.Present.{present}
 use Rattle.broad_index.specs.Members.{has_slot, slots_rise}
-use Rattle.broad_index.specs.NearRises.{true_from, slot_lt, entries_rise}
+use Rattle.broad_index.specs.NearRises.{slot_lt, entries_rise}
+use Rattle.fixed_box.proofs.Bools.{true_from}
+use Rattle.fixed_box.proofs.Numbers.{lt_from, eq_cmp}
 
 -- each entry is what is looked up under its slot
 abbrev pub Looked : (ℕ → Option Bounds) → List (ℕ × Bounds) → Type 0
 Looked look [] = Unit {0}
 Looked look (e ∷ es) = (look e.0 ≡ Some e.1) × Looked look es
-
-lt_from : (x y : ℕ) → is_lt (nat_cmp x y) ≡ true → x < y
-lt_from x y h =
-    elim (nat_cmp x y) as (λ r. r ≡ nat_cmp x y → is_lt r ≡ true → x < y) [ Less ↦ λ e _. ranked x y Less e | Equal ↦ λ _ h. cc | Greater ↦ λ _ h. cc ] refl h
 
 other_slot : (x y : ℕ) → is_lt (nat_cmp x y) ≡ true → eq_by_cmp nat_cmp y x ≡ false
 other_slot x y h = tie_other y x (λ e. let l = lt_from x y h in absurd (omega arith))
@@ -44,12 +41,6 @@ looked_up (e ∷ es) h = (
 relooked : (f g : ℕ → Option Bounds) → ((k : ℕ) → g k ≡ f k) → (es : List (ℕ × Bounds)) → Looked f es → Looked g es
 relooked f g same [] l = tt
 relooked f g same (e ∷ es) l = (same e.0 ∙ l.0, relooked f g same es l.1)
-
-eq_cmp : (k x : ℕ) → eq_by_cmp nat_cmp k x ≡ (k == x)
-eq_cmp k x = elim (cases_Bool (k == x)) as (λ _. eq_by_cmp nat_cmp k x ≡ (k == x)) [
-  | inl t ↦ tie_same k x (eqb-true k x t) ∙ sym t
-  | inr f ↦ tie_other k x (λ e. absurd (false≢true (sym f ∙ eq-eqb k x e))) ∙ sym f
-]
 
 any_same : (p q : ℕ → Bool) → ((x : ℕ) → p x ≡ q x) → (xs : List ℕ) → list_any p xs ≡ list_any q xs
 any_same p q h [] = refl

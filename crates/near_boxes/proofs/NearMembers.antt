@@ -22,6 +22,7 @@ use Rattle.near_boxes.specs.declared.near.Near.{Near}
 use Rattle.near_boxes.specs.Nearest.{near_cmp, seen_from, IsSeen, Precedes}
 use Rattle.near_boxes.proofs.MapEntries.{Looked, looked_in, entry_in, entries_up}
 use Rattle.near_boxes.proofs.Nearer.{near_total, tied}
+use Rattle.fixed_box.proofs.Numbers.{eq_le}
 
 -- ---- the order
 
@@ -63,9 +64,6 @@ bit : (b : Bool) → cond b 1 0 ≤ 1
 bit true = omega arith
 bit false = omega arith
 
-at_most : (k x : ℕ) → k ≡ x → k ≤ x
-at_most k x e = omega arith
-
 -- whether a slot is seen in a list, as a number: nowhere among higher ones, and at most once where slots rise
 none_higher : (at : Point) (k x : ℕ) (es : List (ℕ × Bounds)) → k ≤ x → list_all (λ e. nat_lt x e.0) es ≡ true → sum_by (has k) (map (seen_from at) es) ≡ 0
 none_higher at k x [] le h = refl
@@ -81,7 +79,7 @@ once at k (e ∷ es) h =
     elim (cases_Bool (k == e.0)) as (λ _. sum_by (has k) (map (seen_from at) (e ∷ es)) ≤ 1) [
       | inl t ↦
           let rest : sum_by (has k) (map (seen_from at) es) ≡ 0 =
-          none_higher at k e.0 es (at_most k e.0 (eqb-true k e.0 t)) (first_so (list_all (slot_lt e) es) (rises_by slot_lt es) h)
+          none_higher at k e.0 es (eq_le k e.0 (eqb-true k e.0 t)) (first_so (list_all (slot_lt e) es) (rises_by slot_lt es) h)
           in
           let here : has k (seen_from at e) ≤ 1 = bit (k == e.0) in omega (arith, here, rest, sum)
       | inr f ↦

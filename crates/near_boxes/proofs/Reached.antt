@@ -10,6 +10,7 @@ use Rattle.fixed_box.specs.Point.{is_at_most, lowered, raised}
 use Rattle.fixed_box.specs.Space.{space}
 use Rattle.near_boxes.specs.Nearest.{above, gap, squared, square}
 use Rattle.near_boxes.specs.Within.{spot, cube, Reaches}
+use Rattle.fixed_box.proofs.Numbers.{at_least, at_most}
 
 -- how an interval that lies in space stands to a coordinate that does
 record IsPlaced (lo hi at : ℤ) : Type 0 where
@@ -17,12 +18,6 @@ record IsPlaced (lo hi at : ℤ) : Type 0 where
   high : at ≤ℤ pos 2147483647
   begins : lo ≤ℤ pos 2147483647
   ends : negsuc 2147483647 ≤ℤ hi
-
-at_least : (x : ℤ) → int_le (negsuc 2147483647) x ≡ true → negsuc 2147483647 ≤ℤ x
-at_least x h = omega (arith, ints)
-
-at_most : (x : ℤ) → int_le x (pos 2147483647) ≡ true → x ≤ℤ pos 2147483647
-at_most x h = omega (arith, ints)
 
 record ArePlaced (at : Point) (b : Bounds) : Type 0 where
   x : IsPlaced b.lo.x b.hi.x at.x

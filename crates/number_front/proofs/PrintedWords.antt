@@ -11,6 +11,7 @@ use Rattle.std.proofs.lemmas.Grind.{and_high_numeral}
 use Rattle.number_front.specs.Fronts.{IsMagnitude, IsPrinted, word_of}
 use Rattle.fixed_box.specs.DigitLaws.{digit_value_is, digit_small}
 use Rattle.number_front.proofs.FrontNumbers.{printed_text}
+use Rattle.fixed_box.proofs.Lists.{drop_none}
 
 -- eight bytes
 abbrev pub AreBytes : (a b c d e f g h : ℕ) → Type 0
@@ -226,10 +227,6 @@ take_bytes : (k n : ℕ) (text : List ℕ) → n + k ≤ length text → take k 
 take_bytes zero n text inside = refl
 take_bytes (suc k) n text inside =
     ap (take (suc k)) (drop-cons text n 0 (omega arith)) ∙ ap (λ xs. get_or text n 0 ∷ xs) (take_bytes k (suc n) text (omega arith))
-
-drop_none : (text : List ℕ) → drop 0 text ≡ text
-drop_none [] = refl
-drop_none (b ∷ bs) = refl
 
 front_bytes : (k : ℕ) (text : List ℕ) → k ≤ length text → take k text ≡ bytes_from text 0 k
 front_bytes k text inside = ap (take k) (sym (drop_none text)) ∙ take_bytes k 0 text (omega arith)

@@ -17,9 +17,8 @@ use Rattle.overlap_count.specs.Counts.{count_of, IsCounts}
 use Rattle.overlap_count.specs.FullPairs.{pairs_with, pairs_below, full_pairs}
 use Rattle.overlap_count.specs.Rows.{bits_of, pairs_of_bits, is_marked, IsTable}
 use Rattle.overlap_count.proofs.SetLemmas.{get_or-bits_of}
-
-next_is : (n : ℕ) → n + 1 ≡ suc n
-next_is n = omega arith
+use Rattle.broad_index.proofs.OneRising.{self_same}
+use Rattle.fixed_box.proofs.Numbers.{plus_one}
 
 -- ---- the pairs of a word
 
@@ -30,7 +29,7 @@ bits_none a base word = refl
 bits_next : (a base word n : ℕ) → pairs_of_bits a base word (n + 1) ≡ pairs_of_bits a base word n ++ cond (bit_at word n == 1)
     (record { a = a; b = base + n } ∷ []) []
 unfolding pairs_of_bits
-bits_next a base word n = ap (pairs_of_bits a base word) (next_is n)
+bits_next a base word n = ap (pairs_of_bits a base word) (plus_one n)
 
 pub bits_one : (a base word n : ℕ) → bit_at word n ≡ 1 → pairs_of_bits a base word (n + 1) ≡ pairs_of_bits a base word n ++ record { a = a; b = base + n } ∷ []
 bits_one a base word n one =
@@ -63,7 +62,7 @@ pairs_none a f = refl
 
 pairs_next : (a : ℕ) (f : ℕ → Bool) (n : ℕ) → pairs_with a f (n + 1) ≡ pairs_with a f n ++ cond (f n) (record { a = a; b = n } ∷ []) []
 unfolding pairs_with
-pairs_next a f n = ap (pairs_with a f) (next_is n)
+pairs_next a f n = ap (pairs_with a f) (plus_one n)
 
 -- slots that fail are passed over
 pairs_skip : (a : ℕ) (f : ℕ → Bool) (m n : ℕ) → ((k : ℕ) → m ≤ k → f k ≡ false) → pairs_with a f (m + n) ≡ pairs_with a f m
@@ -93,7 +92,7 @@ pairs_bits a f m word (suc n) h =
     ∙ ap (λ t. pairs_with a f (m + n) ++ cond t (q ∷ []) []) (h n (omega arith))
     ∙ ap (λ l. l ++ cond (bit_at word n == 1) (q ∷ []) []) (pairs_bits a f m word n (λ k lt. h k (omega arith)))
     ∙ append_assoc (pairs_with a f m) (pairs_of_bits a m word n) (cond (bit_at word n == 1) (q ∷ []) [])
-    ∙ ap (λ l. pairs_with a f m ++ l) (sym (bits_next a m word n) ∙ ap (pairs_of_bits a m word) (next_is n))
+    ∙ ap (λ l. pairs_with a f m ++ l) (sym (bits_next a m word n) ∙ ap (pairs_of_bits a m word) (plus_one n))
 
 abbrev pub is_in : List ℕ → ℕ → Bool
 is_in words b = get_or (bits_of words) b 0 == 1
@@ -117,7 +116,7 @@ below_none f = refl
 
 pub below_next : (f : ℕ → ℕ → Bool) (n : ℕ) → pairs_below f (n + 1) ≡ pairs_below f n ++ pairs_with n (f n) SLOTS
 unfolding pairs_below
-below_next f n = ap (pairs_below f) (next_is n)
+below_next f n = ap (pairs_below f) (plus_one n)
 
 same_with : (a : ℕ) (f g : ℕ → Bool) → ((b : ℕ) → f b ≡ g b) → (n : ℕ) → pairs_with a f n ≡ pairs_with a g n
 unfolding pairs_with
@@ -169,9 +168,6 @@ pairs_have a f (suc n) p h =
       | inl early ↦ let r = pairs_have a f n p early in record { first = r.first; small = omega (arith, r.small); passes = r.passes }
       | inr here ↦ let o = one_has (f n) p q here in record { first = o.1; small = omega (arith, o.2); passes = ap f o.2 ∙ o.0 }
     ]
-
-self_same : (p : Pair) → same_pair p p ≡ true
-self_same p = and_from (p.a == p.a) (p.b == p.b) (eq-eqb p.a p.a refl) (eq-eqb p.b p.b refl)
 
 has_one : (t : Bool) (p : Pair) → t ≡ true → has_pair (cond t (p ∷ []) []) p ≡ true
 has_one true p h = or_left (same_pair p p) false (self_same p)

@@ -8,6 +8,7 @@ use Rattle.std.proofs.lemmas.List.{get_or_past, get_or_read, set-get_or}
 use Rattle.fixed_box.specs.declared.TheConstants.{SLOTS}
 use Rattle.overlap_count.specs.Counts.{count_of, IsCounts}
 use Rattle.overlap_count.specs.Rows.{IsTable, mark_of}
+use Rattle.fixed_box.proofs.Bools.{and_comm, and_true}
 
 -- ---- one count
 
@@ -66,16 +67,6 @@ unset_changes row place = elim (cases_lt place (length row)) [
 
 pub within : (row : List ℕ) (place : ℕ) → get_or row place 0 ≢ 0 → place < length row
 within row place some = elim (cases_lt place (length row)) [ inl lt ↦ lt | inr past ↦ absurd (some (get_or_past row place 0 past)) ]
-
-and_true : (t : Bool) → (t && true) ≡ t
-and_true true = refl
-and_true false = refl
-
-and_turn : (t u : Bool) → (t && u) ≡ (u && t)
-and_turn true true = refl
-and_turn true false = refl
-and_turn false true = refl
-and_turn false false = refl
 
 pub counts_changed : (rows : List (List ℕ)) (a b v : ℕ) (row : List ℕ) → a < b → b < length rows → Changed (get_or rows b []) row a v
     → (x y : ℕ) → count_of (set rows b row) x y ≡ cond (eqb x a && eqb y b) v (count_of rows x y)
@@ -472,7 +463,7 @@ counts_lost rows now slot b was row lt within read is h x y =
     subst (λ l. Changed l row slot 0) (get_or_read rows b was within read [])
     (subst (λ l. Changed was l slot 0) (sym is) (unset_changes was slot)) in
     forgets_more (eqb y b) (eqb x slot) y b (count_of now x y) (count_of rows x y) (count_of (set rows b row) x y) refl
-    (counts_changed rows slot b 0 row lt within changes x y ∙ ap (λ t. cond t 0 (count_of rows x y)) (and_turn (eqb x slot) (eqb y b)))
+    (counts_changed rows slot b 0 row lt within changes x y ∙ ap (λ t. cond t 0 (count_of rows x y)) (and_comm (eqb x slot) (eqb y b)))
     (h x y)
 
 -- and so all have

@@ -1,5 +1,5 @@
 -- One line raises each number of a world by at most so much, and those of its marks not at all.
-use Rattle.std.proofs.Common.{◌≡◌, ◌⊎◌, inl, inr, ℕ, ◌+◌, ◌*◌, ◌<◌, ◌≤◌, Bool, true, false, cond, nat_lt, List, [], ◌∷◌}
+use Rattle.std.proofs.Common.{◌≡◌, ◌⊎◌, inl, inr, ℕ, ◌+◌, ◌<◌, ◌≤◌, Bool, true, false, cond, nat_lt, List, [], ◌∷◌}
 use Rattle.std.proofs.Common.{length, get_or, sum, ap, arith}
 use Rattle.std.specs.List.{All}
 use Rattle.std.proofs.lemmas.Bool.{cases_lt}
@@ -7,20 +7,20 @@ use Rattle.std.proofs.lemmas.List.{set_past}
 use Rattle.std.proofs.lemmas.List.Sums.{sum_by-set}
 use Rattle.std.proofs.lemmas.List.Elements.{All-cons, All-head, All-tail, All-weaker}
 use Rattle.fixed_box.specs.Bounds.{Bounds}
-use Rattle.fixed_box.specs.declared.TheConstants.{SLOTS}
 use Rattle.live_table.specs.declared.group.Group.{Group}
 use Rattle.live_table.specs.declared.handle.Handle.{Handle}
 use Rattle.live_table.specs.declared.masks.Masks.{Masks}
 use Rattle.live_table.specs.Entries.{least_free}
 use Rattle.live_table.specs.Table.{IsTable, raised}
 use Rattle.world_marks.specs.declared.TheConstants.{MOST_MARKS}
-use Rattle.box_world.specs.World.{World as Boxes, Timeline, counted, exchanges_of_add, exchanges_of_move, added, moved, marked, back_to}
+use Rattle.box_world.specs.World.{World as Boxes, Timeline, exchanges_of_add, exchanges_of_move, added, moved, marked, back_to}
 use Rattle.scene_words.specs.declared.command.Command.{Command}
 use Rattle.scene_words.specs.declared.command.Command.TheVariants.{Blank, Header, Add, Move, Mask, Remove, Frame, BoxQ, PointQ, RayQ, SegQ, Cast, Near, Mark}
 use Rattle.scene_words.specs.declared.command.Command.TheVariants.{Back}
 use Rattle.play_rules.specs.Counted.{IsSmall, IsCounted}
 use Rattle.play_rules.specs.World.{World, after}
 use Rattle.play_rules.proofs.FoundBodies.{FewAdded, FewShifted, add_passes_few, move_passes_few}
+use Rattle.box_world.proofs.Counted.{counted_few}
 
 -- one more give, or none where there is no such slot
 raised_sum : (gives : List ℕ) (slot : ℕ) → sum (raised gives slot) ≤ sum gives + 1
@@ -32,10 +32,6 @@ raised_sum gives slot = by_place (cases_lt slot (length gives))
         sum_by-set (λ x. x) gives slot (get_or gives slot 0 + 1) 0 within in
         omega (arith, moved)
     by_place (inr past) = let same : sum (raised gives slot) ≡ sum gives = ap sum (set_past gives slot (get_or gives slot 0 + 1) past) in omega (arith, same)
-
-counted_few : (counts : Bool) (number : ℕ) → number ≤ 12 * SLOTS → counted counts number ≤ 12 * SLOTS
-counted_few true number few = few
-counted_few false number few = omega arith
 
 module _ (few_added : FewAdded) (few_shifted : FewShifted) (counts : Bool) (n : ℕ) where
   small_later : (w : Boxes) → IsSmall n w → IsSmall (n + 1) w

@@ -6,8 +6,6 @@ use Rattle.std.specs.Cmp.{first_so, second_so, nat_cmp_is}
 use Rattle.std.specs.FinMap.{FinMap, entries, get-entries, find}
 use Rattle.std.specs.Ordering.{nat_cmp, is_eq, eq_by_cmp}
 use Rattle.std.specs.declared.cmp.Ordering.TheVariants.{Equal, Greater}
-use Rattle.std.proofs.lemmas.Bool.{eqb-true}
-use Rattle.std.proofs.lemmas.Bool.Decides.{nat_tests}
 use Rattle.std.proofs.lemmas.List.{length-map}
 use Rattle.fixed_box.specs.Bounds.{Bounds}
 use Rattle.fixed_box.specs.declared.TheConstants.{SLOTS}
@@ -17,6 +15,8 @@ use Rattle.live_table.specs.Bodies.{bodies_of, slots_with_bodies, body_of}
 use Rattle.live_table.specs.Entries.{slot_of, has, entry_at, rises}
 use Rattle.live_table.specs.Table.{Table, IsTable}
 use Rattle.broad_index.specs.Exchanges.{passed_by_add, passed_by_shift, passed_from_above, passed_from}
+use Rattle.fixed_box.proofs.Numbers.{lt_of}
+use Rattle.live_table.proofs.BodyMaps.{same_slot}
 
 -- what is known of the exchanges of one change
 abbrev pub FewAdded : Type 0
@@ -30,12 +30,6 @@ few_bodies : (t : Table) → IsTable t → length (entries (bodies_of t.entries)
 few_bodies t is =
     let at : Live → (ℕ × Bounds) = λ entry. (slot_of entry, entry.body) in
     subst (λ n. n ≤ SLOTS) (sym (ap length is.mapped ∙ length-map t.entries at)) is.few
-
-lt_of : (k x : ℕ) → nat_lt k x ≡ true → k < x
-lt_of k x h = grind (arith, nat_tests)
-
-same_slot : (h : Handle) (o : Live) → has h o ≡ true → slot_of o ≡ h.slot
-same_slot h o is = eqb-true (slot_of o) h.slot (first_so _ _ is)
 
 -- a slot below those of some boxes is below that of a handle which one of them has
 slot_above : (h : Handle) (es : List Live) (live : Live) (s : ℕ) → entry_at h es ≡ Some live

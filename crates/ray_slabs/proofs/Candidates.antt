@@ -8,7 +8,8 @@ use Rattle.ray_slabs.specs.Crossing.{Slab, Fraction, fits, crossings, crossings_
 use Rattle.ray_slabs.specs.Mirrored.{at_most}
 use Rattle.ray_slabs.proofs.Order.{same_le, at_most_trans, at_most_refl, at_most_total}
 use Rattle.ray_slabs.proofs.Crossed.{along, rising, falling}
-use Rattle.ray_slabs.proofs.Passing.{first_of, second_of, all_of}
+use Rattle.ray_slabs.proofs.Passing.{all_of}
+use Rattle.fixed_box.proofs.Bools.{and_left, and_right}
 
 -- the fractions that fit a slab: all or none, or those from one crossing to another
 data Fit (s : Slab) : Type 0 where
@@ -51,8 +52,8 @@ convex s a t c ha ht hc at tc fa fc =
     elim (fit s) [
       | level b same ↦ same t ht ∙ sym (same a ha) ∙ fa
       | crossed enter leave he hl among is ↦
-          let from : at_most enter a ≡ true = first_of (at_most enter a) (at_most a leave) (sym (is a ha) ∙ fa) in
-          let to : at_most c leave ≡ true = second_of (at_most enter c) (at_most c leave) (sym (is c hc) ∙ fc) in
+          let from : at_most enter a ≡ true = and_left (at_most enter a) (at_most a leave) (sym (is a ha) ∙ fa) in
+          let to : at_most c leave ≡ true = and_right (at_most enter c) (at_most c leave) (sym (is c hc) ∙ fc) in
           is t ht ∙ all_of (at_most enter t) (at_most t leave) (at_most_trans enter a t he ha ht from at) (at_most_trans t c leave ht hc hl tc to)
     ]
 
@@ -61,8 +62,8 @@ all_convex : (ss : List Slab) (a t c : Fraction) → pos 0 <ℤ a.den → pos 0 
 all_convex [] a t c ha ht hc at tc fa fc = refl
 all_convex (s ∷ ss) a t c ha ht hc at tc fa fc =
     all_of (fits t s) (list_all (fits t) ss)
-    (convex s a t c ha ht hc at tc (first_of (fits a s) (list_all (fits a) ss) fa) (first_of (fits c s) (list_all (fits c) ss) fc))
-    (all_convex ss a t c ha ht hc at tc (second_of (fits a s) (list_all (fits a) ss) fa) (second_of (fits c s) (list_all (fits c) ss) fc))
+    (convex s a t c ha ht hc at tc (and_left (fits a s) (list_all (fits a) ss) fa) (and_left (fits c s) (list_all (fits c) ss) fc))
+    (all_convex ss a t c ha ht hc at tc (and_right (fits a s) (list_all (fits a) ss) fa) (and_right (fits c s) (list_all (fits c) ss) fc))
 
 -- the fraction 0
 abbrev pub start : Fraction
@@ -103,8 +104,8 @@ more s ss t ht ft fts c false e =
           let clash : true ≡ false = sym ft ∙ same t ht ∙ sym (same c.place c.above_zero) ∙ e in
           let no : ⊥ = cc in absurd no
       | crossed enter leave he hl among is ↦
-          let from : at_most enter t ≡ true = first_of (at_most enter t) (at_most t leave) (sym (is t ht) ∙ ft) in
-          let to : at_most t leave ≡ true = second_of (at_most enter t) (at_most t leave) (sym (is t ht) ∙ ft) in
+          let from : at_most enter t ≡ true = and_left (at_most enter t) (at_most t leave) (sym (is t ht) ∙ ft) in
+          let to : at_most t leave ≡ true = and_right (at_most enter t) (at_most t leave) (sym (is t ht) ∙ ft) in
           let inside : at_most c.place leave ≡ true = at_most_trans c.place t leave c.above_zero ht hl c.no_later to in
           let outside : at_most enter c.place ≡ false = not_first (at_most enter c.place) (at_most c.place leave) inside (sym (is c.place c.above_zero) ∙ e) in
           let before : at_most c.place enter ≡ true = at_most_total enter c.place outside in
@@ -132,8 +133,8 @@ candidate [] t ht h f = record {
   among = λ P h. true_or (P start) false h;
 }
 candidate (s ∷ ss) t ht h f =
-    let c : Candidate ss t = candidate ss t ht h (second_of (fits t s) (list_all (fits t) ss) f) in
-    more s ss t ht (first_of (fits t s) (list_all (fits t) ss) f) (second_of (fits t s) (list_all (fits t) ss) f) c (fits c.place s) refl
+    let c : Candidate ss t = candidate ss t ht h (and_right (fits t s) (list_all (fits t) ss) f) in
+    more s ss t ht (and_left (fits t s) (list_all (fits t) ss) f) (and_right (fits t s) (list_all (fits t) ss) f) c (fits c.place s) refl
 
 -- a fraction that passes a test
 pub record Found (Q : Fraction → Bool) : Type 0 where
@@ -180,16 +181,16 @@ to_finish t = same_le (t.num *ℤ pos 1) (pos 1 *ℤ t.den) t.num t.den (omega (
 -- A fraction that fits shows a candidate that does.
 pub ray_candidate : (ss : List Slab) (t : Fraction) → pos 0 <ℤ t.den → fits_ray ss t ≡ true → list_any (fits_ray ss) (candidates ss) ≡ true
 ray_candidate ss t ht f =
-    let c : Candidate ss t = candidate ss t ht (from_start t ∙ first_of (int_le (pos 0) t.num) (list_all (fits t) ss) f)
-    (second_of (int_le (pos 0) t.num) (list_all (fits t) ss) f) in
+    let c : Candidate ss t = candidate ss t ht (from_start t ∙ and_left (int_le (pos 0) t.num) (list_all (fits t) ss) f)
+    (and_right (int_le (pos 0) t.num) (list_all (fits t) ss) f) in
     c.among (fits_ray ss) (all_of (int_le (pos 0) c.place.num) (list_all (fits c.place) ss) (sym (from_start c.place) ∙ c.ahead) c.all_fit)
 
 pub seg_candidate : (ss : List Slab) (t : Fraction) → pos 0 <ℤ t.den → fits_seg ss t ≡ true → list_any (fits_seg ss) (candidates ss) ≡ true
 seg_candidate ss t ht f =
-    let ahead : fits_ray ss t ≡ true = second_of (int_le t.num t.den) (fits_ray ss t) f in
-    let c : Candidate ss t = candidate ss t ht (from_start t ∙ first_of (int_le (pos 0) t.num) (list_all (fits t) ss) ahead)
-    (second_of (int_le (pos 0) t.num) (list_all (fits t) ss) ahead) in
-    let bound : at_most t finish ≡ true = to_finish t ∙ first_of (int_le t.num t.den) (fits_ray ss t) f in
+    let ahead : fits_ray ss t ≡ true = and_right (int_le t.num t.den) (fits_ray ss t) f in
+    let c : Candidate ss t = candidate ss t ht (from_start t ∙ and_left (int_le (pos 0) t.num) (list_all (fits t) ss) ahead)
+    (and_right (int_le (pos 0) t.num) (list_all (fits t) ss) ahead) in
+    let bound : at_most t finish ≡ true = to_finish t ∙ and_left (int_le t.num t.den) (fits_ray ss t) f in
     let within : at_most c.place finish ≡ true = at_most_trans c.place t finish c.above_zero ht (omega (arith, ints)) c.no_later bound in
     c.among (fits_seg ss) (all_of (int_le c.place.num c.place.den) (fits_ray ss c.place) (sym (to_finish c.place) ∙ within)
     (all_of (int_le (pos 0) c.place.num) (list_all (fits c.place) ss) (sym (from_start c.place) ∙ c.ahead) c.all_fit))

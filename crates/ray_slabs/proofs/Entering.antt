@@ -11,7 +11,8 @@ use Rattle.ray_slabs.specs.First.{value_cmp, entries, entries_by}
 use Rattle.ray_slabs.specs.FirstLaws.{lt_of_test, less_is, not_less}
 use Rattle.ray_slabs.specs.Mirrored.{mirrored_by, enter, at_most}
 use Rattle.ray_slabs.proofs.Order.{test_of_le, at_most_trans, at_most_refl}
-use Rattle.ray_slabs.proofs.Passing.{first_of, second_of, all_of}
+use Rattle.ray_slabs.proofs.Passing.{all_of}
+use Rattle.fixed_box.proofs.Bools.{and_left, and_right}
 use Rattle.ray_slabs.proofs.Crossed.{come}
 use Rattle.ray_slabs.proofs.Candidates.{AllAboveZero}
 
@@ -71,8 +72,8 @@ pub to_bound : (a : Fraction) (es : List Fraction) (t : Fraction) → pos 0 <ℤ
 to_bound a [] t ha h at all = at
 to_bound a (e ∷ es) t ha h at all =
     to_bound (ord_max value_cmp a e) es t (later_above_zero a e ha h.0) h.1
-    (by_later (λ m. at_most m t ≡ true) a e ha h.0 (λ _. at) (λ _. first_of (at_most e t) (list_all (λ e. at_most e t) es) all))
-    (second_of (at_most e t) (list_all (λ e. at_most e t) es) all)
+    (by_later (λ m. at_most m t ≡ true) a e ha h.0 (λ _. at) (λ _. and_left (at_most e t) (list_all (λ e. at_most e t) es) all))
+    (and_right (at_most e t) (list_all (λ e. at_most e t) es) all)
 
 entries_above_zero : (s : Slab) (d : ℤ) (rest : List Fraction) → AllAboveZero rest → AllAboveZero (entries_by d s ++ rest)
 entries_above_zero s (pos zero) rest h = h
@@ -94,4 +95,4 @@ all_entered [] t f = refl
 all_entered (s ∷ ss) t f =
     list_all-append (λ e. at_most e t) (entries s) (flat_map entries ss)
     ∙ all_of (list_all (λ e. at_most e t) (entries s)) (list_all (λ e. at_most e t) (flat_map entries ss))
-    (entered_by s s.dir t (come s t (first_of (fits t s) (list_all (fits t) ss) f))) (all_entered ss t (second_of (fits t s) (list_all (fits t) ss) f))
+    (entered_by s s.dir t (come s t (and_left (fits t s) (list_all (fits t) ss) f))) (all_entered ss t (and_right (fits t s) (list_all (fits t) ss) f))

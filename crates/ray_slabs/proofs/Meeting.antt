@@ -7,15 +7,16 @@ use Rattle.ray_slabs.specs.WideBounds.{WideBounds}
 use Rattle.ray_slabs.specs.Crossing.{Slab, Fraction, fits, slabs_of, fits_ray, fits_seg, in_ray, in_seg}
 use Rattle.ray_slabs.specs.Law.{IsWithin, RayMeets, SegMeets}
 use Rattle.ray_slabs.proofs.Order.{le_of_test, test_of_le}
-use Rattle.ray_slabs.proofs.Passing.{first_of, second_of, all_of}
+use Rattle.ray_slabs.proofs.Passing.{all_of}
+use Rattle.fixed_box.proofs.Bools.{and_left, and_right}
 use Rattle.ray_slabs.proofs.Candidates.{Found, found_among, ray_candidate, seg_candidate}
 
 within : (p q : ℕ) (f d lo hi : ℤ) → fits (record { num = pos p; den = pos q }) (record { from = f; dir = d; lo = lo; hi = hi }) ≡ true → IsWithin p q f d lo hi
 within p q f d lo hi e =
     let place : ℤ = pos q *ℤ f +ℤ pos p *ℤ d in (
-      le_of_test (pos q *ℤ lo) place (first_of (int_le (pos q *ℤ lo) place) (int_le place (pos q *ℤ hi)) e),
+      le_of_test (pos q *ℤ lo) place (and_left (int_le (pos q *ℤ lo) place) (int_le place (pos q *ℤ hi)) e),
       le_of_test place (pos q *ℤ hi)
-          (second_of (int_le (pos q *ℤ lo) place) (int_le place (pos q *ℤ hi)) e),
+          (and_right (int_le (pos q *ℤ lo) place) (int_le place (pos q *ℤ hi)) e),
     )
 
 tested : (p q : ℕ) (f d lo hi : ℤ) → IsWithin p q f d lo hi → fits (record { num = pos p; den = pos q }) (record { from = f; dir = d; lo = lo; hi = hi }) ≡ true
@@ -36,16 +37,16 @@ numbers f d b (pos p) (pos q) h e =
     let x : Slab = record { from = f.x; dir = d.x; lo = b.lo.x; hi = b.hi.x } in
     let y : Slab = record { from = f.y; dir = d.y; lo = b.lo.y; hi = b.hi.y } in
     let z : Slab = record { from = f.z; dir = d.z; lo = b.lo.z; hi = b.hi.z } in
-    let xyz : (fits t x && (fits t y && (fits t z && true))) ≡ true = second_of (int_le (pos 0) (pos p)) (list_all (fits t) (slabs_of f d b)) e in
-    let yz : (fits t y && (fits t z && true)) ≡ true = second_of (fits t x) (fits t y && (fits t z && true)) xyz in
+    let xyz : (fits t x && (fits t y && (fits t z && true))) ≡ true = and_right (int_le (pos 0) (pos p)) (list_all (fits t) (slabs_of f d b)) e in
+    let yz : (fits t y && (fits t z && true)) ≡ true = and_right (fits t x) (fits t y && (fits t z && true)) xyz in
     record {
       meets = record {
         p = p;
         q = q;
         above_zero = omega (arith, ints);
-        x = within p q f.x d.x b.lo.x b.hi.x (first_of (fits t x) (fits t y && (fits t z && true)) xyz);
-        y = within p q f.y d.y b.lo.y b.hi.y (first_of (fits t y) (fits t z && true) yz);
-        z = within p q f.z d.z b.lo.z b.hi.z (first_of (fits t z) true (second_of (fits t y) (fits t z && true) yz));
+        x = within p q f.x d.x b.lo.x b.hi.x (and_left (fits t x) (fits t y && (fits t z && true)) xyz);
+        y = within p q f.y d.y b.lo.y b.hi.y (and_left (fits t y) (fits t z && true) yz);
+        z = within p q f.z d.z b.lo.z b.hi.z (and_left (fits t z) true (and_right (fits t y) (fits t z && true) yz));
       };
       num_is = refl;
       den_is = refl;
@@ -78,9 +79,9 @@ seg_law a c b = (
       let t : Found (fits_seg (slabs_of a (displacement a c) b)) = found_among (fits_seg (slabs_of a (displacement a c) b))
       (slabs_of a (displacement a c) b) e in
       let n : Numbers a (displacement a c) b t.place.num t.place.den = numbers a (displacement a c) b t.place.num t.place.den t.above_zero
-      (second_of (int_le t.place.num t.place.den) (fits_ray (slabs_of a (displacement a c) b) t.place) t.passes) in
+      (and_right (int_le t.place.num t.place.den) (fits_ray (slabs_of a (displacement a c) b) t.place) t.passes) in
       let le : t.place.num ≤ℤ t.place.den =
-      le_of_test t.place.num t.place.den (first_of (int_le t.place.num t.place.den) (fits_ray (slabs_of a (displacement a c) b) t.place) t.passes) in
+      le_of_test t.place.num t.place.den (and_left (int_le t.place.num t.place.den) (fits_ray (slabs_of a (displacement a c) b) t.place) t.passes) in
       record {
         ahead = n.meets;
         at_most_one = let e : pos n.meets.p ≡ t.place.num = n.num_is in let f : pos n.meets.q ≡ t.place.den = n.den_is in

@@ -11,7 +11,7 @@ use Rattle.ray_slabs.specs.First.{entries, entries_by, latest, first}
 use Rattle.ray_slabs.specs.Mirrored.{at_most}
 use Rattle.ray_slabs.specs.Law.{RayMeetsFirst}
 use Rattle.ray_slabs.proofs.Order.{le_of_test}
-use Rattle.ray_slabs.proofs.Passing.{first_of, second_of}
+use Rattle.fixed_box.proofs.Bools.{and_left, and_right}
 use Rattle.ray_slabs.proofs.Candidates.{Found, found_among, from_start, start}
 use Rattle.ray_slabs.proofs.Entering.{greatest_above_zero, to_bound, all_entries_above_zero, all_entered, one_of}
 use Rattle.ray_slabs.proofs.Pairs.{first_fits}
@@ -21,8 +21,8 @@ use Rattle.ray_slabs.proofs.Meeting.{Numbers, numbers, fitted}
 no_sooner : (ss : List Slab) (t : Fraction) → pos 0 <ℤ t.den → fits_ray ss t ≡ true → at_most (latest start ss) t ≡ true
 no_sooner ss t ht f =
     to_bound start (flat_map entries ss) t (omega (arith, ints)) (all_entries_above_zero ss)
-    (from_start t ∙ first_of (int_le (pos 0) t.num) (list_all (fits t) ss) f)
-    (all_entered ss t (second_of (int_le (pos 0) t.num) (list_all (fits t) ss) f))
+    (from_start t ∙ and_left (int_le (pos 0) t.num) (list_all (fits t) ss) f)
+    (all_entered ss t (and_right (int_le (pos 0) t.num) (list_all (fits t) ss) f))
 
 -- in whole numbers from 0 on
 in_naturals : (p q p' q' : ℕ) (num den : ℤ) → pos p ≡ num → pos q ≡ den → (num *ℤ pos q') ≤ℤ (pos p' *ℤ den) → p * q' ≤ p' * q

@@ -3,7 +3,9 @@ use Rattle.std.proofs.Common.{◌≡◌, ◌∙◌, ◌+◌, ◌*◌, true, fals
 use Rattle.std.proofs.lemmas.Int.{ints}
 use borrow.Author.Differences.{up, down, product_is, neg_is}
 use Rattle.ray_slabs.specs.Crossing.{Fraction}
-pub use Rattle.ray_slabs.specs.ProductLaws.{sub_mul, add_mul, sub_mul_sub, mul_swap, same_test, scaled, unscaled, le_of_test, test_of_le, same_le}
+pub use Rattle.fixed_box.proofs.Bools.{same_bool}
+pub use Rattle.fixed_box.proofs.Numbers.{le_of_test, test_of_le}
+pub use Rattle.ray_slabs.specs.ProductLaws.{sub_mul, add_mul, sub_mul_sub, mul_swap, scaled, unscaled, same_le}
 use Rattle.ray_slabs.specs.Mirrored.{at_most}
 
 -- more laws of products

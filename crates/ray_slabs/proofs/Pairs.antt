@@ -9,7 +9,8 @@ use Rattle.ray_slabs.specs.First.{entries, entries_by, latest}
 use Rattle.ray_slabs.specs.FirstLaws.{test_of_lt}
 use Rattle.ray_slabs.specs.Mirrored.{Axis, mirrored_by, mirrored, enter, leave, at_most, is_ahead, is_on_way}
 use Rattle.ray_slabs.proofs.Order.{scaled, unscaled, le_of_test, test_of_le, by_middle}
-use Rattle.ray_slabs.proofs.Passing.{first_of, second_of, all_of, implied, implied_by_two}
+use Rattle.ray_slabs.proofs.Passing.{all_of, implied, implied_by_two}
+use Rattle.fixed_box.proofs.Bools.{and_left, and_right}
 use Rattle.ray_slabs.proofs.Crossed.{as_mirrored, way_low, come, not_left}
 use Rattle.ray_slabs.proofs.Candidates.{AllAboveZero, start, from_start}
 use Rattle.ray_slabs.proofs.Entering.{greatest_above_zero, from_first, from_each, all_entries_above_zero, one_of}
@@ -59,8 +60,8 @@ on_way t s ht hn hd f =
 ahead_on_way : (s : Slab) → is_on_way (mirrored s) ≡ true → is_ahead (mirrored s) ≡ true
 ahead_on_way s e =
     let a : Axis = mirrored s in
-    let le : a.near ≤ℤ a.way = le_of_test a.near a.way (second_of (int_le (pos 0) a.far) (int_le a.near a.way) e) in
-    all_of (int_le (pos 0) a.far) (int_lt (pos 0) a.way || int_le a.near (pos 0)) (first_of (int_le (pos 0) a.far) (int_le a.near a.way) e)
+    let le : a.near ≤ℤ a.way = le_of_test a.near a.way (and_right (int_le (pos 0) a.far) (int_le a.near a.way) e) in
+    all_of (int_le (pos 0) a.far) (int_lt (pos 0) a.way || int_le a.near (pos 0)) (and_left (int_le (pos 0) a.far) (int_le a.near a.way) e)
     (starts_in a.near a.way (pos 1) (pos 1) (omega (arith, ints)) (way_low s) (omega (arith, ints)))
 
 -- Each two slabs overlap: each one is entered no later than each is left.
@@ -83,15 +84,15 @@ each_entry P s (negsuc n) es h all = (h, all)
 all_entries : (T : Fraction → Bool) (ss : List Slab) → list_all (λ s. T (enter (mirrored s))) ss ≡ true → AllByRecursion (λ t. T t ≡ true) (flat_map entries ss)
 all_entries T [] e = tt
 all_entries T (s ∷ ss) e =
-    each_entry (λ t. T t ≡ true) s s.dir (flat_map entries ss) (first_of (T (enter (mirrored s))) (list_all (λ s. T (enter (mirrored s))) ss) e)
-    (all_entries T ss (second_of (T (enter (mirrored s))) (list_all (λ s. T (enter (mirrored s))) ss) e))
+    each_entry (λ t. T t ≡ true) s s.dir (flat_map entries ss) (and_left (T (enter (mirrored s))) (list_all (λ s. T (enter (mirrored s))) ss) e)
+    (all_entries T ss (and_right (T (enter (mirrored s))) (list_all (λ s. T (enter (mirrored s))) ss) e))
 
 -- Where the slabs overlap by pairs, the line has left none when it has come to the last.
 in_time : (ss : List Slab) (b : Slab) → is_ahead (mirrored b) ≡ true → list_all (λ a. at_most (enter (mirrored a)) (leave (mirrored b))) ss ≡ true
     → at_most (latest start ss) (leave (mirrored b)) ≡ true
 in_time ss b h pairs =
     let m : Axis = mirrored b in
-    let far : pos 0 ≤ℤ m.far = le_of_test (pos 0) m.far (first_of (int_le (pos 0) m.far) (int_lt (pos 0) m.way || int_le m.near (pos 0)) h) in
+    let far : pos 0 ≤ℤ m.far = le_of_test (pos 0) m.far (and_left (int_le (pos 0) m.far) (int_lt (pos 0) m.way || int_le m.near (pos 0)) h) in
     one_of (λ t. at_most t (leave m) ≡ true) start (flat_map entries ss) (test_of_le (pos 0 *ℤ m.way) (m.far *ℤ pos 1) (omega (arith, ints)))
     (all_entries (λ t. at_most t (leave m)) ss pairs)
 
@@ -100,11 +101,11 @@ come_by : (s : Slab) (d : ℤ) (t : Fraction) → pos 0 <ℤ t.den → is_ahead 
     → at_most (enter (mirrored_by d s)) t ≡ true
 come_by s (pos zero) t ht h past =
     let near : ℤ = s.lo -ℤ s.from in
-    let le : near ≤ℤ pos 0 = le_of_test near (pos 0) (second_of (int_le (pos 0) (s.hi -ℤ s.from)) (int_le near (pos 0)) h) in
+    let le : near ≤ℤ pos 0 = le_of_test near (pos 0) (and_right (int_le (pos 0) (s.hi -ℤ s.from)) (int_le near (pos 0)) h) in
     let down : (near *ℤ t.den) ≤ℤ (pos 0 *ℤ t.den) = scaled near (pos 0) t.den (omega (arith, ints)) le in
     test_of_le (near *ℤ t.den) (t.num *ℤ pos 0) (omega (arith, ints))
-come_by s (pos (suc n)) t ht h past = first_of (at_most (enter (mirrored_by (pos (suc n)) s)) t) true past
-come_by s (negsuc n) t ht h past = first_of (at_most (enter (mirrored_by (negsuc n) s)) t) true past
+come_by s (pos (suc n)) t ht h past = and_left (at_most (enter (mirrored_by (pos (suc n)) s)) t) true past
+come_by s (negsuc n) t ht h past = and_left (at_most (enter (mirrored_by (negsuc n) s)) t) true past
 
 all_in : (ss : List Slab) (t : Fraction) → pos 0 <ℤ t.den → list_all (λ s. is_ahead (mirrored s)) ss ≡ true
     → list_all (λ e. at_most e t) (flat_map entries ss) ≡ true → list_all (λ s. at_most t (leave (mirrored s))) ss ≡ true → list_all (fits t) ss ≡ true
@@ -112,14 +113,14 @@ all_in [] t ht h past left = refl
 all_in (s ∷ ss) t ht h past left =
     let both : (list_all (λ e. at_most e t) (entries s) && list_all (λ e. at_most e t) (flat_map entries ss)) ≡ true =
     sym (list_all-append (λ e. at_most e t) (entries s) (flat_map entries ss)) ∙ past in
-    let own : at_most (enter (mirrored s)) t ≡ true = come_by s s.dir t ht (first_of (is_ahead (mirrored s)) (list_all (λ s. is_ahead (mirrored s)) ss) h)
-    (first_of (list_all (λ e. at_most e t) (entries s)) (list_all (λ e. at_most e t) (flat_map entries ss)) both) in
+    let own : at_most (enter (mirrored s)) t ≡ true = come_by s s.dir t ht (and_left (is_ahead (mirrored s)) (list_all (λ s. is_ahead (mirrored s)) ss) h)
+    (and_left (list_all (λ e. at_most e t) (entries s)) (list_all (λ e. at_most e t) (flat_map entries ss)) both) in
     all_of (fits t s) (list_all (fits t) ss)
     (as_mirrored t s ∙ all_of (at_most (enter (mirrored s)) t) (at_most t (leave (mirrored s))) own
-    (first_of (at_most t (leave (mirrored s))) (list_all (λ s. at_most t (leave (mirrored s))) ss) left))
-    (all_in ss t ht (second_of (is_ahead (mirrored s)) (list_all (λ s. is_ahead (mirrored s)) ss) h)
-    (second_of (list_all (λ e. at_most e t) (entries s)) (list_all (λ e. at_most e t) (flat_map entries ss)) both)
-    (second_of (at_most t (leave (mirrored s))) (list_all (λ s. at_most t (leave (mirrored s))) ss) left))
+    (and_left (at_most t (leave (mirrored s))) (list_all (λ s. at_most t (leave (mirrored s))) ss) left))
+    (all_in ss t ht (and_right (is_ahead (mirrored s)) (list_all (λ s. is_ahead (mirrored s)) ss) h)
+    (and_right (list_all (λ e. at_most e t) (entries s)) (list_all (λ e. at_most e t) (flat_map entries ss)) both)
+    (and_right (at_most t (leave (mirrored s))) (list_all (λ s. at_most t (leave (mirrored s))) ss) left))
 
 pub latest_above_zero : (ss : List Slab) → pos 0 <ℤ (latest start ss).den
 latest_above_zero ss = greatest_above_zero start (flat_map entries ss) (omega (arith, ints)) (all_entries_above_zero ss)
@@ -142,12 +143,12 @@ latest_fits_seg ss h pairs =
     (one_of (λ t. int_le t.num t.den ≡ true) start (flat_map entries ss) refl
     (all_entries (λ t. int_le t.num t.den) ss
     (implied (λ s. is_on_way (mirrored s)) (λ s. int_le (mirrored s).near (mirrored s).way)
-    (λ s e. second_of (int_le (pos 0) (mirrored s).far) (int_le (mirrored s).near (mirrored s).way) e) ss h)))
+    (λ s e. and_right (int_le (pos 0) (mirrored s).far) (int_le (mirrored s).near (mirrored s).way) e) ss h)))
     (latest_fits ss (implied (λ s. is_on_way (mirrored s)) (λ s. is_ahead (mirrored s)) ahead_on_way ss h) pairs)
 
 -- Where some fraction fits, the greatest does.
 pub first_fits : (ss : List Slab) (t : Fraction) → pos 0 <ℤ t.den → fits_ray ss t ≡ true → fits_ray ss (latest start ss) ≡ true
 first_fits ss t ht f =
-    let hn : pos 0 ≤ℤ t.num = le_of_test (pos 0) t.num (first_of (int_le (pos 0) t.num) (list_all (fits t) ss) f) in
-    let all : list_all (fits t) ss ≡ true = second_of (int_le (pos 0) t.num) (list_all (fits t) ss) f in
+    let hn : pos 0 ≤ℤ t.num = le_of_test (pos 0) t.num (and_left (int_le (pos 0) t.num) (list_all (fits t) ss) f) in
+    let all : list_all (fits t) ss ≡ true = and_right (int_le (pos 0) t.num) (list_all (fits t) ss) f in
     latest_fits ss (implied (fits t) (λ s. is_ahead (mirrored s)) (λ s. ahead t s ht hn) ss all) (pairs_of ss t ht all)

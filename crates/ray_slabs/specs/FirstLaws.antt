@@ -8,7 +8,8 @@ use Rattle.std.proofs.lemmas.Int.{ints, clamps, by_lt_z}
 use Rattle.std.proofs.lemmas.Cmp.{int_cmp_total, int_ranked}
 use Rattle.ray_slabs.specs.Crossing.{Fraction}
 use Rattle.ray_slabs.specs.First.{weight, value_cmp}
-use Rattle.ray_slabs.specs.ProductLaws.{scaled, unscaled, mul_swap, same_test}
+use Rattle.ray_slabs.specs.ProductLaws.{scaled, unscaled, mul_swap}
+use Rattle.fixed_box.proofs.Bools.{same_bool}
 
 pub weight_above : (t : Fraction) → pos 0 <ℤ weight t
 weight_above t = omega (arith, ints, clamps)
@@ -28,7 +29,7 @@ unscaled_lt a b k h lt = by_lt_z a b (λ l. l) (λ g. let back : (b *ℤ k) ≤�
 
 lt_test : (a b k : ℤ) → pos 0 <ℤ k → int_lt (a *ℤ k) (b *ℤ k) ≡ int_lt a b
 lt_test a b k h =
-    same_test (int_lt (a *ℤ k) (b *ℤ k)) (int_lt a b) (λ u. test_of_lt a b (unscaled_lt a b k h (lt_of_test (a *ℤ k) (b *ℤ k) u)))
+    same_bool (int_lt (a *ℤ k) (b *ℤ k)) (int_lt a b) (λ u. test_of_lt a b (unscaled_lt a b k h (lt_of_test (a *ℤ k) (b *ℤ k) u)))
     (λ u. test_of_lt (a *ℤ k) (b *ℤ k) (scaled_lt a b k h (lt_of_test a b u)))
 
 pub scaled_cmp : (a b k : ℤ) → pos 0 <ℤ k → int_cmp (a *ℤ k) (b *ℤ k) ≡ int_cmp a b

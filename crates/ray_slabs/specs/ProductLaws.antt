@@ -1,9 +1,11 @@
 -- Serves proofs alone: products over the whole numbers, in an order and under a swap.
-use Rattle.std.proofs.Common.{◌≡◌, refl, sym, ap, ◌∙◌, ◌+◌, ◌*◌, Bool, true, false, ℤ, pos, negsuc, ◌+ℤ◌, ◌-ℤ◌, ◌*ℤ◌, ◌≤ℤ◌, ◌<ℤ◌, int_le, arith}
+use Rattle.std.proofs.Common.{◌≡◌, ap, ◌∙◌, ◌+◌, ◌*◌, ℤ, pos, negsuc, ◌+ℤ◌, ◌-ℤ◌, ◌*ℤ◌, ◌≤ℤ◌, ◌<ℤ◌, int_le, arith}
 use Rattle.std.proofs.lemmas.Int.{ints}
 use Rattle.std.proofs.Math.IntN.{*ℤ_comm}
 use Rattle.std.proofs.Math.Nat.{mul-le-mul_left, le_of_mul-le-mul_left}
 use borrow.Author.Differences.{up, down, le_out, at_most_in, same_in, product_is}
+use Rattle.fixed_box.proofs.Bools.{same_bool}
+use Rattle.fixed_box.proofs.Numbers.{test_of_le, le_of_test}
 
 -- the laws of products that `omega` lacks
 pub sub_mul : (a b k : ℤ) → (a -ℤ b) *ℤ k ≡ a *ℤ k -ℤ b *ℤ k
@@ -31,13 +33,6 @@ mul_swap a b c =
     λ x y z. (product_is (x *ℤ y) z).1 ∙ (λ i. (product_is x y).0 i * down z + (product_is x y).1 i * up z) in
     same_in ((a *ℤ b) *ℤ c) ((a *ℤ c) *ℤ b) (omega (arith, ups a b c, ups a c b, downs a b c, downs a c b))
 
--- tests that pass together are one
-pub same_test : (x y : Bool) → (x ≡ true → y ≡ true) → (y ≡ true → x ≡ true) → x ≡ y
-same_test true true f g = refl
-same_test true false f g = sym (f refl)
-same_test false true f g = g refl
-same_test false false f g = refl
-
 -- a factor above 0 keeps an order, and can be taken away
 pub scaled : (a b k : ℤ) → pos 0 ≤ℤ k → a ≤ℤ b → (a *ℤ k) ≤ℤ (b *ℤ k)
 scaled a b (pos n) h le = omega (arith, ints, mul-le-mul_left n (le_out a b le))
@@ -47,14 +42,7 @@ pub unscaled : (a b k : ℤ) → pos 0 <ℤ k → (a *ℤ k) ≤ℤ (b *ℤ k) �
 unscaled a b (pos n) h le = at_most_in a b (le_of_mul-le-mul_left {k = n} (omega (arith, ints)) (omega (arith, ints)))
 unscaled a b (negsuc n) h le = absurd (omega (arith, ints))
 
--- a test that passes, and what it says
-pub le_of_test : (a b : ℤ) → int_le a b ≡ true → a ≤ℤ b
-le_of_test a b e = omega (arith, ints)
-
-pub test_of_le : (a b : ℤ) → a ≤ℤ b → int_le a b ≡ true
-test_of_le a b h = sym (omega (arith, ints))
-
 -- equal differences have one test
 pub same_le : (a b c d : ℤ) → (b -ℤ a) ≡ (d -ℤ c) → int_le a b ≡ int_le c d
-same_le a b c d e = same_test (int_le a b) (int_le c d) (λ h. test_of_le c d (omega (arith, ints, le_of_test a b h)))
+same_le a b c d e = same_bool (int_le a b) (int_le c d) (λ h. test_of_le c d (omega (arith, ints, le_of_test a b h)))
     (λ h. test_of_le a b (omega (arith, ints, le_of_test c d h)))

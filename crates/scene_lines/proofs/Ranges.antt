@@ -1,11 +1,12 @@
 -- Ranges of a buffer, and bytes known to come.
-use Rattle.std.proofs.Common.{◌≡◌, ℕ, ◌+◌, ◌-◌, ◌≤◌, min, List, ◌++◌, length, take, drop, refl, ⊎_elim, sym, ap, ◌∙◌, arith, Some, None, slice_range}
+use Rattle.std.proofs.Common.{◌≡◌, ℕ, ◌+◌, ◌-◌, ◌≤◌, min, List, ◌++◌, length, take, drop, refl, ⊎_elim, sym, ap, ◌∙◌, arith, slice_range}
 use Rattle.std.proofs.Common.{append-nil}
 use Rattle.std.specs.Prelude.{Option}
 use Rattle.std.specs.Io.KnownBytes.{prepend_known}
-use Rattle.std.proofs.lemmas.List.{take-take, drop-drop, drop-take, append_assoc, take-append-drop, length-take, take_all, drop_all, take_at}
+use Rattle.std.proofs.lemmas.List.{take-take, drop-drop, drop-take, take-append-drop, length-take, take_all, drop_all, take_at}
 use Rattle.std.proofs.lemmas.Bool.{cases_lt}
 use Rattle.std.proofs.lemmas.Slice.{between_is}
+use Rattle.fixed_box.proofs.Lists.{prepend_known-append}
 
 -- the front of a range
 pub range_front : (xs : List ℕ) (at end n : ℕ) → at + n ≤ end → slice_range xs at (at + n) ≡ take n (slice_range xs at end)
@@ -49,11 +50,6 @@ pub range_through : (items old₁ new₁ old₂ new₂ past : List ℕ) (n start
 range_through items old₁ new₁ old₂ new₂ past n start stop from to end first len₁ moved second len₂ kept within =
     let front : take end new₂ ≡ take end new₁ = kept ∙ ap (take end) (second ∙ take_at new₁ (drop (length new₁) items) n len₁) in
     rw (take_at new₂ past n len₂) (range_kept new₂ new₁ end from to within front ∙ moved ∙ ap (λ xs. slice_range xs start stop) first)
-
--- what comes is held in part
-pub prepend_known-append : (xs ys : List ℕ) (left : Option (List ℕ)) → prepend_known (xs ++ ys) left ≡ prepend_known xs (prepend_known ys left)
-prepend_known-append xs ys None = refl
-prepend_known-append xs ys (Some zs) = ap Some (append_assoc xs ys zs)
 
 -- what is read goes behind the bytes held
 pub range_read : (xs held : List ℕ) (at end n : ℕ) → at ≤ end → slice_range xs at end ≡ held → slice_range xs at (end + n) ≡ held ++ take n (drop end xs)

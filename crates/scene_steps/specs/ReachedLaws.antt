@@ -30,6 +30,7 @@ use Rattle.scene_steps.specs.declared.step.Step.{Step}
 use Rattle.scene_steps.specs.declared.step.Step.TheVariants as what
 use Rattle.scene_steps.specs.Step.{step_for, Line, IsStepOf, IsPast, IsAhead}
 use Rattle.scene_steps.specs.Reached.{IsReached, IsTextOf}
+use Rattle.fixed_box.proofs.Lists.{prepend_known-append}
 
 -- a command that passes before a header passes there again
 kept_first : (live : ℕ) (said : Result Command LineFault)
@@ -110,11 +111,6 @@ asked : (version : Option Version) (live limit n : ℕ) (bytes : List ℕ) (s : 
     → within_limits limit n (line_ahead bytes) (unless_full live (readable version (line_ahead bytes))) ≡ said_by s
 asked version live limit n bytes s next =
     said_of_step n (within_limits limit n (line_ahead bytes) (unless_full live (readable version (line_ahead bytes)))) ∙ ap said_by (sym next.is)
-
--- the bytes of two parts come as those of the first before the others
-in_parts : (front back : List ℕ) (left : Option (List ℕ)) → prepend_known (front ++ back) left ≡ prepend_known front (prepend_known back left)
-in_parts front back None = refl
-in_parts front back (Some l) = ap Some (append_assoc front back l)
 
 feeds_joined : (xs ys : List ℕ) → count_by is_feed (xs ++ ys) ≡ count_by is_feed xs + count_by is_feed ys
 feeds_joined xs ys = sum_by-append (λ b. cond {A = ℕ} (is_feed b) 1 0) xs ys
@@ -266,14 +262,14 @@ module _ {W : Type 0} {course : Course W} {play : List (List ℕ) → Played} {l
           ends.0,
           ends.1,
           read_up_to n given reached.front behind now (ap Some reached.split ∙ ap (prepend_known reached.front) (sym reached.coming ∙ ahead.split)
-              ∙ sym (in_parts reached.front behind now)) reached.feeds short,
+              ∙ sym (prepend_known-append reached.front behind now)) reached.feeds short,
         )
 
   -- what was taken behind the bytes of the lines that were read, where nothing was handed out
   kept_behind : (later : List ℕ) (now : Option (List ℕ)) → coming later now ≡ coming held left
       → Some given ≡ prepend_known (reached.front ++ later) now
   kept_behind later now kept =
-      ap Some reached.split ∙ ap (prepend_known reached.front) (sym (kept ∙ reached.coming)) ∙ sym (in_parts reached.front later now)
+      ap Some reached.split ∙ ap (prepend_known reached.front) (sym (kept ∙ reached.coming)) ∙ sym (prepend_known-append reached.front later now)
 
   -- a read that fails: the replies to the lines that ended, each of which passed
   pub read_failed : (later : List ℕ) (now : Option (List ℕ)) → coming later now ≡ coming held left → lines later false ≡ [] → over ≡ false

@@ -1,14 +1,13 @@
 -- What a line says lies within the ranges of its parts.
 use Rattle.std.proofs.Common.{◌≡◌, ℕ, ◌<◌, ◌≤◌, ◌^◌, Bool, true, false, cond, ◌&&◌, nat_le, nat_eq, List, [], ◌∷◌, length}
 use Rattle.std.proofs.Common.{arith}
-use Rattle.std.proofs.Common.{ℤ, pos, negsuc, neg_ℤ, ◌≤ℤ◌, int_le, Option, Some, None, Result, Ok, Err, refl, ap, subst, ◌∙◌}
+use Rattle.std.proofs.Common.{ℤ, pos, negsuc, neg_ℤ, int_le, Option, Some, None, Result, Ok, Err, refl, ap, subst, ◌∙◌}
 use Rattle.std.specs.Char.{is_digit, digit_value}
 use Rattle.std.specs.List.{list_all, before_first, after_first}
 use Rattle.std.specs.Str.Parse.{AllDigits, digits_value}
 use Rattle.std.proofs.Math.Nat.{pow-le-pow_right}
 use Rattle.std.proofs.lemmas.Bool.{and_parts}
 use Rattle.std.proofs.lemmas.Bool.Decides.{nat_tests}
-use Rattle.std.proofs.lemmas.Int.{ints}
 use Rattle.std.proofs.lemmas.Int.Digits.{digits_value-lt}
 use Rattle.fixed_box.specs.Bounds.{Bounds}
 use Rattle.fixed_box.specs.declared.TheConstants.{SLOTS}
@@ -38,18 +37,12 @@ use Rattle.scene_words.specs.Tails.{Tail, tail_of, counted}
 use Rattle.scene_words.specs.Values.{line_number, number_of_word, is_numeral, index_of_digits, is_colon, handle_from, handle_of_word, mask_of_word, index_or}
 use Rattle.scene_words.specs.Values.{owner_of_word, want_within, want_of_word}
 use Rattle.scene_words.specs.Verbs.{verb_of, since, reaches, allows, version_of}
+use Rattle.fixed_box.proofs.Numbers.{at_least, at_most}
 
 -- reading that goes on hasn't failed
 bind_ok : {A B : Type 0} (r : Result A LineFault) (f : A → Result B LineFault) (y : B) → (r >>= f) ≡ Ok y → (x : A) × (r ≡ Ok x) × (f x ≡ Ok y)
 bind_ok (Ok x) f y h = (x, refl, h)
 bind_ok (Err e) f y h = absurd (cc)
-
--- a number
-at_least : (x : ℤ) → int_le (negsuc 2147483647) x ≡ true → negsuc 2147483647 ≤ℤ x
-at_least x h = omega (arith, ints)
-
-at_most : (x : ℤ) → int_le x (pos 2147483647) ≡ true → x ≤ℤ pos 2147483647
-at_most x h = omega (arith, ints)
 
 within_raw : (n r : ℤ) → within_range n ≡ Ok r → IsRaw r
 within_raw n r h = by_tests (int_le (negsuc 2147483647) n) (int_le n (pos 2147483647)) refl refl h

@@ -25,6 +25,7 @@ use Rattle.scene_words.specs.SceneWords.{words, first_as, number_at, handle_at, 
 use Rattle.scene_words.specs.Fronts.{in_word, Leads}
 use Rattle.scene_words.proofs.FirstPlaces.{before_at, after_at}
 use Rattle.scene_words.proofs.WordSplits.{words_ahead}
+use Rattle.fixed_box.proofs.Lists.{drop_none}
 
 -- bytes above the hash belong to a word
 abbrev pub IsHigh : ℕ → Type 0
@@ -192,10 +193,6 @@ high_name (b ∷ bs) all =
     let parts = and_parts (nat_le 36 b) (list_all (nat_le 36) bs) all in
     let high : 36 ≤ b = (let test = parts.0 in grind (arith, nat_tests)) in
     All-cons IsHigh b bs high (high_name bs parts.1)
-
-drop_none : (text : List ℕ) → drop 0 text ≡ text
-drop_none [] = refl
-drop_none (b ∷ bs) = refl
 
 -- a line that begins with the name of a verb
 verb_words : (line rest name : List ℕ) → 0 < length name → list_all (nat_le 36) name ≡ true → length name ≤ length line → bytes_at line 0 name

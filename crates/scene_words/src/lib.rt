@@ -3,22 +3,22 @@
 
 mod command;
 mod examples;
-mod front_commands;
-mod front_fields;
 mod laws;
-mod line_commands;
 mod line_fault;
 mod line_words;
+mod one_pass;
+mod one_pass_fields;
 mod printing;
 mod tails;
 mod values;
 mod verb;
 mod version;
+mod word_by_word;
 
 pub use command::Command;
 pub use laws::read_in_range;
-pub use line_commands::read_command;
 pub use line_fault::LineFault;
 pub use printing::{print_command, printed_reads_back};
 pub use values::numeral;
 pub use version::Version;
+pub use word_by_word::read_command;

@@ -11,7 +11,7 @@ ghost use Rattle.scene_words.specs.Ranges.{IsRaw, IsRawVector, IsRawBox, IsHandl
 ghost use Rattle.text_line.specs.declared.TheConstants.{ROOM};
 
 use crate::Command;
-use crate::line_commands::version_word;
+use crate::word_by_word::version_word;
 use fixed_box::{FBox, Fix, NoMemory, Point, print_fix};
 use live_table::{Group, Handle, Masks};
 use ray_slabs::WPoint;

@@ -4,7 +4,6 @@ use Rattle.std.proofs.Common.{◌∷◌, length, get_or, set, Option, None, Some
 use Rattle.std.specs.Ordering.{nat_cmp, is_lt, is_eq, eq_by_cmp}
 use Rattle.std.specs.Cmp.{ranked}
 use Rattle.std.specs.declared.cmp.Ordering.TheVariants.{Less, Equal, Greater}
-use Rattle.std.specs.Cmp.{nat_cmp_is}
 use Rattle.std.specs.FinMap.{entries, entries-from_sorted, is_sorted, find, get, empty, insert}
 use Rattle.std.specs.FinMap.{remove, get-insert, get-remove, get-from_sorted, get-empty, same_map, nat_cmp-IsAntisymmetric}
 use Rattle.std.specs.FinMap.Entries.{below_all}
@@ -12,19 +11,11 @@ use Rattle.std.proofs.lemmas.Cmp.{nat_cmp_total}
 use Rattle.std.proofs.lemmas.Bool.{cases_eq}
 use Rattle.std.proofs.lemmas.List.{get_or-set_same, get_or-set_other}
 use Rattle.slot_lists.specs.SlotMap.{entries_from, map_of}
+use Rattle.fixed_box.proofs.Numbers.{less, equal, greater}
 
 both_T : (a b : Bool) → T a → T b → T (a && b)
 both_T true b h g = g
 both_T false b h g = h
-
-less : (x y : ℕ) → x < y → nat_cmp x y ≡ Less
-less x y lt = sym (nat_cmp_is x y Less lt)
-
-greater : (x y : ℕ) → y < x → nat_cmp x y ≡ Greater
-greater x y lt = sym (nat_cmp_is x y Greater lt)
-
-equal : (x y : ℕ) → x ≡ y → nat_cmp x y ≡ Equal
-equal x y e = sym (nat_cmp_is x y Equal e)
 
 pub tie_same : (q i : ℕ) → q ≡ i → eq_by_cmp nat_cmp q i ≡ true
 tie_same q i e = rw (equal q i e) refl

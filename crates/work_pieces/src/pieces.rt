@@ -82,7 +82,14 @@ pub fn by_runs<
         only.push(do_piece(items, size, 0, gate, answer)?)?;
         return Ok(only);
     }
-    answer_pieces(rt, alloc, items, size, count, gate, answer)
+    answer_pieces(rt, alloc, items, Cut { size, count }, gate, answer)
+}
+
+// How a list is cut: how many items a piece has, but for the last one, and how many pieces there are.
+#[derive(Clone, Copy)]
+struct Cut {
+    size: usize,
+    count: u32,
 }
 
 // How many items a piece has, but for the last one.
@@ -103,7 +110,7 @@ fn piece_count(items: usize, size: usize) -> u32
     items.div_ceil(size) as u32
 }
 
-// Answers the first pieces of a list, as many as counted, in their order, each by a thread of its own. The caller starts them
+// Answers the first pieces of a list, as many as the cut counts, in their order, each by a thread of its own. The caller starts them
 // all: where a thread that has just started starts another one, the two are often put on one processor. And it does no piece
 // itself: as often one of the threads is put on its processor, and begins only when the caller waits (both measured).
 #[cycle(counted)]
@@ -113,19 +120,12 @@ fn answer_pieces<
     X: Send + Drop,
     F: Fn(&[T]) -> Result<X, NoMemory> + Sync,
     G: Gate + Sync,
->(
-    rt: &R,
-    alloc: Global,
-    items: &[T],
-    size: usize,
-    count: u32,
-    gate: &G,
-    answer: &F,
-) -> Result<Vec<X>, NoMemory>
-    requires begin { (n : ℕ) → n < count → n * size < length items.now }
+>(rt: &R, alloc: Global, items: &[T], cut: Cut, gate: &G, answer: &F) -> Result<Vec<X>, NoMemory>
+    requires begin { (n : ℕ) → n < cut.count → n * cut.size < length items.now }
     requires accepts { AcceptsRuns F.Fn answer.now items.now }
-    ensures { IfOk result (λ answers. Each (Gives F.Fn answer.now) (chunks_to size items.now count) answers.items) }
+    ensures { IfOk result (λ answers. Each (Gives F.Fn answer.now) (chunks_to cut.size items.now cut.count) answers.items) }
 {
+    let Cut { size, count } = cut;
     if count == 0 {
         return Ok(Vec::new(alloc));
     }
@@ -138,7 +138,7 @@ fn answer_pieces<
         requires { IsSync R.row × IsSync T.row × IsSync F.row × IsSync G.row × IsSend X.row
             × ((n : ℕ) → n < last → n * size < length items.now) × AcceptsRuns F.Fn answer.now items.now }
         ensures { IfOk result (λ answers. Each (Gives F.Fn answer.entry.now) (chunks_to size items.entry.now last) answers.items) }
-    { answer_pieces(rt, alloc, items, size, last, gate, answer) };
+    { answer_pieces(rt, alloc, items, Cut { size, count: last }, gate, answer) };
     let (one, before) = join(rt, there, here);
     let mut all = before?;
     all.push(one?)?;

@@ -5,7 +5,7 @@ use Rattle.fixed_box.specs.Bounds.{Bounds}
 use Rattle.fixed_box.specs.declared.point.Point.{Point}
 use Rattle.ray_slabs.specs.Crossing.{Fraction, in_ray}
 use Rattle.ray_slabs.specs.First.{first}
-use Rattle.ray_slabs.specs.ProductLaws.{test_of_le}
+use Rattle.fixed_box.proofs.Numbers.{test_of_le}
 use Rattle.ray_slabs.specs.Vector.{Vector, widened}
 use Rattle.ray_slabs.specs.WideBounds.{WideBounds}
 use Rattle.box_cast.specs.Cast.{in_cast, first_contact, IsSameValue}

@@ -1,16 +1,14 @@
 -- A cell of this step, or one of an earlier step.
-use Rattle.std.proofs.Common.{◌≡◌, ◌++◌, [], length, ap, sym, ◌∙◌, true, inl, inr, ◌⊎◌, arith, append-nil, append_assoc, vec_len, take, w32, to_z}
+use Rattle.std.proofs.Common.{◌≡◌, ◌++◌, [], length, ap, sym, ◌∙◌, true, inl, inr, arith, append-nil, append_assoc, vec_len, take, w32, to_z}
 use Rattle.std.proofs.lemmas.Bool.{or_cases, false≢true}
 use Rattle.std.proofs.lemmas.Int.{ints}
 use Rattle.std.proofs.lemmas.List.{take-append-le, take_all, length-take}
-use Rattle.std.specs.Prelude.{ℤ, pos, ◌+ℤ◌, ◌<ℤ◌}
+use Rattle.std.specs.Prelude.{ℤ}
 use Rattle.cell_table.specs.Cells.{has}
 use Rattle.cell_table.specs.Kept.{IsLinked, ring_of}
 use Rattle.cell_table.proofs.RingLemmas.{has_append, has_left, has_right}
+use Rattle.fixed_box.proofs.Numbers.{int_next}
 use Rattle.cell_table.proofs.cells.push_row.Goals as goal
-
-below_next : (z y n : ℤ) → n ≡ (y +ℤ pos 1) → z <ℤ n → (z <ℤ y) ⊎ (z ≡ y)
-below_next z y n e lt = grind (arith, ints)
 
 pub row-init : goal.row-init
 row-init c = record {
@@ -34,7 +32,7 @@ row-preserved c =
       rings = record {
         slots = i.slots ++ ring;
         appended = put ∙ ap (λ l. l ++ ring) i.appended ∙ append_assoc old i.slots ring;
-        whole = λ z s lo lt h. elim (below_next z (to_z w32 c.row.z-bits) _ (omega (arith, ints, c.row-test.true, c.row.auto.z-fits)) lt) as
+        whole = λ z s lo lt h. elim (int_next z (to_z w32 c.row.z-bits) _ (omega (arith, ints, c.row-test.true, c.row.auto.z-fits)) lt) as
             (λ _. has (i.slots ++ ring) s ≡ true) [
               | inl below ↦ has_left i.slots ring s (i.whole z s lo below h)
               | inr at ↦ has_right i.slots ring s

@@ -3,7 +3,7 @@ use Rattle.std.proofs.Common.{length, le_refl, true, List, ℕ, subst, sym, fals
 use Rattle.scene_lines.specs.SceneLines.{lines, IsPrefix}
 use Rattle.scene_lines.proofs.Cutting.{lines_first, lines_prefix, lines_ended, lines_open}
 use Rattle.scene_lines.proofs.FeedCount.{one_feed}
-use Rattle.scene_lines.proofs.Ranges.{prepend_known-append}
+use Rattle.fixed_box.proofs.Lists.{prepend_known-append}
 use Rattle.scene_lines.proofs.Settling.{line_ahead_len}
 use Rattle.scene_lines.proofs.laws.line_laws.Goals as goal
 

@@ -10,9 +10,9 @@ use Rattle.work_pieces.proofs.pieces.+counted.Goals as goal
 pub returns : goal.returns
 returns g t c =
     let gives = Gives g.F.Fn c.args.answer.now in
-    let last = c.args.count - 1 in
-    last_piece gives c.args.size c.args.items.now c.args.count last
+    let last = c.args.cut.count - 1 in
+    last_piece gives c.args.cut.size c.args.items.now c.args.cut.count last
     c.in_ok-all.all.items c.push.new.self.items c.in_ok-one.field-0 (omega arith)
-    (IfOk-at_ok (λ answers. Each gives (chunks_to c.args.size c.args.items.now last) answers.items) c.in_ok-all.was c.join-one.ensures.second)
-    (IfOk-at_ok (λ found. gives (slice_chunk c.args.items.now c.args.size last) found) c.in_ok-one.was c.join-one.ensures.first)
+    (IfOk-at_ok (λ answers. Each gives (chunks_to c.args.cut.size c.args.items.now last) answers.items) c.in_ok-all.was c.join-one.ensures.second)
+    (IfOk-at_ok (λ found. gives (slice_chunk c.args.items.now c.args.cut.size last) found) c.in_ok-one.was c.join-one.ensures.first)
     c.in_ok-push.ensures.items
