@@ -1,4 +1,5 @@
-ghost use Rattle.std.specs.Prelude.{◌≡◌, ◌≢◌, ◌≤◌, ◌<◌, ◌↔◌, ◌+◌, ◌^◌, ◌++◌, [], true, false, length, sum, nat_lt, is_some, None, IfOk, IfErr, OnOk, OnErr, Ok, Err};
+ghost use Rattle.std.specs.Prelude.{◌≡◌, ◌≢◌, ◌≤◌, ◌<◌, ◌↔◌, ◌+◌, ◌^◌, ◌++◌, [], true, false, length, sum, nat_lt, is_some, None, IfOk, IfErr, OnOk};
+ghost use Rattle.std.specs.Prelude.{OnErr, Ok, Err};
 ghost use Rattle.fixed_box.specs.declared.TheConstants.{SLOTS};
 ghost use Rattle.live_table.specs.Entries.{entry_at};
 ghost use Rattle.box_world.specs.declared.TheConstants.{MOST_COUNTED, MOST_EXCHANGES};

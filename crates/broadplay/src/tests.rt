@@ -85,11 +85,31 @@ fn written_by_threads<R: Threads + Sync + Abort>(
 ) -> Result<(), Fail> {
     let tree = BoxTree::new(alloc)?;
     played_over(
-        rt, alloc, tree, 4, MOST_LINES, &Threaded, scene, report, status,
+        rt,
+        alloc,
+        tree,
+        &Threaded,
+        Played {
+            workers: 4,
+            lines: MOST_LINES,
+            scene,
+            report,
+            status,
+        },
     )?;
     let grid = HierGrid::new(alloc)?;
     played_over(
-        rt, alloc, grid, 4, MOST_LINES, &Threaded, scene, report, status,
+        rt,
+        alloc,
+        grid,
+        &Threaded,
+        Played {
+            workers: 4,
+            lines: MOST_LINES,
+            scene,
+            report,
+            status,
+        },
     )
 }
 
@@ -730,39 +750,47 @@ fn other_command_lines_touch_nothing(rt: HostRuntime) -> Result<(), Fail> {
     Ok(())
 }
 
-// What a play of at most so many lines over an index writes.
+// A play of at most so many lines, and what it writes.
+#[derive(Clone, Copy)]
+struct Played<'a> {
+    workers: u32,
+    lines: u32,
+    scene: &'a [u8],
+    report: &'a [u8],
+    status: Status,
+}
+
+// What a play over an index writes.
 fn played_over<R: Threads + Sync + Abort, B: BroadPhase + Sync + Drop, G: Gate + Sync>(
     rt: &R,
     alloc: Global,
     index: B,
-    workers: u32,
-    lines: u32,
     gate: &G,
-    scene: &[u8],
-    report: &[u8],
-    status: Status,
+    play_of: Played,
 ) -> Result<(), Fail>
     requires fresh { IsFresh (B.bodies index) (B.spent index) (B.exchanges index) }
-    requires workers { (1 ≤ workers) × (workers ≤ MOST_WORKERS) }
-    requires lines { (1 ≤ lines) × (lines ≤ MOST_LINES) }
+    requires workers { (1 ≤ play_of.workers) × (play_of.workers ≤ MOST_WORKERS) }
+    requires lines { (1 ≤ play_of.lines) × (play_of.lines ≤ MOST_LINES) }
 {
-    let mut source = HonestSource::new(alloc, scene, 5)?;
+    let mut source = HonestSource::new(alloc, play_of.scene, 5)?;
     let mut sink = HonestSink::new(alloc, 5);
     let answer = play(
         rt,
         alloc,
         index,
         Options {
-            workers,
+            workers: play_of.workers,
             exchanges: false,
         },
-        Limits { lines },
+        Limits {
+            lines: play_of.lines,
+        },
         gate,
         &mut source,
         &mut sink,
     );
-    same_bytes(rt, sink.bytes(), report);
-    same_status(rt, answer, status);
+    same_bytes(rt, sink.bytes(), play_of.report);
+    same_status(rt, answer, play_of.status);
     Ok(())
 }
 
@@ -774,9 +802,33 @@ fn played_within<R: Threads + Sync + Abort>(
     status: Status,
 ) -> Result<(), Fail> {
     let plain = PlainIndex::new(alloc)?;
-    played_over(rt, alloc, plain, 1, 3, &NoGate, scene, report, status)?;
+    played_over(
+        rt,
+        alloc,
+        plain,
+        &NoGate,
+        Played {
+            workers: 1,
+            lines: 3,
+            scene,
+            report,
+            status,
+        },
+    )?;
     let tree = BoxTree::new(alloc)?;
-    played_over(rt, alloc, tree, 4, 3, &Threaded, scene, report, status)
+    played_over(
+        rt,
+        alloc,
+        tree,
+        &Threaded,
+        Played {
+            workers: 4,
+            lines: 3,
+            scene,
+            report,
+            status,
+        },
+    )
 }
 
 #[test]
@@ -1178,7 +1230,19 @@ fn two_threads_answer_two_queries(rt: HostRuntime) -> Result<(), Fail> {
     let scene = b"scene 1\nadd 0 0 0 1 1 1\npoint 0 0 0\n\n# next\npoint 9 9 9\n";
     let report = b"add 0:0\npoint 1 0:0\npoint 0\nend 6 0 1\n";
     let done = Status::Done;
-    played_over(&rt, rt.alloc(), index, 2, 9, &gate, scene, report, done)?;
+    played_over(
+        &rt,
+        rt.alloc(),
+        index,
+        &gate,
+        Played {
+            workers: 2,
+            lines: 9,
+            scene,
+            report,
+            status: done,
+        },
+    )?;
     assert_eq!(rt; gate.met(), 2);
     Ok(())
 }
@@ -1190,7 +1254,19 @@ fn two_threads_seek_the_pairs_of_a_frame(rt: HostRuntime) -> Result<(), Fail> {
     let scene = b"scene 1\nadd 0 0 0 1 1 1\nadd 1 0 0 2 1 1\nframe\n";
     let report = b"add 0:0\nadd 1:0\nframe 1 1\nbegin 0:0 1:0\nend 4 1 2\n";
     let done = Status::Done;
-    played_over(&rt, rt.alloc(), index, 2, 9, &gate, scene, report, done)?;
+    played_over(
+        &rt,
+        rt.alloc(),
+        index,
+        &gate,
+        Played {
+            workers: 2,
+            lines: 9,
+            scene,
+            report,
+            status: done,
+        },
+    )?;
     assert_eq!(rt; gate.met(), 2);
     Ok(())
 }
@@ -1227,7 +1303,19 @@ fn entered_by_runs<R: Threads + Sync + Abort>(
     let index = PlainIndex::new(alloc)?;
     let (scene, report) = (scene.as_bytes(), report.as_bytes());
     let done = Status::Done;
-    played_over(rt, alloc, index, 16, 999, &gate, scene, report, done)?;
+    played_over(
+        rt,
+        alloc,
+        index,
+        &gate,
+        Played {
+            workers: 16,
+            lines: 999,
+            scene,
+            report,
+            status: done,
+        },
+    )?;
     assert_eq!(rt; gate.counts(), [2, 1, 14]);
     Ok(())
 }

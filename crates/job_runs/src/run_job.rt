@@ -13,7 +13,7 @@ use hier_grid::HierGrid;
 use job_words::{Job, Structure, Task, read_words};
 use named_index::Named;
 use play_io::{Sink, Source};
-use scene_drill::{Load, drill};
+use scene_drill::{DrillJob, Load, drill};
 use scene_lines::MOST_LINES;
 use std::alloc::Global;
 use std::thread::Threads;
@@ -105,7 +105,11 @@ fn run_over<R: Threads + Sync, B: Named, S: Source, K: Sink>(
                 boxes,
                 frames,
             };
-            drill(rt, alloc, index, load, job.options, &NoGate, sink)
+            let drilled = DrillJob {
+                load,
+                options: job.options,
+            };
+            drill(rt, alloc, index, drilled, &NoGate, sink)
         }
         Task::Upgrade => upgrade(alloc, limits, source, sink),
     }

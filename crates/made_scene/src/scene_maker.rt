@@ -2,7 +2,8 @@ ghost use Rattle.std.specs.Prelude.{Bool, ◌≡◌, ◌++◌, ◌≤◌, ◌<�
 ghost use Rattle.fixed_box.specs.declared.TheConstants.{SLOTS};
 ghost use Rattle.made_scene.specs.declared.TheConstants.{MOST_FRAMES};
 ghost use Rattle.made_scene.specs.MadeScene.{start, adds, moves, replacement, questions, frames, one_frame};
-ghost use Rattle.made_scene.specs.MadeScene.{with_new, with_moved, add_command, move_command, body_at, next_slot, chosen, past_choice, everyone, origin, nobodys};
+ghost use Rattle.made_scene.specs.MadeScene.{with_new, with_moved, add_command, move_command, body_at, next_slot, chosen, past_choice, everyone};
+ghost use Rattle.made_scene.specs.MadeScene.{origin, nobodys};
 ghost use Rattle.made_scene.specs.Ranges.{IsNear, IsAfter, IsMoving};
 ghost use Rattle.ray_slabs.specs.Vector.{widened};
 ghost use Rattle.scene_words.specs.declared.command.Command.TheVariants.{RayQ, SegQ};

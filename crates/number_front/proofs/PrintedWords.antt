@@ -1,5 +1,6 @@
 -- The bytes of a word, all tested at once.
-use Rattle.std.proofs.Common.{◌≡◌, ℕ, zero, suc, ◌+◌, ◌-◌, ◌*◌, ◌/◌, ◌%◌, ◌<◌, ◌≤◌, ◌&&◌, true, bit_and, List, length, take, drop, get_or, ap, ◌∙◌, sym, subst, arith, refl, [], ◌∷◌, length-drop}
+use Rattle.std.proofs.Common.{◌≡◌, ℕ, zero, suc, ◌+◌, ◌-◌, ◌*◌, ◌/◌, ◌%◌, ◌<◌, ◌≤◌, ◌&&◌, true, bit_and, List, length, take, drop, get_or, ap, ◌∙◌}
+use Rattle.std.proofs.Common.{sym, subst, arith, refl, [], ◌∷◌, length-drop}
 use Rattle.std.specs.Char.{is_ascii_digit, digit_value}
 use Rattle.std.specs.Str.{all_ascii_digits}
 use Rattle.std.specs.Str.Parse.{digits_value}

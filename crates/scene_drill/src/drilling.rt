@@ -6,7 +6,7 @@ ghost use Rattle.made_scene.specs.MadeScene.{made_text};
 ghost use Rattle.scene_drill.specs.Drill.{output, drill_report, drill_text, IsDrilled};
 ghost use Rattle.work_pieces.specs.declared.TheConstants.{MOST_WORKERS};
 
-use crate::{Load, made_scene_is_played, put_summary};
+use crate::{DrillJob, Load, made_scene_is_played, put_summary};
 use broad_index::{BroadPhase, Gate};
 use fixed_box::{NoMemory, SLOTS};
 use frame_player::{Limits, Options, play, write_all};
@@ -21,32 +21,31 @@ use std::thread::Threads;
 ///
 /// The scene and its report are kept in memory meanwhile, and nothing is written before the play has ended. A made scene
 /// is never refused. Queries that follow one another are answered together, and the pairs of a frame are found, by up to
-/// `options.workers` threads; the gate is entered at each piece of such a search. After a sink fault the sink isn't
+/// `job.options.workers` threads; the gate is entered at each piece of such a search. After a sink fault the sink isn't
 /// called again.
 pub fn drill<R: Threads + Sync, B: BroadPhase + Sync + Drop, G: Gate + Sync, K: Sink>(
     rt: &R,
     alloc: Global,
     index: B,
-    load: Load,
-    options: Options,
+    job: DrillJob,
     gate: &G,
     sink: &mut K,
 ) -> Status
     requires fresh { IsFresh (B.bodies index) (B.spent index) (B.exchanges index) }
-    requires workers { (1 ≤ options.workers) × (options.workers ≤ MOST_WORKERS) }
-    requires shown { options.exchanges ≡ true → B.COUNTS ≡ true }
-    requires boxes { (1 ≤ load.boxes) × (load.boxes ≤ SLOTS) }
-    requires frames { (1 ≤ load.frames) × (load.frames ≤ MOST_FRAMES) }
+    requires workers { (1 ≤ job.options.workers) × (job.options.workers ≤ MOST_WORKERS) }
+    requires shown { job.options.exchanges ≡ true → B.COUNTS ≡ true }
+    requires boxes { (1 ≤ job.load.boxes) × (job.load.boxes ≤ SLOTS) }
+    requires frames { (1 ≤ job.load.frames) × (job.load.frames ≤ MOST_FRAMES) }
     requires sink_count { K.faults sink.old < 2 ^ 64 - 1 }
 
     // How each status leaves the sink.
-    ensures outcome { IsDrilled (drill_text load options.exchanges)
+    ensures outcome { IsDrilled (drill_text job.load job.options.exchanges)
         (output (K.written sink.old) (K.settled sink.old) (K.faults sink.old))
         (output (K.written sink.new) (K.settled sink.new) (K.faults sink.new)) result }
     // After a fault the sink isn't called again.
     ensures uncalled { K.faults sink.old ≡ 0 → K.since sink.new ≡ K.since sink.old }
 {
-    let Ok(text) = summary_text(rt, alloc, index, load, options, gate) else {
+    let Ok(text) = summary_text(rt, alloc, index, job.load, job.options, gate) else {
         return Status::NoMemory;
     };
     match write_all(sink, &text) {

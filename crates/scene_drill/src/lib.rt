@@ -10,6 +10,6 @@ mod summary;
 mod tally;
 
 pub use drilling::drill;
-pub use load::Load;
+pub use load::{DrillJob, Load};
 pub use made_play::made_scene_is_played;
 pub use summary::put_summary;

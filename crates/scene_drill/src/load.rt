@@ -1,3 +1,5 @@
+use frame_player::Options;
+
 /// The load of a drill: a made scene of so many boxes and frames.
 #[derive(Clone, Copy, Debug, PartialEq, Eq)]
 pub struct Load {
@@ -7,4 +9,11 @@ pub struct Load {
     pub boxes: u32,
     /// How many frames are played, from 1 to 100.
     pub frames: u32,
+}
+
+/// What a drill does: which load it plays, and how.
+#[derive(Clone, Copy, Debug, PartialEq, Eq)]
+pub struct DrillJob {
+    pub load: Load,
+    pub options: Options,
 }

@@ -31,34 +31,32 @@ pub(crate) fn move_ends(
     let min = 2 * slot;
     let max = 2 * slot + 1;
     if lo < keys[min as usize] {
-        rekey_two(core, axis, keys, min, lo, max, hi)
+        rekey_two(core, axis, keys, (min, lo), (max, hi))
     } else {
-        rekey_two(core, axis, keys, max, hi, min, lo)
+        rekey_two(core, axis, keys, (max, hi), (min, lo))
     }
 }
 
-// Both nodes of a slot get other keys, in this order.
+// Both nodes of a slot get other keys: each node with its key, in this order.
 fn rekey_two(
     core: &mut Core,
     axis: Axis,
     keys: &mut [u64],
-    a: u32,
-    to: u64,
-    b: u32,
-    then: u64,
+    first: (u32, u64),
+    second: (u32, u64),
 ) -> Result<(), NoMemory>
     requires keys { length keys.old ≡ NODES }
-    requires a { a < NODES }
-    requires b { b < NODES }
-    requires ready { MayMoveTwo (λ n. slice_index keys.old n) (a / 2) a b to then (on axis core.old.lists) }
+    requires first { first.0 < NODES }
+    requires second { second.0 < NODES }
+    requires ready { MayMoveTwo (λ n. slice_index keys.old n) (first.0 / 2) first.0 second.0 first.1 second.1 (on axis core.old.lists) }
     requires countable { core.old.exchanged + 2 * NODES < 2 ^ 64 - 1 }
     requires short { length (on axis core.old.lists) ≤ NODES }
     ensures counted { OnOk result (core.old.exchanged ≤ core.new.exchanged) }
-    ensures keys { OnOk result (keys.new ≡ slice_set (slice_set keys.old a to) b then) }
-    ensures both { OnOk result (MovedTwo (λ n. slice_index keys.old n) (λ n. slice_index keys.new n) (a / 2) a b to then
+    ensures keys { OnOk result (keys.new ≡ slice_set (slice_set keys.old first.0 first.1) second.0 second.1) }
+    ensures both { OnOk result (MovedTwo (λ n. slice_index keys.old n) (λ n. slice_index keys.new n) (first.0 / 2) first.0 second.0 first.1 second.1
         (on axis core.old.lists) (on axis core.new.lists) (core.new.exchanged - core.old.exchanged)) }
     ensures others { OnOk result (core.new.lists ≡ with_on axis (on axis core.new.lists) core.old.lists) }
 {
-    rekey(core, axis, keys, a, to)?;
-    rekey(core, axis, keys, b, then)
+    rekey(core, axis, keys, first.0, first.1)?;
+    rekey(core, axis, keys, second.0, second.1)
 }

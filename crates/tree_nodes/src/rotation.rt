@@ -38,8 +38,8 @@ pub(crate) fn rotate_up(
             hull: _,
             height: _,
         } => {
-            let (below, above) = by_height(slab, left, right);
-            rotate(slab, kin, high, at, low, below, above);
+            let halves = by_height(slab, left, right);
+            rotate(slab, kin, high, at, low, halves);
             high
         }
     }
@@ -58,24 +58,23 @@ fn by_height(slab: &Slab<NodeView>, left: usize, right: usize) -> (usize, usize)
     }
 }
 
-// Puts three trees below two nodes: `low` and `left` below `at`, and this and `right` below `high`. Both nodes are
-// refitted, the lower one first.
+// Puts three trees below two nodes: `low` and the first half below `at`, and this and the second half below `high`. Both
+// nodes are refitted, the lower one first.
 pub(crate) fn rotate(
     slab: &mut Slab<NodeView>,
     kin: &mut [Kin],
     high: usize,
     at: usize,
     low: usize,
-    left: usize,
-    right: usize,
+    halves: (usize, usize),
 )
-    requires { (l f g : Tree) × RotationParts slab.old high at low left right l f g }
-    ensures there { (l f g : Tree) → RotationParts slab.old high at low left right l f g →
+    requires { (l f g : Tree) × RotationParts slab.old high at low halves.0 halves.1 l f g }
+    ensures there { (l f g : Tree) → RotationParts slab.old high at low halves.0 halves.1 l f g →
         Holds slab.new (rotated high at l f g) }
     ensures kept { (t : Tree) → count_of t at ≡ 0 → count_of t high ≡ 0 → Holds slab.old t → Holds slab.new t }
     ensures others { (k : ℕ) → k ≢ at → k ≢ high → get slab.new k ≡ get slab.old k }
     ensures keys { KeepsKeys slab.old slab.new }
 {
-    refit(slab, kin, at, low, left);
-    refit(slab, kin, high, at, right);
+    refit(slab, kin, at, low, halves.0);
+    refit(slab, kin, high, at, halves.1);
 }

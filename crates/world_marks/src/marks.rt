@@ -1,4 +1,5 @@
-ghost use Rattle.std.specs.Prelude.{◌≡◌, ◌≢◌, ◌<◌, ◌≤◌, ◌+◌, ◌^◌, ◌↔◌, ◌++◌, [], ◌∷◌, List, Bool, true, false, length, Ok, None, Some, IfOk, OnOk, OnErr, not, nat_lt};
+ghost use Rattle.std.specs.Prelude.{◌≡◌, ◌≢◌, ◌<◌, ◌≤◌, ◌+◌, ◌^◌, ◌↔◌, ◌++◌, [], ◌∷◌, List, Bool, true, false, length, Ok, None, Some, IfOk, OnOk};
+ghost use Rattle.std.specs.Prelude.{OnErr, not, nat_lt};
 ghost use Rattle.live_table.specs.Bodies.{bodies_of};
 ghost use Rattle.live_table.specs.Table.{IsTable};
 ghost use Rattle.world_marks.specs.declared.TheConstants.{MOST_MARKS};

@@ -3,7 +3,7 @@ ghost use Rattle.work_pieces.specs.declared.TheConstants.{MOST_WORKERS};
 
 use super::*;
 use fixed_box::{FBox, NoMemory, SLOTS};
-use scene_drill::{Load, drill};
+use scene_drill::{DrillJob, Load, drill};
 use scene_words::{Command, Version, read_command};
 
 // What a command line writes that reads nothing, with the status.
@@ -139,15 +139,45 @@ fn played_by_threads<R: Threads + Sync + Abort>(
     let done = Status::Done;
     let tree = BoxTree::new(alloc)?;
     played_over(
-        rt, alloc, tree, workers, MOST_LINES, &Threaded, scene, report, done,
+        rt,
+        alloc,
+        tree,
+        &Threaded,
+        Played {
+            workers: workers,
+            lines: MOST_LINES,
+            scene,
+            report,
+            status: done,
+        },
     )?;
     let grid = HierGrid::new(alloc)?;
     played_over(
-        rt, alloc, grid, workers, MOST_LINES, &Threaded, scene, report, done,
+        rt,
+        alloc,
+        grid,
+        &Threaded,
+        Played {
+            workers: workers,
+            lines: MOST_LINES,
+            scene,
+            report,
+            status: done,
+        },
     )?;
     let plain = PlainIndex::new(alloc)?;
     played_over(
-        rt, alloc, plain, workers, MOST_LINES, &Threaded, scene, report, done,
+        rt,
+        alloc,
+        plain,
+        &Threaded,
+        Played {
+            workers: workers,
+            lines: MOST_LINES,
+            scene,
+            report,
+            status: done,
+        },
     )
 }
 
@@ -267,8 +297,9 @@ fn two_threads_play_a_drill(rt: HostRuntime) -> Result<(), Fail> {
         workers: 2,
         exchanges: false,
     };
+    let job = DrillJob { load, options };
     let mut sink = HonestSink::new(alloc, 7);
-    let answer = drill(&rt, alloc, index, load, options, &gate, &mut sink);
+    let answer = drill(&rt, alloc, index, job, &gate, &mut sink);
     assert_eq!(rt; answer, Status::Done);
     assert_eq!(rt; gate.met(), 4);
     Ok(())

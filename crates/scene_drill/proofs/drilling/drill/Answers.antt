@@ -7,5 +7,5 @@ use Rattle.scene_drill.proofs.drilling.drill.Goals as goal
 pub returns-in_default-clause-outcome : goal.returns-in_default-clause-outcome
 returns-in_default-clause-outcome g c = record {
   unfailed = refl;
-  begun = nothing_begun (Some []) (g.K.Sink.written c.args.sink.now) (λ _. drill_text c.args.load c.args.options.exchanges);
+  begun = nothing_begun (Some []) (g.K.Sink.written c.args.sink.now) (λ _. drill_text c.args.job.load c.args.job.options.exchanges);
 }

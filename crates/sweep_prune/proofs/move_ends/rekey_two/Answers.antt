@@ -12,26 +12,26 @@ rekey-requires-clause-free c = free_first _ _ _ _ _ _ _ c.requires.ready
 
 pub rekey-requires-2-clause-rising : goal.rekey-requires-2-clause-rising
 rekey-requires-2-clause-rising c =
-    let h = halfway c.args.keys.now c.rekey.new.keys (c.args.a / 2) c.args.a c.args.b c.args.to c.args.then _ _ _
-    (omega (arith, c.requires.keys, c.requires.a)) c.requires.ready c.in_ok-rekey.ensures.keys c.in_ok-rekey.ensures.rekeyed in
+    let h = halfway c.args.keys.now c.rekey.new.keys (c.args.first.0 / 2) c.args.first.0 c.args.second.0 c.args.first.1 c.args.second.1 _ _ _
+    (omega (arith, c.requires.keys, c.requires.first)) c.requires.ready c.in_ok-rekey.ensures.keys c.in_ok-rekey.ensures.rekeyed in
     h.rising
 
 pub rekey-requires-2-clause-present : goal.rekey-requires-2-clause-present
 rekey-requires-2-clause-present c =
-    let h = halfway c.args.keys.now c.rekey.new.keys (c.args.a / 2) c.args.a c.args.b c.args.to c.args.then _ _ _
-    (omega (arith, c.requires.keys, c.requires.a)) c.requires.ready c.in_ok-rekey.ensures.keys c.in_ok-rekey.ensures.rekeyed in
+    let h = halfway c.args.keys.now c.rekey.new.keys (c.args.first.0 / 2) c.args.first.0 c.args.second.0 c.args.first.1 c.args.second.1 _ _ _
+    (omega (arith, c.requires.keys, c.requires.first)) c.requires.ready c.in_ok-rekey.ensures.keys c.in_ok-rekey.ensures.rekeyed in
     h.present
 
 pub rekey-requires-2-clause-free : goal.rekey-requires-2-clause-free
 rekey-requires-2-clause-free c =
-    let h = halfway c.args.keys.now c.rekey.new.keys (c.args.a / 2) c.args.a c.args.b c.args.to c.args.then _ _ _
-    (omega (arith, c.requires.keys, c.requires.a)) c.requires.ready c.in_ok-rekey.ensures.keys c.in_ok-rekey.ensures.rekeyed in
+    let h = halfway c.args.keys.now c.rekey.new.keys (c.args.first.0 / 2) c.args.first.0 c.args.second.0 c.args.first.1 c.args.second.1 _ _ _
+    (omega (arith, c.requires.keys, c.requires.first)) c.requires.ready c.in_ok-rekey.ensures.keys c.in_ok-rekey.ensures.rekeyed in
     h.free
 
 pub rekey-requires-2-clause-countable : goal.rekey-requires-2-clause-countable
 rekey-requires-2-clause-countable c =
-    let h = halfway c.args.keys.now c.rekey.new.keys (c.args.a / 2) c.args.a c.args.b c.args.to c.args.then _ _ _
-    (omega (arith, c.requires.keys, c.requires.a)) c.requires.ready c.in_ok-rekey.ensures.keys c.in_ok-rekey.ensures.rekeyed in
+    let h = halfway c.args.keys.now c.rekey.new.keys (c.args.first.0 / 2) c.args.first.0 c.args.second.0 c.args.first.1 c.args.second.1 _ _ _
+    (omega (arith, c.requires.keys, c.requires.first)) c.requires.ready c.in_ok-rekey.ensures.keys c.in_ok-rekey.ensures.rekeyed in
     let x = h.short in
     let y = h.steps in
     omega (arith, c.requires.countable, c.requires.short, c.in_ok-rekey.ensures.counted)
@@ -39,8 +39,8 @@ rekey-requires-2-clause-countable c =
 pub returns-clause-both : goal.returns-clause-both
 returns-clause-both c =
     on_ok_two c.rekey-2.result
-    (λ k q. rekeyed_two c.args.keys.now c.rekey.new.keys _ (c.args.a / 2) c.args.a c.args.b c.args.to c.args.then _ _ _ _ _ _
-    (omega (arith, c.requires.keys, c.requires.a)) (omega (arith, c.requires.keys, c.requires.b)) c.requires.ready c.in_ok-rekey.ensures.keys
+    (λ k q. rekeyed_two c.args.keys.now c.rekey.new.keys _ (c.args.first.0 / 2) c.args.first.0 c.args.second.0 c.args.first.1 c.args.second.1 _ _ _ _ _ _
+    (omega (arith, c.requires.keys, c.requires.first)) (omega (arith, c.requires.keys, c.requires.second)) c.requires.ready c.in_ok-rekey.ensures.keys
     c.rekey-2.ensures.keys c.in_ok-rekey.ensures.rekeyed q
     (omega (arith, c.in_ok-rekey.ensures.counted, k)))
     c.rekey-2.ensures.counted c.rekey-2.ensures.rekeyed

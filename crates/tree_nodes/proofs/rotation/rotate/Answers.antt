@@ -8,11 +8,11 @@ refit-requires-2 c =
     let p = c.requires in (
       refitted c.args.at p.0 p.1,
       p.2,
-      second c.args.slab.now c.refit.new.slab c.args.high c.args.at c.args.low c.args.left c.args.right p.0 p.1 p.2
+      second c.args.slab.now c.refit.new.slab c.args.high c.args.at c.args.low c.args.halves.0 c.args.halves.1 p.0 p.1 p.2
           c.refit.ensures.keys.here (c.refit.ensures.there p.0 p.1 p.3.below) c.refit.ensures.kept p.3,
     )
 
 pub returns-clause-there : goal.returns-clause-there
 returns-clause-there c l f g p =
-    c.refit-2.ensures.there (refitted c.args.at l f) g (second c.args.slab.now c.refit.new.slab c.args.high c.args.at c.args.low c.args.left c.args.right l
+    c.refit-2.ensures.there (refitted c.args.at l f) g (second c.args.slab.now c.refit.new.slab c.args.high c.args.at c.args.low c.args.halves.0 c.args.halves.1 l
     f g c.refit.ensures.keys.here (c.refit.ensures.there l f p.below) c.refit.ensures.kept p)
