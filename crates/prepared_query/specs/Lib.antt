@@ -1,0 +1,2 @@
+pub mod NarrowLine
+pub mod Prepared

@@ -3,6 +3,9 @@
 
 mod box_test;
 mod law;
+mod line_test;
+mod narrow_axis;
 
 pub use box_test::BoxTest;
 pub use law::enclosing_law;
+pub use line_test::LineTest;
