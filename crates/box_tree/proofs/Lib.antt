@@ -1,7 +1,6 @@
 pub mod Counts
 pub mod CrossedPairs
 pub mod Descents
-pub mod QueryMeets
 pub mod LeafCounts
 pub mod LeafTies
 pub mod Soundness

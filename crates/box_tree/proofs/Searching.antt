@@ -1,13 +1,12 @@
 -- What descents find is what the map has, and which slots are sought.
 use Rattle.std.proofs.Common.{◌≡◌, ◌≢◌, ℕ, zero, suc, ◌<◌, Bool, true, false, not, cond, ◌&&◌, ◌||◌, ◌==◌, Option, None, Some, is_some, List, [], ◌∷◌, ◌++◌}
-use Rattle.std.proofs.Common.{length, map, filter, replicate, get_or, refl, sym, ap, ◌∙◌, subst, arith, inl, inr, ⊎_elim}
+use Rattle.std.proofs.Common.{length, map, filter, get_or, refl, sym, ap, ◌∙◌, subst, arith, inl, inr, ⊎_elim}
 use Rattle.std.specs.List.{Contains, list_any, sum}
 use Rattle.std.specs.Ordering.{nat_cmp, eq_by_cmp}
 use Rattle.std.specs.FinMap.{FinMap, contains_key, get, entries, keys, contains_key-keys}
 use Rattle.std.proofs.lemmas.Bool.{cases_eq, cases_Bool, eq-eqb}
 use Rattle.std.proofs.lemmas.Bool.Decides.{nat_tests}
 use Rattle.std.proofs.lemmas.List.Elements.{Contains-append_left, Contains-append_right, Contains-append_cases}
-use Rattle.fixed_box.specs.declared.TheConstants.{SLOTS}
 use Rattle.fixed_box.specs.Bounds.{Bounds, meets}
 use Rattle.broad_index.specs.Reach.{reach_of}
 use Rattle.broad_index.specs.declared.pair.Pair.{Pair}

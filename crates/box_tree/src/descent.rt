@@ -2,15 +2,14 @@ ghost use Rattle.std.specs.Prelude.{◌≡◌, ◌+◌, ◌<◌, ◌≤◌, ◌+
 ghost use Rattle.smallvec.specs.SmallVec.{small_vec_len};
 ghost use Rattle.tree_nodes.specs.Tree.{Tree, IsTree, top, view_in};
 ghost use Rattle.broad_index.specs.declared.query.Query.{Query};
-ghost use Rattle.broad_index.specs.Found.{found_of, query_meets};
+ghost use Rattle.broad_index.specs.Found.{found_of};
 ghost use Rattle.broad_index.specs.Members.{meets_query};
 ghost use Rattle.box_tree.specs.Descent.{visits_by_in, exact_in, IsInside, Laws, met_at, found_at};
 ghost use Rattle.box_tree.specs.Group.{BoxLaws};
 
 use crate::kept_boxes::KeptBoxes;
-use crate::query_law::query_law;
-use broad_index::Query;
 use fixed_box::{FBox, NoMemory, box_laws};
+use prepared_query::{BoxTest, enclosing_law};
 use smallvec::SmallVec;
 use tree_nodes::{NodeView, Nodes, tree_laws};
 
@@ -18,39 +17,43 @@ use tree_nodes::{NodeView, Nodes, tree_laws};
 type Stack = SmallVec<usize, 32>;
 
 // Appends the slots of leaves whose exact boxes meet a query, and answers how many nodes it looked at. It passes by what
-// stands below a hull that the query misses.
-pub(crate) fn descend(boxes: &KeptBoxes, query: &Query, out: &mut Vec<u32>) -> Result<u32, NoMemory>
-    ensures ok { OnOk result (out.new.items ≡ out.old.items ++ found_of (exact_in boxes.now.bodies boxes.now.tree) query.now) }
-    ensures count { IfOk result (λ n. n ≡ visits_by_in boxes.now.tree query.now) }
+// stands below a hull that the query misses. It is compiled for each kind of test, so that no kind is told apart on the way.
+pub(crate) fn descend<T: BoxTest>(
+    boxes: &KeptBoxes,
+    test: &T,
+    out: &mut Vec<u32>,
+) -> Result<u32, NoMemory>
+    ensures ok { OnOk result (out.new.items ≡ out.old.items ++ found_of (exact_in boxes.now.bodies boxes.now.tree) (T.asks test.now)) }
+    ensures count { IfOk result (λ n. n ≡ visits_by_in boxes.now.tree (T.asks test.now)) }
 {
     boxes.kept_law();
     match boxes.root() {
         None => Ok(0),
-        Some(root) => walk(boxes.nodes(), boxes.bodies(), root, query, out),
+        Some(root) => walk(boxes.nodes(), boxes.bodies(), root, test, out),
     }
 }
 
 // The same from the root on. The next node is held apart from those that wait. A node is asked, and counted, with its
 // sibling as their parent is opened: one that is missed never waits.
-fn walk(
+fn walk<T: BoxTest>(
     nodes: &Nodes,
     bodies: &[Option<FBox>],
     root: usize,
-    query: &Query,
+    test: &T,
     out: &mut Vec<u32>,
 ) -> Result<u32, NoMemory>
     requires { (t : Tree) × (nodes.now ≡ Some t) × (root ≡ top t) × IsTree t × IsInside bodies.now t }
-    ensures ok { OnOk result (out.new.items ≡ out.old.items ++ found_of (exact_in bodies.now nodes.now) query.now) }
-    ensures count { IfOk result (λ n. n ≡ visits_by_in nodes.now query.now) }
+    ensures ok { OnOk result (out.new.items ≡ out.old.items ++ found_of (exact_in bodies.now nodes.now) (T.asks test.now)) }
+    ensures count { IfOk result (λ n. n ≡ visits_by_in nodes.now (T.asks test.now)) }
 {
     descent_law();
     let mut stack: Stack = SmallVec::new(*out.allocator());
-    let mut next = met_node(nodes, root, query);
+    let mut next = met_node(nodes, root, test);
     let mut count = 1u32;
     'walk: while let Some(at) = next {
         match nodes.node(at) {
             NodeView::Leaf { slot, fat: _ } => {
-                push_found(bodies, *slot, query, out)?;
+                push_found(bodies, *slot, test, out)?;
                 next = stack.pop();
             }
             NodeView::Inner {
@@ -60,7 +63,7 @@ fn walk(
                 height: _,
             } => {
                 count += 2;
-                next = open(nodes, *left, *right, query, &mut stack);
+                next = open(nodes, *left, *right, test, &mut stack);
             }
         }
     }
@@ -71,8 +74,9 @@ fn walk(
 pub(crate) fn descent_law()
     ensures { (query : Query) → Laws query }
 {
+    box_laws();
     tree_laws();
-    query_law();
+    enclosing_law();
 }
 
 // A law for proofs, with nothing to run: what a descent with a group rests on.
@@ -85,17 +89,23 @@ pub(crate) fn box_law()
 
 // Looks at the children of a node, and answers which node is next, if any. Where both are met, the left one comes first
 // and the right one waits. Where neither is, the last one that waits comes.
-fn open(nodes: &Nodes, left: usize, right: usize, query: &Query, stack: &mut Stack) -> Option<usize>
+fn open<T: BoxTest>(
+    nodes: &Nodes,
+    left: usize,
+    right: usize,
+    test: &T,
+    stack: &mut Stack,
+) -> Option<usize>
     requires room { small_vec_len stack.old + 1 ≤ stack.old.capacity }
     requires left { IsSome (view_in nodes.now left) }
     requires right { IsSome (view_in nodes.now right) }
     ensures next { stack.new.items ++ option_to_list result ≡
-        (stack.old.items ++ met_at query.now (view_in nodes.now right) right) ++ met_at query.now (view_in nodes.now left) left }
+        (stack.old.items ++ met_at (T.asks test.now) (view_in nodes.now right) right) ++ met_at (T.asks test.now) (view_in nodes.now left) left }
     ensures ended { result ≡ None → small_vec_len stack.new ≡ 0 }
     ensures capacity { stack.new.capacity ≡ stack.old.capacity }
 {
-    let later = met_node(nodes, right, query);
-    let Some(first) = met_node(nodes, left, query) else {
+    let later = met_node(nodes, right, test);
+    let Some(first) = met_node(nodes, left, test) else {
         return if later.is_some() { later } else { stack.pop() };
     };
     if let Some(later) = later {
@@ -105,9 +115,9 @@ fn open(nodes: &Nodes, left: usize, right: usize, query: &Query, stack: &mut Sta
 }
 
 // A node, if the query meets its hull, or its fat box.
-fn met_node(nodes: &Nodes, at: usize, query: &Query) -> Option<usize>
+fn met_node<T: BoxTest>(nodes: &Nodes, at: usize, test: &T) -> Option<usize>
     requires { IsSome (view_in nodes.now at) }
-    ensures { option_to_list result ≡ met_at query.now (view_in nodes.now at) at }
+    ensures { option_to_list result ≡ met_at (T.asks test.now) (view_in nodes.now at) at }
 {
     let bounds = match nodes.node(at) {
         NodeView::Leaf { slot: _, fat } => fat,
@@ -118,41 +128,31 @@ fn met_node(nodes: &Nodes, at: usize, query: &Query) -> Option<usize>
             height: _,
         } => hull,
     };
-    if meets(query, bounds) { Some(at) } else { None }
+    if test.meets(bounds) { Some(at) } else { None }
 }
 
 // Appends a slot whose exact box is met. Its fat box was asked first.
-fn push_found(
+fn push_found<T: BoxTest>(
     bodies: &[Option<FBox>],
     slot: u32,
-    query: &Query,
+    test: &T,
     out: &mut Vec<u32>,
 ) -> Result<(), NoMemory>
     requires { slot < length bodies.now }
-    ensures { OnOk result (out.new.items ≡ out.old.items ++ found_at bodies.now query.now slot) }
+    ensures { OnOk result (out.new.items ≡ out.old.items ++ found_at bodies.now (T.asks test.now) slot) }
 {
-    if is_found(&bodies[slot as usize], query) {
+    if is_found(&bodies[slot as usize], test) {
         out.push(slot)?;
     }
     Ok(())
 }
 
-// Whether there is a box, and a query meets it.
-fn is_found(body: &Option<FBox>, query: &Query) -> bool
-    ensures { result ≡ meets_query query.now body.now }
+// Whether there is a box, and the query meets it.
+fn is_found<T: BoxTest>(body: &Option<FBox>, test: &T) -> bool
+    ensures { result ≡ meets_query (T.asks test.now) body.now }
 {
     match body {
-        Some(body) => meets(query, body),
+        Some(body) => test.meets(body),
         None => false,
     }
-}
-
-// Whether a box meets a query. A region, as each search for pairs has it, is asked here, without a call.
-fn meets(query: &Query, body: &FBox) -> bool
-    ensures { result ≡ query_meets query.now body.now }
-{
-    if let Query::Region(region) = query {
-        return region.overlaps(body);
-    }
-    query.meets(body)
 }

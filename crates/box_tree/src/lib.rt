@@ -5,6 +5,7 @@
 mod descent;
 mod findings;
 mod group;
+mod hits;
 mod kept_boxes;
 mod laws;
 mod leaves;
@@ -12,7 +13,6 @@ mod listing;
 mod marks;
 mod moved;
 mod preorder;
-mod query_law;
 mod renewal;
 mod room;
 mod search;

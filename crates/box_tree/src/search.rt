@@ -1,4 +1,4 @@
-ghost use Rattle.std.specs.Prelude.{◌≡◌, ℕ, ◌≤◌, ◌++◌, not, ◌==◌, [], filter, length, None, OnOk, IfOk, slice_index_or};
+ghost use Rattle.std.specs.Prelude.{◌≡◌, ◌≤◌, ◌++◌, not, ◌==◌, [], filter, length, None, OnOk, IfOk, slice_index_or};
 ghost use Rattle.fixed_box.specs.declared.TheConstants.{SLOTS};
 ghost use Rattle.broad_index.specs.Touched.{gathered_with};
 ghost use Rattle.box_tree.specs.Boxes.{visits_for};
@@ -8,7 +8,7 @@ use crate::descent::descend;
 use crate::findings::Findings;
 use crate::kept_boxes::KeptBoxes;
 use crate::marks::Marks;
-use broad_index::{Query, push_ordered_pairs};
+use broad_index::push_ordered_pairs;
 use fixed_box::{FBox, NoMemory, SLOTS, box_laws};
 
 // Appends the touched slots that are present, in rising order.
@@ -51,7 +51,7 @@ pub(crate) fn reach(
         return Ok(0);
     };
     met.clear();
-    let count = descend(boxes, &Query::Region(body), met)?;
+    let count = descend(boxes, &body, met)?;
     push_others(slot, met, out)?;
     Ok(count)
 }

@@ -1,18 +1,16 @@
-ghost use Rattle.std.specs.Prelude.{◌≡◌, ◌||◌, ◌≤◌, ◌++◌, ◌==◌, List, Option, ℕ, [], true, false, map, filter, not, length};
-ghost use Rattle.std.specs.Prelude.{OnOk, IfOk, IfSome, slice_index_or};
-ghost use Rattle.fixed_box.specs.Bounds.{Bounds};
+ghost use Rattle.std.specs.Prelude.{◌≡◌, ◌||◌, ◌≤◌, ◌++◌, ◌==◌, List, ℕ, [], true, false, map, filter, not, length};
+ghost use Rattle.std.specs.Prelude.{OnOk, IfOk, slice_index_or};
 ghost use Rattle.slot_lists.specs.SlotMap.{map_of};
 ghost use Rattle.broad_index.specs.declared.pair.Pair.{Pair};
 ghost use Rattle.broad_index.specs.declared.query.Query.TheVariants.{Region};
 ghost use Rattle.broad_index.specs.Found.{found_of};
-ghost use Rattle.broad_index.specs.Held.{Holds};
 ghost use Rattle.broad_index.specs.Members.{has_slot};
 ghost use Rattle.broad_index.specs.Touched.{ordered_pairs, gathered_with, AreKept, Renewed};
 ghost use Rattle.fixed_box.specs.declared.TheConstants.{SLOTS};
 ghost use Rattle.tree_nodes.specs.Tree.{leaves_in, visits_in};
 ghost use Rattle.box_tree.specs.Boxes.{marked_slots, raised, untouched};
-ghost use Rattle.box_tree.specs.Descent.{exact_in, IsInsideIn};
-ghost use Rattle.box_tree.specs.Group.{crossed, touched_of, all_visits_in, Adds, AreOf};
+ghost use Rattle.box_tree.specs.Descent.{exact_in};
+ghost use Rattle.box_tree.specs.Group.{crossed, all_visits_in, Adds, AreOf};
 ghost use Rattle.box_tree.specs.Preorder.{preorder_in};
 ghost use Rattle.box_tree.specs.Searches.{boxed, looked_for, searches, sought_from};
 ghost use Rattle.box_tree.specs.Ties.{AreListed};
@@ -26,7 +24,7 @@ use crate::marks::Marks;
 use crate::preorder::{ListedNode, list_preorder, push_marked, push_marked_slots};
 use crate::room::{Room, SearchRoom};
 use crate::search::{push_others, push_sought, search_all};
-use broad_index::{Query, holding_laws, keeping_laws, push_ordered_pairs};
+use broad_index::{holding_laws, keeping_laws, push_ordered_pairs};
 use fixed_box::{FBox, NoMemory, box_laws};
 
 // From how many touched slots on they are searched for in groups. For fewer it doesn't pay to walk over the tree.
@@ -243,7 +241,7 @@ fn search_one(
 {
     box_laws();
     found.met.clear();
-    let count = descend(boxes, &Query::Region(*body), &mut found.met)?;
+    let count = descend(boxes, body, &mut found.met)?;
     found.others.clear();
     push_others(slot, &found.met, &mut found.others)?;
     push_ordered_pairs(slot, &found.others, &mut found.pairs)?;

@@ -11,8 +11,8 @@ ghost use Rattle.box_tree.specs.declared.TheConstants.{MARGIN};
 ghost use Rattle.box_tree.specs.Boxes.{no_boxes as outset, shifted, told, fat_entry, cost, searched, shared_slots, Finds};
 
 use crate::Moved;
-use crate::descent::descend;
 use crate::findings::Findings;
+use crate::hits::push_hits;
 use crate::kept_boxes::KeptBoxes;
 use crate::listing::Listing;
 use crate::marks::Marks;
@@ -139,6 +139,7 @@ impl BoxTree {
         ensures value { result ≡ self.now.looked }
         ensures marks { length self.now.touched ≡ SLOTS }
     {
+        // its clause says how many marks there are, as `marks` does here
         let _marks = self.marks.as_slice();
         self.looked
     }
@@ -226,7 +227,7 @@ impl BroadPhase for BoxTree {
         holding_laws();
         self.boxes.kept_law();
         let mut met = Vec::new(*out.allocator());
-        descend(&self.boxes, query, &mut met)?;
+        push_hits(&self.boxes, query, &mut met)?;
         push_rising_slots(&mut met, out)
     }
 

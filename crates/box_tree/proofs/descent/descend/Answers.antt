@@ -11,7 +11,7 @@ tree_there bodies None n e s i = cc
 tree_there bodies (Some t) n e s i = (t, cc, cc, s, i)
 
 pub walk-requires : goal.walk-requires
-walk-requires c =
+walk-requires g c =
     let k = c.args.boxes.now in
     let r = tree_there k.bodies k.tree c.in-Some.root (sym c.root.ensures ∙ c.in-Some.is) c.kept_law.ensures.kept.leafed.is_tree c.kept_law.ensures.inside in
     (r.0, c.nodes.ensures.value ∙ r.1, r.2, r.3, subst (λ bs. IsInside bs r.0) (sym c.bodies.ensures) r.4)

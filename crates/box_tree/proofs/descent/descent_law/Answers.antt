@@ -1,11 +1,11 @@
--- They are laws of queries and of trees.
+-- They are laws of boxes, of queries and of trees.
 use Rattle.box_tree.proofs.descent.descent_law.Goals as goal
 
 pub returns : goal.returns
 returns c query = record {
-  missed = c.query_law.ensures.missed query;
-  this = c.query_law.ensures.hull_this;
-  that = c.query_law.ensures.hull_that;
+  missed = c.enclosing_law.ensures.missed query;
+  this = c.box_laws.ensures.hull_this;
+  that = c.box_laws.ensures.hull_that;
   itself = c.tree_laws.ensures.itself;
   deeper = c.tree_laws.ensures.deeper;
   children = λ n k h l r. c.tree_laws.ensures.children n k h l r;

@@ -7,11 +7,11 @@ use Rattle.box_tree.proofs.Descents.{next_shown, at_leaf, at_inner, begun, done_
 use Rattle.box_tree.proofs.descent.walk.Goals as goal
 
 pub walk-init : goal.walk-init
-walk-init c =
+walk-init g c =
     let p = c.requires in
     let o = c.args.nodes.now in
     let bs = c.args.bodies.now in
-    let q = c.args.query.now in
+    let q = g.T.BoxTest.asks c.args.test.now in
     record {
       stands = subst (λ xs. Stands o bs q xs c.args.out.now.items c.args.out.now.items 1)
           (sym (ap (λ xs. xs ++ option_to_list c.met_node-next.result) c.new-stack.ensures.items ∙ c.met_node-next.ensures))
@@ -21,12 +21,14 @@ walk-init c =
     }
 
 pub node-requires : goal.node-requires
-node-requires c =
-    next_shown c.args.bodies.now c.args.query.now (c.descent_law.ensures c.args.query.now) c.walk.stack.items c.walk.invariant.stands c.in-Some.is
+node-requires g c =
+    let q = g.T.BoxTest.asks c.args.test.now in
+    next_shown c.args.bodies.now q (c.descent_law.ensures q) c.walk.stack.items c.walk.invariant.stands c.in-Some.is
 
 pub push_found-requires : goal.push_found-requires
-push_found-requires c =
-    let l = at_leaf c.args.bodies.now c.args.query.now (c.descent_law.ensures c.args.query.now) c.walk.stack.items c.walk.invariant.stands c.in-Some.is
+push_found-requires g c =
+    let q = g.T.BoxTest.asks c.args.test.now in
+    let l = at_leaf c.args.bodies.now q (c.descent_law.ensures q) c.walk.stack.items c.walk.invariant.stands c.in-Some.is
     c.node.ensures.value c.in-Leaf.is in
     l.0.small
 
@@ -41,10 +43,10 @@ all_off old (x ∷ rest) o is some e =
     cc
 
 pub walk-preserved-in-Leaf : goal.walk-preserved-in-Leaf
-walk-preserved-in-Leaf c =
+walk-preserved-in-Leaf g c =
     let o = c.args.nodes.now in
     let bs = c.args.bodies.now in
-    let q = c.args.query.now in
+    let q = g.T.BoxTest.asks c.args.test.now in
     let l = at_leaf bs q (c.descent_law.ensures q) c.walk.stack.items c.walk.invariant.stands c.in-Some.is c.node.ensures.value c.in-Leaf.is in
     record {
       stands = subst (λ xs. Stands o bs q xs c.args.out.now.items c.push_found.new.out.items c.walk.count) c.pop-next.ensures.items
@@ -54,40 +56,44 @@ walk-preserved-in-Leaf c =
     }
 
 pub walk-smaller-in-Leaf : goal.walk-smaller-in-Leaf
-walk-smaller-in-Leaf c =
+walk-smaller-in-Leaf g c =
     let before = one_more c.walk.stack.items c.walk.next c.in-Some.at c.in-Some.is in
     let after : length c.walk.stack.items ≡ length (c.pop-next.new.self.items ++ option_to_list c.pop-next.result) = ap length c.pop-next.ensures.items in
     omega arith
 
 pub overflow_add-count : goal.overflow_add-count
-overflow_add-count c =
-    let l = at_inner c.args.bodies.now c.args.query.now (c.descent_law.ensures c.args.query.now) c.walk.stack.items c.walk.invariant.stands c.in-Some.is
+overflow_add-count g c =
+    let q = g.T.BoxTest.asks c.args.test.now in
+    let l = at_inner c.args.bodies.now q (c.descent_law.ensures q) c.walk.stack.items c.walk.invariant.stands c.in-Some.is
     c.node.ensures.value c.in-Inner.is in
     omega arith
 
 pub open-next-requires-clause-room : goal.open-next-requires-clause-room
-open-next-requires-clause-room c =
-    let l = at_inner c.args.bodies.now c.args.query.now (c.descent_law.ensures c.args.query.now) c.walk.stack.items c.walk.invariant.stands c.in-Some.is
+open-next-requires-clause-room g c =
+    let q = g.T.BoxTest.asks c.args.test.now in
+    let l = at_inner c.args.bodies.now q (c.descent_law.ensures q) c.walk.stack.items c.walk.invariant.stands c.in-Some.is
     c.node.ensures.value c.in-Inner.is in
     let room = c.walk.invariant.room in
     omega arith
 
 pub walk-smaller : goal.walk-smaller
-walk-smaller c =
-    let l = at_inner c.args.bodies.now c.args.query.now (c.descent_law.ensures c.args.query.now) c.walk.stack.items c.walk.invariant.stands c.in-Some.is
+walk-smaller g c =
+    let q = g.T.BoxTest.asks c.args.test.now in
+    let l = at_inner c.args.bodies.now q (c.descent_law.ensures q) c.walk.stack.items c.walk.invariant.stands c.in-Some.is
     c.node.ensures.value c.in-Inner.is in
     let before = one_more c.walk.stack.items c.walk.next c.in-Some.at c.in-Some.is in
     let after = ap length c.open-next.ensures.next in
-    let few = fewer c.args.bodies.now c.args.query.now (c.descent_law.ensures c.args.query.now) c.walk.stack.items
+    let few = fewer c.args.bodies.now q (c.descent_law.ensures q) c.walk.stack.items
     (view_in c.args.nodes.now c.in-Inner.right) (view_in c.args.nodes.now c.in-Inner.left) c.in-Inner.right c.in-Inner.left in
     omega arith
 
 pub walk-preserved : goal.walk-preserved
-walk-preserved c =
-    let l = at_inner c.args.bodies.now c.args.query.now (c.descent_law.ensures c.args.query.now) c.walk.stack.items c.walk.invariant.stands c.in-Some.is
+walk-preserved g c =
+    let q = g.T.BoxTest.asks c.args.test.now in
+    let l = at_inner c.args.bodies.now q (c.descent_law.ensures q) c.walk.stack.items c.walk.invariant.stands c.in-Some.is
     c.node.ensures.value c.in-Inner.is in
     record {
-      stands = subst (λ xs. Stands c.args.nodes.now c.args.bodies.now c.args.query.now xs c.args.out.now.items c.walk.out.items (c.walk.count + 2))
+      stands = subst (λ xs. Stands c.args.nodes.now c.args.bodies.now q xs c.args.out.now.items c.walk.out.items (c.walk.count + 2))
           (sym c.open-next.ensures.next) l.3;
       ended = c.open-next.ensures.ended;
       room = c.open-next.ensures.capacity ∙ c.walk.invariant.room;
@@ -98,13 +104,15 @@ none_left [] o e none = ap option_to_list e
 none_left (x ∷ xs) o e none = let l = none e in absurd (omega arith)
 
 pub returns-clause-ok : goal.returns-clause-ok
-returns-clause-ok c =
-    (done_ok c.args.bodies.now c.args.query.now (c.descent_law.ensures c.args.query.now) c.args.nodes.now c.args.out.now.items
-    c.walk.out.items c.walk.count (subst (λ xs. Stands c.args.nodes.now c.args.bodies.now c.args.query.now xs c.args.out.now.items c.walk.out.items
+returns-clause-ok g c =
+    let q = g.T.BoxTest.asks c.args.test.now in
+    (done_ok c.args.bodies.now q (c.descent_law.ensures q) c.args.nodes.now c.args.out.now.items
+    c.walk.out.items c.walk.count (subst (λ xs. Stands c.args.nodes.now c.args.bodies.now q xs c.args.out.now.items c.walk.out.items
     c.walk.count) (none_left c.walk.stack.items c.walk.next c.in_default.is c.walk.invariant.ended) c.walk.invariant.stands)).0
 
 pub returns-clause-count : goal.returns-clause-count
-returns-clause-count c =
-    (done_ok c.args.bodies.now c.args.query.now (c.descent_law.ensures c.args.query.now) c.args.nodes.now c.args.out.now.items
-    c.walk.out.items c.walk.count (subst (λ xs. Stands c.args.nodes.now c.args.bodies.now c.args.query.now xs c.args.out.now.items c.walk.out.items
+returns-clause-count g c =
+    let q = g.T.BoxTest.asks c.args.test.now in
+    (done_ok c.args.bodies.now q (c.descent_law.ensures q) c.args.nodes.now c.args.out.now.items
+    c.walk.out.items c.walk.count (subst (λ xs. Stands c.args.nodes.now c.args.bodies.now q xs c.args.out.now.items c.walk.out.items
     c.walk.count) (none_left c.walk.stack.items c.walk.next c.in_default.is c.walk.invariant.ended) c.walk.invariant.stands)).1

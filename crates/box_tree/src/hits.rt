@@ -1,0 +1,45 @@
+ghost use Rattle.std.specs.Prelude.{◌≡◌, ◌++◌, OnOk};
+ghost use Rattle.fixed_box.specs.Bounds.{Bounds, holds, meets};
+ghost use Rattle.broad_index.specs.Found.{found_of};
+ghost use Rattle.box_tree.specs.Descent.{exact_in};
+
+use crate::descent::descend;
+use crate::kept_boxes::KeptBoxes;
+use broad_index::Query;
+use fixed_box::{FBox, NoMemory, Point, box_laws};
+use prepared_query::LineTest;
+
+// Appends the slots of leaves whose exact boxes meet a query. What kind it is is told here, once for all nodes.
+pub(crate) fn push_hits(
+    boxes: &KeptBoxes,
+    query: &Query,
+    out: &mut Vec<u32>,
+) -> Result<(), NoMemory>
+    ensures { OnOk result (out.new.items ≡ out.old.items ++ found_of (exact_in boxes.now.bodies boxes.now.tree) query.now) }
+{
+    match query {
+        Query::Region(region) => descend(boxes, region, out)?,
+        Query::Spot(at) => descend(boxes, &flat_box(at), out)?,
+        Query::Along(_) | Query::Between(_) => descend_along(boxes, query, out)?,
+    };
+    Ok(())
+}
+
+// The box that is a point: what holds the point is what meets it.
+fn flat_box(at: &Point) -> FBox
+    ensures { (body : Bounds) → meets result body ≡ holds body at.now }
+{
+    let flat = FBox::new(*at, *at).unwrap();
+    box_laws();
+    flat
+}
+
+// A descent with a line, prepared where its numbers fit.
+fn descend_along(boxes: &KeptBoxes, query: &Query, out: &mut Vec<u32>) -> Result<u32, NoMemory>
+    ensures { OnOk result (out.new.items ≡ out.old.items ++ found_of (exact_in boxes.now.bodies boxes.now.tree) query.now) }
+{
+    if let Some(line) = LineTest::of(query) {
+        return descend(boxes, &line, out);
+    }
+    descend(boxes, query, out)
+}
