@@ -1,4 +1,4 @@
--- The counts of a row's tallies: their two digits, and a tally that is read and written.
+-- The counts of a list's tallies: their two digits, and a tally that is read and written.
 use Rattle.std.proofs.Common.{◌≡◌, ◌≢◌, ℕ, ◌+◌, ◌-◌, ◌*◌, ◌/◌, ◌%◌, ◌^◌, ◌<◌, Bool, true, false, not, cond, ◌&&◌, List, length, get_or, set}
 use Rattle.std.proofs.Common.{eqb, refl, sym, ap, ◌∙◌, subst, arith, w64, bit_and, bit_xor, inl, inr, eq-eqb, ne_eqb}
 use Rattle.std.specs.Int.{bit_at, trailing_zeros}
@@ -8,7 +8,7 @@ use Rattle.std.proofs.lemmas.Nat.{and_le_r}
 use Rattle.std.proofs.lemmas.List.{get_or_read}
 use Rattle.std.proofs.lemmas.Nat.Bits.{bit_at-zero, bit_at-lt, bit_at_and, bit_at_or, bit_at_xor, bit_at_set_same, bit_at_set_other, bit_at-trailing_zeros}
 use Rattle.overlap_count.specs.declared.tally.Tally.{Tally}
-use Rattle.overlap_count.specs.Rows.{digit, blank, counts_of}
+use Rattle.overlap_count.specs.SlotCounts.{digit, blank, counts_of}
 use Rattle.overlap_count.proofs.SpreadLemmas.{length-spread, get_or-spread, spread-set}
 
 -- ---- a word of one bit
@@ -158,7 +158,7 @@ empties lowers low high bit p small here others = tells lowers (bit_and high low
         same_test (bit_at (bit_and high low) p) 1 (bit_at low p + 2 * bit_at high p) 3 (λ e. omega (arith, e, a, l, h)) (λ e. omega (arith, e, a, l, h))
     test false = refl
 
--- ---- a row's tallies
+-- ---- a list's tallies
 
 pub blank_digit : (k : ℕ) → digit blank k ≡ 0
 blank_digit k = omega (arith, bit_at-zero k)

@@ -15,7 +15,7 @@ use Rattle.broad_index.specs.Members.{has_pair}
 use Rattle.broad_index.specs.Near.{precedes, rises}
 use Rattle.overlap_count.specs.Counts.{count_of, IsCounts}
 use Rattle.overlap_count.specs.FullPairs.{pairs_with, pairs_below, full_pairs}
-use Rattle.overlap_count.specs.Rows.{bits_of, pairs_of_bits, is_marked, IsTable}
+use Rattle.overlap_count.specs.SlotCounts.{bits_of, pairs_of_bits, is_marked, IsTable}
 use Rattle.overlap_count.proofs.SetLemmas.{get_or-bits_of}
 use Rattle.broad_index.proofs.OneRising.{self_same}
 use Rattle.fixed_box.proofs.Numbers.{plus_one}
@@ -133,9 +133,9 @@ one_of true = refl
 one_of false = refl
 
 -- the sets of a table have the pairs that count 3
-pub marked_full : (rows sets : List (List ℕ)) → IsTable rows sets → pairs_below (is_marked sets) SLOTS ≡ full_pairs rows
-marked_full rows sets t =
-    same_below (is_marked sets) (λ a b. count_of rows a b == 3) (λ a b. ap (λ n. n == 1) (t.marked a b) ∙ one_of (count_of rows a b == 3)) SLOTS
+pub marked_full : (by_slot sets : List (List ℕ)) → IsTable by_slot sets → pairs_below (is_marked sets) SLOTS ≡ full_pairs by_slot
+marked_full by_slot sets t =
+    same_below (is_marked sets) (λ a b. count_of by_slot a b == 3) (λ a b. ap (λ n. n == 1) (t.marked a b) ∙ one_of (count_of by_slot a b == 3)) SLOTS
 
 -- ---- which pairs they are
 
@@ -207,17 +207,17 @@ have_below f (suc n) a b lt small passes =
       | inr other ↦ or_left (has_pair (pairs_below f n) p) (has_pair last p) (have_below f n a b (omega arith) small passes)
     ]
 
-pub members : (rows : List (List ℕ)) → IsCounts rows → (p : Pair) → has_pair (full_pairs rows) p ≡ (count_of rows p.a p.b == 3)
-members rows known p = elim (cases_Bool (has_pair (full_pairs rows) p)) [
-  | inl there ↦ there ∙ sym (below_have (λ a b. count_of rows a b == 3) SLOTS p there).1
-  | inr none ↦ none ∙ sym (ne_eqb (count_of rows p.a p.b) 3 (λ three. fails none three))
+pub members : (by_slot : List (List ℕ)) → IsCounts by_slot → (p : Pair) → has_pair (full_pairs by_slot) p ≡ (count_of by_slot p.a p.b == 3)
+members by_slot known p = elim (cases_Bool (has_pair (full_pairs by_slot) p)) [
+  | inl there ↦ there ∙ sym (below_have (λ a b. count_of by_slot a b == 3) SLOTS p there).1
+  | inr none ↦ none ∙ sym (ne_eqb (count_of by_slot p.a p.b) 3 (λ three. fails none three))
 ]
   where
-    fails : has_pair (full_pairs rows) p ≡ false → count_of rows p.a p.b ≢ 3
+    fails : has_pair (full_pairs by_slot) p ≡ false → count_of by_slot p.a p.b ≢ 3
     fails none three =
         let slots = known.known p.a p.b (λ zero. absurd (omega (arith, zero, three))) in
-        let there : has_pair (full_pairs rows) p ≡ true =
-        have_below (λ a b. count_of rows a b == 3) SLOTS p.a p.b (omega (arith, slots.0, slots.1)) slots.1 (eq-eqb (count_of rows p.a p.b) 3 three) in
+        let there : has_pair (full_pairs by_slot) p ≡ true =
+        have_below (λ a b. count_of by_slot a b == 3) SLOTS p.a p.b (omega (arith, slots.0, slots.1)) slots.1 (eq-eqb (count_of by_slot p.a p.b) 3 three) in
         absurd (cc)
 
 -- ---- that they rise

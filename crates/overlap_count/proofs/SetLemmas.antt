@@ -6,7 +6,7 @@ use Rattle.std.proofs.lemmas.Bool.{cases_lt}
 use Rattle.std.proofs.lemmas.List.{get_or_past}
 use Rattle.std.proofs.lemmas.List.Sums.{count_by-le-length, sum_by-set, sum_by-append, sum_by-cons, get_or-le-sum_by}
 use Rattle.std.proofs.lemmas.Nat.Bits.{bit_at-zero}
-use Rattle.overlap_count.specs.Rows.{bits_of, is_one, IsSet}
+use Rattle.overlap_count.specs.SlotCounts.{bits_of, is_one, IsSet}
 use Rattle.overlap_count.proofs.SpreadLemmas.{length-spread, get_or-spread, spread_none, spread-set, grown_spread}
 
 pub length-bits_of : (words : List ℕ) → length (bits_of words) ≡ 64 * length words

@@ -5,7 +5,7 @@ use Rattle.std.proofs.Common.{arith, get_or-set_same, get_or-set_other, length-s
 use Rattle.std.proofs.lemmas.Bool.{cases_eq, cases_lt}
 use Rattle.std.proofs.lemmas.List.{get_or_past, take_all, length-replicate, set-get_or}
 use Rattle.std.proofs.lemmas.List.FromFn.{length-map-range_with_len, get_or-map-range_with_len}
-use Rattle.overlap_count.specs.Rows.{spread}
+use Rattle.overlap_count.specs.SlotCounts.{spread}
 
 pub length-spread : {A : Type 0} (at : A → ℕ → ℕ) (blank : A) (ts : List A) → length (spread at blank ts) ≡ 64 * length ts
 unfolding spread

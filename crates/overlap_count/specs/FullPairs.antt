@@ -16,4 +16,4 @@ pairs_below passes (suc n) = pairs_below passes n ++ pairs_with n (passes n) SLO
 
 -- all pairs whose count is 3, by a and then by b
 abbrev pub full_pairs : List (List ℕ) → List Pair
-full_pairs rows = pairs_below (λ a b. count_of rows a b == 3) SLOTS
+full_pairs by_slot = pairs_below (λ a b. count_of by_slot a b == 3) SLOTS

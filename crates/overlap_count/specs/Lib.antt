@@ -1,3 +1,3 @@
 pub mod Counts
 pub mod FullPairs
-pub mod Rows
+pub mod SlotCounts

@@ -5,9 +5,9 @@ ghost use Rattle.overlap_count.specs.Counts.{count_of, IsCounts};
 ghost use Rattle.broad_index.specs.Members.{has_pair};
 ghost use Rattle.broad_index.specs.Near.{rises};
 ghost use Rattle.overlap_count.specs.FullPairs.{full_pairs, pairs_below};
-ghost use Rattle.overlap_count.specs.Rows.{is_marked};
+ghost use Rattle.overlap_count.specs.SlotCounts.{is_marked};
 
-use crate::row::{PLACES, Row};
+use crate::slot_counts::{PLACES, SlotCounts};
 use crate::slot_set::SlotSet;
 use broad_index::Pair;
 use fixed_box::{NoMemory, SLOTS};
@@ -17,25 +17,25 @@ use std::marker::Model;
 /// For each pair of slots the number of axes on which their boxes overlap, 0 to 3, as sweep and prune keeps it while
 /// endpoints change places (Cohen, Lin, Manocha, Ponamgi, *I-COLLIDE*, 1995).
 ///
-/// A pair has its lower slot first. Its count takes two bits in the row of its higher slot, so that a slot that passes
-/// lower ones stays within one row of 2 KB. The pairs that count 3 stand once more in sets by the lower slot, which
-/// change only where a count comes to 3 or leaves it. Rows and sets are made as they are needed: 8.5 MB of counts and
+/// A pair has its lower slot first. Its count takes two bits in the list of its higher slot, so that a slot that passes
+/// lower ones stays within one list of 2 KB. The pairs that count 3 stand once more in sets by the lower slot, which
+/// change only where a count comes to 3 or leaves it. Lists and sets are made as they are needed: 8.5 MB of counts and
 /// 8.4 MB of sets where all slots have pairs.
 #[derive(Drop)]
 pub struct Counts {
-    rows: Vec<Row>,
+    by_slot: Vec<SlotCounts>,
     full: Vec<SlotSet>,
 }
 
 impl Model for Counts {
     ghost use Rattle.std.specs.Prelude.{List, ℕ};
-    ghost use Rattle.overlap_count.specs.Rows.{IsTable};
+    ghost use Rattle.overlap_count.specs.SlotCounts.{IsTable};
 
     ghost Value = { List (List ℕ) };
 
-    ghost view = { λ c. c.rows.items };
+    ghost view = { λ c. c.by_slot.items };
 
-    ghost invariant = { λ c. IsTable c.rows.items c.full.items };
+    ghost invariant = { λ c. IsTable c.by_slot.items c.full.items };
 }
 
 impl Counts {
@@ -43,13 +43,13 @@ impl Counts {
     pub fn new(alloc: Global) -> Result<Counts, NoMemory>
         ensures { IfOk result (λ counts. (a b : ℕ) → count_of counts a b ≡ 0) }
     {
-        let mut rows = Vec::with_capacity(alloc, SLOTS as usize)?;
+        let mut by_slot = Vec::with_capacity(alloc, SLOTS as usize)?;
         let mut full = Vec::with_capacity(alloc, SLOTS as usize)?;
-        'rows: for _slot in 0..SLOTS {
-            rows.push(Row::new(alloc))?;
+        'by_slot: for _slot in 0..SLOTS {
+            by_slot.push(SlotCounts::new(alloc))?;
             full.push(SlotSet::new(alloc))?;
         }
-        Ok(Counts { rows, full })
+        Ok(Counts { by_slot, full })
     }
 
     /// The pair's count, in constant time.
@@ -59,10 +59,10 @@ impl Counts {
         ensures count { result ≡ count_of self.now pair.a pair.b }
         ensures counts { IsCounts self.now }
     {
-        self.rows[pair.b as usize].count(pair.a)
+        self.by_slot[pair.b as usize].count(pair.a)
     }
 
-    /// The pair's count rises by one, in constant time but where the row of its higher slot, or at 3 the set of its
+    /// The pair's count rises by one, in constant time but where the list of its higher slot, or at 3 the set of its
     /// lower slot, is made.
     pub fn raise(&mut self, pair: Pair) -> Result<(), NoMemory>
         requires order { pair.a < pair.b }
@@ -79,7 +79,7 @@ impl Counts {
     /// The pair's count rises by one where `rises`, and else all stays.
     ///
     /// Which of the two is as good as random where a walk passes endpoints of both kinds, so it is no branch: only a
-    /// count that comes to 3, or a row that has to grow, takes another path.
+    /// count that comes to 3, or a list that has to grow, takes another path.
     #[inline]
     pub fn raise_if(&mut self, pair: Pair, rises: bool) -> Result<(), NoMemory>
         requires order { pair.a < pair.b }
@@ -91,8 +91,8 @@ impl Counts {
         ensures counts { IsCounts self.new }
         ensures err { OnErr result (self.new ≡ self.old) }
     {
-        if self.rows[pair.b as usize].raises_within(pair.a, rises) {
-            self.rows[pair.b as usize].raise_within(pair.a, rises);
+        if self.by_slot[pair.b as usize].raises_within(pair.a, rises) {
+            self.by_slot[pair.b as usize].raise_within(pair.a, rises);
             return Ok(());
         }
         if rises {
@@ -124,8 +124,8 @@ impl Counts {
             else count_of self.old a b) }
         ensures counts { IsCounts self.new }
     {
-        if self.rows[pair.b as usize].lowers_within(pair.a, lowers) {
-            self.rows[pair.b as usize].lower_within(pair.a, lowers);
+        if self.by_slot[pair.b as usize].lowers_within(pair.a, lowers) {
+            self.by_slot[pair.b as usize].lower_within(pair.a, lowers);
             return;
         }
         if lowers {
@@ -133,7 +133,7 @@ impl Counts {
         }
     }
 
-    /// Each pair with a slot counts 0. The slot's own row and those of higher slots are looked at.
+    /// Each pair with a slot counts 0. The slot's own list and those of higher slots are looked at.
     pub fn forget(&mut self, slot: u32)
         requires { slot < SLOTS }
         ensures forgotten { (a b : ℕ) → count_of self.new a b ≡ (if a == slot || b == slot then 0 else count_of self.old a b) }
@@ -161,7 +161,7 @@ impl Counts {
         pushed
     }
 
-    // The pair's count rises. The row grows where it lacks the place, and at 3 the set gets the pair. This stands apart, so
+    // The pair's count rises. The list grows where it lacks the place, and at 3 the set gets the pair. This stands apart, so
     // that a count that has its place rises in few steps.
     #[cold]
     #[inline(never)]
@@ -174,12 +174,12 @@ impl Counts {
         ensures counts { IsCounts self.new }
         ensures err { OnErr result (self.new ≡ self.old) }
     {
-        if self.rows[pair.b as usize].count(pair.a) == 2 {
+        if self.by_slot[pair.b as usize].count(pair.a) == 2 {
             self.full[pair.a as usize].insert(pair.b)?;
-            self.rows[pair.b as usize].raise_within(pair.a, true);
+            self.by_slot[pair.b as usize].raise_within(pair.a, true);
             return Ok(());
         }
-        self.rows[pair.b as usize].raise(pair.a, tallies_of(pair.b))
+        self.by_slot[pair.b as usize].raise(pair.a, tallies_of(pair.b))
     }
 
     // The pair's count falls from 3, and the set loses the pair. This stands apart too.
@@ -193,32 +193,32 @@ impl Counts {
             ≡ (if a == pair.a && b == pair.b then count_of self.old pair.a pair.b - 1 else count_of self.old a b) }
         ensures counts { IsCounts self.new }
     {
-        self.rows[pair.b as usize].lower_within(pair.a, true);
+        self.by_slot[pair.b as usize].lower_within(pair.a, true);
         self.full[pair.a as usize].remove(pair.b);
     }
 
-    // Each pair with a lower slot counts 0: those of the slot's own row.
+    // Each pair with a lower slot counts 0: those of the slot's own list.
     fn forget_lower(&mut self, slot: u32)
         requires { slot < SLOTS }
         ensures { (a b : ℕ) → count_of self.new a b ≡ (if b == slot then 0 else count_of self.old a b) }
     {
         'sets: for a in 0..slot {
-            if self.rows[slot as usize].count(a) == 3 {
+            if self.by_slot[slot as usize].count(a) == 3 {
                 self.full[a as usize].remove(slot);
             }
         }
-        self.rows[slot as usize].clear();
+        self.by_slot[slot as usize].clear();
     }
 
-    // Each pair with a higher slot counts 0: those of the slot's place in later rows.
+    // Each pair with a higher slot counts 0: those of the slot's place in later lists.
     fn forget_higher(&mut self, slot: u32)
         requires { slot < SLOTS }
         ensures forgotten { (a b : ℕ) → count_of self.new a b ≡ (if a == slot then 0 else count_of self.old a b) }
         ensures counts { IsCounts self.new }
     {
         self.full[slot as usize].clear();
-        'rows: for b in slot + 1..SLOTS {
-            self.rows[b as usize].unset(slot);
+        'by_slot: for b in slot + 1..SLOTS {
+            self.by_slot[b as usize].unset(slot);
         }
     }
 }

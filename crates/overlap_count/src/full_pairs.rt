@@ -1,7 +1,7 @@
 ghost use Rattle.std.specs.Prelude.{◌≡◌, ◌≢◌, ◌+◌, ◌*◌, ◌<◌, ◌≤◌, ◌++◌, ◌==◌, ◌^◌, ℕ, OnOk, length, slice_index, take, vec_len};
 ghost use Rattle.std.specs.Int.{bit_at};
 ghost use Rattle.overlap_count.specs.FullPairs.{pairs_with};
-ghost use Rattle.overlap_count.specs.Rows.{bits_of, pairs_of_bits};
+ghost use Rattle.overlap_count.specs.SlotCounts.{bits_of, pairs_of_bits};
 
 use broad_index::Pair;
 use fixed_box::NoMemory;

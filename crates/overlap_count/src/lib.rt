@@ -3,7 +3,7 @@
 
 mod counts;
 mod full_pairs;
-mod row;
+mod slot_counts;
 mod slot_set;
 mod tally;
 

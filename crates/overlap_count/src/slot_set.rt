@@ -3,7 +3,7 @@ ghost use Rattle.std.specs.Prelude.{ℕ, if◌then◌else◌, OnOk, OnErr, lengt
 ghost use Rattle.overlap_count.specs.FullPairs.{pairs_with};
 
 use crate::full_pairs::push_words;
-use crate::row::PLACES;
+use crate::slot_counts::PLACES;
 use broad_index::Pair;
 use fixed_box::{NoMemory, SLOTS};
 use std::alloc::Global;
@@ -22,7 +22,7 @@ pub(crate) struct SlotSet {
 
 impl Model for SlotSet {
     ghost use Rattle.std.specs.Prelude.{List, ℕ};
-    ghost use Rattle.overlap_count.specs.Rows.{bits_of, IsSet};
+    ghost use Rattle.overlap_count.specs.SlotCounts.{bits_of, IsSet};
 
     ghost Value = { List ℕ };
 

@@ -1,6 +1,6 @@
 ghost use Rattle.std.specs.Prelude.{◌≡◌, ◌≢◌, ◌+◌, ◌-◌, ◌<◌, ◌≤◌, ◌==◌, ◌&&◌, true, ℕ, if◌then◌else◌};
 ghost use Rattle.std.specs.Int.{bit_at};
-ghost use Rattle.overlap_count.specs.Rows.{blank, digit};
+ghost use Rattle.overlap_count.specs.SlotCounts.{blank, digit};
 
 // Sixty-four counts from 0 to 3. Bit k of each word is one of the two binary digits of count k.
 #[derive(Clone, Copy)]

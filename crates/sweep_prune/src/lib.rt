@@ -6,15 +6,11 @@ mod axis;
 mod key_number;
 mod laws;
 mod lists;
-mod move_axis;
-mod move_box;
-mod move_ends;
+mod moves;
 mod recount;
-mod rekey;
 mod sap;
+mod steps;
 pub mod walk;
-mod walk_down;
-mod walk_up;
 
 pub use axis::Axis;
 pub use sap::Sap;

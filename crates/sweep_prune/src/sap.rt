@@ -9,7 +9,7 @@ ghost use Rattle.sweep_prune.specs.declared.axis.Axis.{Axis};
 
 use crate::Axis;
 use crate::lists::push_nodes;
-use crate::move_box::{Keys, move_box, place_box};
+use crate::moves::{Keys, move_box, place_box};
 use crate::walk::{Core, clear, enter, quit};
 use broad_index::{BroadPhase, NoSeeker, Pair, PlainIndex, Query, member_laws};
 use endpoint_list::NODES;

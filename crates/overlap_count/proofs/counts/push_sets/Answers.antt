@@ -3,7 +3,7 @@ use Rattle.std.proofs.Common.{◌≡◌, ◌<◌, ◌++◌, ◌==◌, List, ℕ,
 use Rattle.std.proofs.lemmas.Grind.{common_steps}
 use Rattle.std.proofs.lemmas.List.{get_or_read}
 use Rattle.overlap_count.specs.FullPairs.{pairs_with, pairs_below}
-use Rattle.overlap_count.specs.Rows.{is_marked}
+use Rattle.overlap_count.specs.SlotCounts.{is_marked}
 use Rattle.overlap_count.proofs.PairLemmas.{below_none, below_next}
 use Rattle.overlap_count.proofs.counts.push_sets.Goals as goal
 

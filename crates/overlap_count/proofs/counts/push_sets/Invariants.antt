@@ -1,6 +1,6 @@
 use Rattle.std.proofs.Common.{◌≡◌, ◌++◌, take, vec_len}
 use Rattle.overlap_count.specs.FullPairs.{pairs_below}
-use Rattle.overlap_count.specs.Rows.{is_marked}
+use Rattle.overlap_count.specs.SlotCounts.{is_marked}
 use Rattle.overlap_count.proofs.counts.push_sets.Given as goal
 
 -- the pairs of the slots so far

@@ -4,7 +4,7 @@ use Rattle.std.specs.Int.{bit_at}
 use Rattle.std.proofs.lemmas.Bool.{cases_lt}
 use Rattle.std.proofs.lemmas.Grind.{common_steps}
 use Rattle.std.proofs.lemmas.Nat.Bits.{bit_at-zero}
-use Rattle.overlap_count.specs.Rows.{pairs_of_bits}
+use Rattle.overlap_count.specs.SlotCounts.{pairs_of_bits}
 use Rattle.overlap_count.proofs.PairLemmas.{bits_none, bits_one, bits_upto}
 use Rattle.overlap_count.proofs.full_pairs.push_bits.Goals as goal
 

@@ -1,5 +1,5 @@
 use Rattle.std.proofs.Common.{◌≡◌, ◌++◌, ℕ, take, vec_len}
-use Rattle.overlap_count.specs.Rows.{pairs_of_bits, IsLeft}
+use Rattle.overlap_count.specs.SlotCounts.{pairs_of_bits, IsLeft}
 use Rattle.overlap_count.proofs.full_pairs.push_bits.Given as goal
 
 -- the pairs of the places before some place are there, and the bits from it on are left

@@ -2,7 +2,7 @@
 use Rattle.std.proofs.Common.{◌≡◌, ◌*◌, ◌++◌, [], refl, ap, sym, ◌∙◌, arith, append_assoc, append-nil, take, vec_len, get_or}
 use Rattle.std.proofs.lemmas.Grind.{common_steps}
 use Rattle.overlap_count.specs.FullPairs.{pairs_with}
-use Rattle.overlap_count.specs.Rows.{pairs_of_bits}
+use Rattle.overlap_count.specs.SlotCounts.{pairs_of_bits}
 use Rattle.overlap_count.proofs.PairLemmas.{is_in, pairs_none, word_more, bits_zero}
 use Rattle.overlap_count.proofs.full_pairs.push_words.Goals as goal
 use Rattle.overlap_count.proofs.full_pairs.push_words.Goals.{then-word-ne0+in_ok-push_bits, else-word-ne0}

@@ -1,9 +1,9 @@
 use Rattle.std.proofs.Common.{◌≡◌, [], replicate}
 use Rattle.overlap_count.proofs.counts.Counts.new.Given as goal
 
--- so many rows without a count, and sets without a slot
-abbrev pub invariant-rows : goal.invariant-rows
-invariant-rows l = record {
-  rows : l.rows.items ≡ replicate l._slot [];
+-- so many lists without a count, and sets without a slot
+abbrev pub invariant-by_slot : goal.invariant-by_slot
+invariant-by_slot l = record {
+  by_slot : l.by_slot.items ≡ replicate l._slot [];
   sets : l.full.items ≡ replicate l._slot [];
 }

@@ -3,7 +3,7 @@ use Rattle.std.proofs.Common.{◌++◌, ◌*◌, ◌≤◌, ◌==◌, ℕ, Bool,
 use Rattle.std.proofs.lemmas.List.{get_or_past}
 use Rattle.std.proofs.lemmas.Result.{on_ok_weaker}
 use Rattle.overlap_count.specs.FullPairs.{pairs_with}
-use Rattle.overlap_count.specs.Rows.{bits_of}
+use Rattle.overlap_count.specs.SlotCounts.{bits_of}
 use Rattle.overlap_count.proofs.PairLemmas.{is_in, pairs_none, pairs_upto}
 use Rattle.overlap_count.proofs.SetLemmas.{length-bits_of, no_slot}
 use Rattle.overlap_count.proofs.slot_set.SlotSet.push_pairs.Goals as goal
