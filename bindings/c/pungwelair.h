@@ -124,7 +124,8 @@ typedef struct pw_new {
 } pw_new;
 
 /* What names a live box: its slot, and how often that slot was given before. A new box takes the least free slot, so index
- * your own arrays by it. A handle of a box that is gone is stale until 2^32 boxes were given. */
+ * your own arrays by it. A handle of a box that is gone stays stale. After pw_back the handles of boxes that came behind the
+ * mark are given again, to other boxes: forget them. */
 typedef struct pw_handle {
     uint32_t slot, generation;
 } pw_handle;
