@@ -1,14 +1,15 @@
 -- Quotients rounded down, the cells beside a box, where the cells of what it meets are, and the order of cells.
-use Rattle.std.proofs.Common.{◌≡◌, ◌⊎◌, ℕ, ◌+◌, ◌*◌, ◌/◌, ◌<◌, ◌≤◌, arith, true, ◌&&◌, inl, inr, sym, ap, ◌∙◌}
+use Rattle.std.proofs.Common.{◌≡◌, ◌⊎◌, ℕ, suc, ◌+◌, ◌*◌, ◌/◌, ◌<◌, ◌≤◌, arith, true, inl, inr, sym, ap, ◌∙◌}
 use Rattle.std.proofs.lemmas.Int.{ints}
 use Rattle.std.proofs.lemmas.Bool.{and_parts}
 use Rattle.std.proofs.lemmas.Nat.{pow_pos}
+use Rattle.std.proofs.Math.Nat.{mul-le-mul_right, div-mul-le_self}
 use Rattle.std.proofs.Math.Pow.{pow_mono}
-use Rattle.std.specs.Prelude.{ℤ, pos, negsuc, ◌+ℤ◌, ◌-ℤ◌, ◌≤ℤ◌, ◌<ℤ◌, int_le, unsigned_abs}
+use Rattle.std.specs.Prelude.{ℤ, pos, negsuc, ◌+ℤ◌, ◌-ℤ◌, ◌*ℤ◌, neg_ℤ, ◌≤ℤ◌, ◌<ℤ◌, int_le, unsigned_abs}
 use Rattle.fixed_box.specs.Bounds.{Bounds, cell_side, longest_side, meets}
-use Rattle.fixed_box.specs.declared.point.Point.{Point}
 use Rattle.fixed_box.specs.Point.{is_at_most}
 use Rattle.cell_table.specs.declared.cell_key.CellKey.{CellKey}
+use Rattle.hier_grid.proofs.CornerLemmas.{axes}
 use Rattle.hier_grid.specs.Cells.{cell_at, cell_on, IsFrom, IsBeside, IsAfter}
 use Rattle.std.specs.Int.{int_div_euclid}
 use Rattle.std.proofs.lemmas.Nat.{div_below}
@@ -41,17 +42,6 @@ same_order (negsuc a) (negsuc b) k h le =
     let p : b / k < a / k + 1 = div_below b k (a / k + 1) h (let q = below a k h in omega (arith, ints)) in
     omega (arith, ints)
 
-pub record Axes (p q : Point) : Type 0 where
-  pub x : int_le p.x q.x ≡ true
-  pub y : int_le p.y q.y ≡ true
-  pub z : int_le p.z q.z ≡ true
-
-pub axes : (p q : Point) → is_at_most p q ≡ true → Axes p q
-axes p q h =
-    let parts = and_parts (int_le p.x q.x && int_le p.y q.y) (int_le p.z q.z) h in
-    let firsts = and_parts (int_le p.x q.x) (int_le p.y q.y) parts.0 in
-    record { x = firsts.0; y = firsts.1; z = parts.1 }
-
 beside_on : (level : ℕ) (alo ahi blo bhi : ℤ) → 0 < cell_side level → unsigned_abs (bhi -ℤ blo) < cell_side level → int_le blo bhi ≡ true
     → int_le alo bhi ≡ true → int_le blo ahi ≡ true → IsFrom level alo ahi (cell_at level blo)
 beside_on level alo ahi blo bhi some short o left right = record {
@@ -59,7 +49,7 @@ beside_on level alo ahi blo bhi some short o left right = record {
   high = same_order blo ahi (cell_side level) some (omega (arith, ints));
 }
 
-some_side : (level : ℕ) → 0 < cell_side level
+pub some_side : (level : ℕ) → 0 < cell_side level
 some_side level = pow_pos (12 + 2 * level)
 
 pub beside : (level : ℕ) (a b : Bounds) → longest_side b < cell_side level → is_at_most b.lo b.hi ≡ true → meets a b ≡ true
@@ -76,7 +66,7 @@ beside level a b short o m =
       z = beside_on level a.lo.z a.hi.z b.lo.z b.hi.z some (omega arith) ob.z left.z right.z;
     }
 
-wide : (level : ℕ) → 4096 ≤ cell_side level
+pub wide : (level : ℕ) → 4096 ≤ cell_side level
 wide level = pow_mono {i = 12} {j = 12 + 2 * level} (omega arith)
 
 few : (a k : ℕ) → 4096 ≤ k → a < 2147483648 → a / k < 1048576
@@ -89,6 +79,43 @@ cell_low level (negsuc a) h = let p = few a (cell_side level) (wide level) (omeg
 pub cell_high : (level : ℕ) (x : ℤ) → x <ℤ pos 2147483648 → cell_at level x ≤ℤ pos 1048576
 cell_high level (pos a) h = let p = few a (cell_side level) (wide level) (omega (arith, ints)) in omega (arith, ints)
 cell_high level (negsuc a) h = omega (arith, ints)
+
+-- ---- where cells start
+-- a number from so many negative cells on
+from_negative : (a n : ℕ) → a < n → neg_ℤ (pos n) ≤ℤ negsuc a
+from_negative a n h = omega (arith, ints)
+
+below_negative : (a n : ℕ) → n ≤ a → negsuc a <ℤ neg_ℤ (pos n)
+below_negative a n h = omega (arith, ints)
+
+least : (a n : ℕ) → neg_ℤ (pos n) ≤ℤ pos a
+least a n = omega (arith, ints)
+
+-- a cell that is at most the one of a number starts at most there
+pub starts : (c x : ℤ) (k : ℕ) → 0 < k → c ≤ℤ int_div_euclid x (pos k) → (c *ℤ pos k) ≤ℤ x
+starts (pos c) (pos a) k h le =
+    let m : c * k ≤ (a / k) * k = mul-le-mul_right k (omega (arith, ints)) in
+    let d : (a / k) * k ≤ a = div-mul-le_self a k in
+    omega (arith, ints)
+starts (pos c) (negsuc a) k h le = absurd (omega (arith, ints))
+starts (negsuc c) (pos a) k h le = least a (suc c * k)
+starts (negsuc c) (negsuc a) k h le =
+    let m : (a / k + 1) * k ≤ suc c * k = mul-le-mul_right k (omega (arith, ints)) in
+    let d = below a k h in
+    from_negative a (suc c * k) (omega arith)
+
+-- a number in an earlier cell lies before the start of a cell
+pub stops : (c x : ℤ) (k : ℕ) → 0 < k → int_div_euclid x (pos k) <ℤ c → x <ℤ (c *ℤ pos k)
+stops (pos c) (pos a) k h lt =
+    let m : (a / k + 1) * k ≤ c * k = mul-le-mul_right k (omega (arith, ints)) in
+    let d = below a k h in
+    omega (arith, ints)
+stops (pos c) (negsuc a) k h lt = omega (arith, ints)
+stops (negsuc c) (pos a) k h lt = absurd (omega (arith, ints))
+stops (negsuc c) (negsuc a) k h lt =
+    let m : suc c * k ≤ (a / k) * k = mul-le-mul_right k (omega (arith, ints)) in
+    let d : (a / k) * k ≤ a = div-mul-le_self a k in
+    below_negative a (suc c * k) (omega arith)
 
 -- ---- the order of cells
 pub int_order : (x y : ℤ) → (x <ℤ y) ⊎ ((x ≡ y) ⊎ (y <ℤ x))

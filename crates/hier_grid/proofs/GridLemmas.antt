@@ -11,11 +11,11 @@ use Rattle.std.specs.declared.cmp.Ordering.TheVariants.{Less, Equal, Greater}
 use Rattle.std.specs.Cmp.{ranked}
 use Rattle.std.specs.FinMap.{FinMap, get, get-insert, get-remove, insert, remove, contains_key, empty, get-empty, entries, get-entries}
 use Rattle.std.specs.FinMap as maps
-use Rattle.fixed_box.specs.Bounds.{Bounds, cell_side, level_of, longest_side, meets}
+use Rattle.fixed_box.specs.Bounds.{Bounds, cell_side, encloses, level_of, longest_side, meets}
 use Rattle.cell_table.specs.declared.cell_key.CellKey.{CellKey}
 use Rattle.cell_table.specs.Cells.{has, slots_at}
 use Rattle.hier_grid.specs.Cells.{cell_of, IsBeside}
-use Rattle.hier_grid.specs.Grid.{AreKeyed, IsGrid, IsSized}
+use Rattle.hier_grid.specs.Grid.{AreKeyed, IsGrid, IsSized, is_held}
 use Rattle.hier_grid.specs.Search.{IsAbove, IsBare}
 use Rattle.hier_grid.proofs.CellLemmas.{beside}
 use Rattle.hier_grid.proofs.SlotLemmas.{nat_next}
@@ -34,9 +34,14 @@ some_is e = cc
 pub none_some : (x : Bounds) → ◌≡◌ {A = Option Bounds} None (Some x) → ⊥
 none_some x e = true≢false (ap is_some (sym e))
 
-pub grid_put : (bodies : FinMap nat_cmp Bounds) (cells : FinMap nat_cmp CellKey) (s : ℕ) (b : Bounds) → IsGrid bodies cells → IsSized b
-    → IsGrid (insert bodies s b) (insert cells s (cell_of b))
-grid_put bodies cells s b g sized = record {
+pub grid_put : (bodies : FinMap nat_cmp Bounds) (cells : FinMap nat_cmp CellKey) (hull : Option Bounds) (s : ℕ) (b : Bounds) (grown : Bounds)
+    → IsGrid bodies cells hull → IsSized b → encloses grown b ≡ true → ((x : Bounds) → is_held hull x ≡ true → encloses grown x ≡ true)
+    → IsGrid (insert bodies s b) (insert cells s (cell_of b)) (Some grown)
+grid_put bodies cells hull s b grown g sized this more = record {
+  held = λ q x h. elim (eq_by_cmp nat_cmp q s) as (λ t. cond t (Some b) (get bodies q) ≡ Some x → encloses grown x ≡ true) [
+    | true ↦ λ e. subst (λ (y : Bounds). encloses grown y ≡ true) (some_is e) this
+    | false ↦ λ e. more x (g.held q x e)
+  ] (sym (get-insert nat_cmp_total bodies s b q) ∙ h);
   keyed = λ q. get-insert nat_cmp_total cells s (cell_of b) q
       ∙ elim (eq_by_cmp nat_cmp q s) as
       (λ t. cond t (Some (cell_of b)) (get cells q) ≡ option_map cell_of (cond t (Some b) (get bodies q))) [ true ↦ refl | false ↦ g.keyed q ]
@@ -47,8 +52,13 @@ grid_put bodies cells s b g sized = record {
   ] (sym (get-insert nat_cmp_total bodies s b q) ∙ h);
 }
 
-pub grid_take : (bodies : FinMap nat_cmp Bounds) (cells : FinMap nat_cmp CellKey) (s : ℕ) → IsGrid bodies cells → IsGrid (remove bodies s) (remove cells s)
-grid_take bodies cells s g = record {
+pub grid_take : (bodies : FinMap nat_cmp Bounds) (cells : FinMap nat_cmp CellKey) (hull : Option Bounds) (s : ℕ) → IsGrid bodies cells hull
+    → IsGrid (remove bodies s) (remove cells s) hull
+grid_take bodies cells hull s g = record {
+  held = λ q x h. elim (eq_by_cmp nat_cmp q s) as (λ t. cond t None (get bodies q) ≡ Some x → is_held hull x ≡ true) [
+    | true ↦ λ e. absurd (none_some x e)
+    | false ↦ g.held q x
+  ] (sym (get-remove nat_cmp_total bodies s q) ∙ h);
   keyed = λ q. get-remove nat_cmp_total cells s q
       ∙ elim (eq_by_cmp nat_cmp q s) as (λ t. cond t None (get cells q) ≡ option_map cell_of (cond t None (get bodies q))) [ true ↦ refl | false ↦ g.keyed q ]
       ∙ sym (ap (option_map cell_of) (get-remove nat_cmp_total bodies s q));
@@ -59,8 +69,9 @@ grid_take bodies cells s g = record {
 }
 
 pub grid_new : (bodies : FinMap nat_cmp Bounds) (cells : FinMap nat_cmp CellKey) → bodies ≡ empty {R = nat_cmp} → cells ≡ empty {R = nat_cmp}
-    → IsGrid bodies cells
+    → IsGrid bodies cells None
 grid_new bodies cells e f = record {
+  held = λ s b h. absurd (none_some b (sym (ap (λ m. get m s) e ∙ get-empty nat_cmp s) ∙ h));
   keyed = λ s. ap (λ m. get m s) f ∙ get-empty nat_cmp s ∙ sym (ap (option_map cell_of) (ap (λ m. get m s) e ∙ get-empty nat_cmp s));
   sized = λ s b h. absurd (none_some b (sym (ap (λ m. get m s) e ∙ get-empty nat_cmp s) ∙ h));
 }
@@ -120,9 +131,9 @@ none_in [] q l h = false≢true h
 none_in (x ∷ xs) q l h = absurd (omega arith)
 
 -- A level with no slot has no box.
-pub bare : (bodies : FinMap nat_cmp Bounds) (cells : FinMap nat_cmp CellKey) (level : ℕ) → IsGrid bodies cells → length (slots_at cells level) ≡ 0
+pub bare : (bodies : FinMap nat_cmp Bounds) (cells : FinMap nat_cmp CellKey) (hull : Option Bounds) (level : ℕ) → IsGrid bodies cells hull → length (slots_at cells level) ≡ 0
     → IsBare bodies level
-bare bodies cells level g none q b e l =
+bare bodies cells hull level g none q b e l =
     none_in (slots_at cells level) q none (has_level cells q (cell_of b) level l (g.keyed q ∙ ap (option_map cell_of) e))
 
 -- What is above all boxes, where the level below it has none, is above them by one less.

@@ -6,31 +6,24 @@ use Rattle.std.proofs.lemmas.Bool.{and_parts, false≢true}
 use Rattle.std.proofs.lemmas.Bool.Decides.{nat_tests}
 use Rattle.std.specs.Ordering.{nat_cmp, eq_by_cmp}
 use Rattle.std.specs.FinMap.{FinMap, entries, get, get-entries, find}
-use Rattle.fixed_box.specs.Bounds.{Bounds, meets}
-use Rattle.broad_index.specs.Found.{query_meets}
+use Rattle.fixed_box.specs.Bounds.{Bounds}
 use Rattle.broad_index.specs.declared.query.Query.{Query}
 use Rattle.broad_index.specs.Members.{has_slot, both_meet, is_found, is_reached, meets_query}
 use Rattle.broad_index.specs.Searched.{AreAllIn}
-use Rattle.hier_grid.specs.Search.{HasMetIn, meets_at, is_partner}
+use Rattle.hier_grid.specs.Search.{HasHitsBelow, HasMetIn, meets_at, is_partner}
 use Rattle.slot_lists.specs.Present.{present}
-use Rattle.fixed_box.specs.Space.{space}
 use Rattle.hier_grid.proofs.GridLemmas.{low_level, tie_is}
 use Rattle.hier_grid.proofs.SlotLemmas.{all_among}
 
-hit_at : (bodies : FinMap nat_cmp Bounds) (query : Query) (region : Bounds) (slots : List ℕ)
-    → ((q : ℕ) (b : Bounds) → get bodies q ≡ Some b → meets space b ≡ true)
-    → ((b : Bounds) → meets space b ≡ true → query_meets query b ≡ true → meets region b ≡ true)
-    → HasMetIn bodies 0 11 region slots → (q : ℕ) (o : Option Bounds) → get bodies q ≡ o → meets_query query o ≡ true → has_slot slots q ≡ true
-hit_at bodies query region slots near same h q None e t = absurd (false≢true t)
-hit_at bodies query region slots near same h q (Some b) e t = h q b e (omega arith) (low_level b) (same b (near q b e) t)
+hit_at : (bodies : FinMap nat_cmp Bounds) (query : Query) (slots : List ℕ) → HasHitsBelow bodies 11 query slots
+    → (q : ℕ) (o : Option Bounds) → get bodies q ≡ o → meets_query query o ≡ true → has_slot slots q ≡ true
+hit_at bodies query slots h q None e t = absurd (false≢true t)
+hit_at bodies query slots h q (Some b) e t = h q b e (low_level b) t
 
--- what meets a query is among the slots whose boxes meet its region
-pub hits_among : (bodies : FinMap nat_cmp Bounds) (query : Query) (region : Bounds) (slots : List ℕ)
-    → ((q : ℕ) (b : Bounds) → get bodies q ≡ Some b → meets space b ≡ true)
-    → ((b : Bounds) → meets space b ≡ true → query_meets query b ≡ true → meets region b ≡ true) → HasMetIn bodies 0 11 region slots
+-- what is found among slots that have all whose boxes meet a query
+pub hits_among : (bodies : FinMap nat_cmp Bounds) (query : Query) (slots : List ℕ) → HasHitsBelow bodies 11 query slots
     → (q : ℕ) → has_slot (filter (is_found bodies query) slots) q ≡ is_found bodies query q
-hits_among bodies query region slots near same h =
-    all_among (is_found bodies query) slots (λ q t. hit_at bodies query region slots near same h q (get bodies q) refl t)
+hits_among bodies query slots h = all_among (is_found bodies query) slots (λ q t. hit_at bodies query slots h q (get bodies q) refl t)
 
 partner_at : (bodies : FinMap nat_cmp Bounds) (body : Bounds) (slots : List ℕ) → HasMetIn bodies 0 11 body slots
     → (q : ℕ) (o : Option Bounds) → get bodies q ≡ o → both_meet (Some body) o ≡ true → has_slot slots q ≡ true

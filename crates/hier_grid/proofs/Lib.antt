@@ -1,6 +1,7 @@
 mod BucketLemmas
 mod CellLemmas
 mod CellRowLemmas
+mod CornerLemmas
 mod ColumnLemmas
 mod GridLemmas
 mod HitLemmas

@@ -4,6 +4,7 @@ use Rattle.std.specs.Int.{int_div_euclid}
 use Rattle.fixed_box.specs.Bounds.{Bounds, cell_side, level_of}
 use Rattle.fixed_box.specs.declared.point.Point.{Point}
 use Rattle.cell_table.specs.declared.cell_key.CellKey.{CellKey}
+use Rattle.hier_grid.specs.declared.cell_block.CellBlock.{CellBlock}
 use Rattle.hier_grid.specs.declared.cell_row.CellRow.{CellRow}
 
 -- the place of a coordinate among the cells of a level: the quotient by their side, rounded down
@@ -28,6 +29,16 @@ pub record IsBeside (level : ℕ) (a : Bounds) (c : CellKey) : Type 0 where
   pub x : IsFrom level a.lo.x a.hi.x c.x
   pub y : IsFrom level a.lo.y a.hi.y c.y
   pub z : IsFrom level a.lo.z a.hi.z c.z
+
+-- a cell is in a block: on each axis it comes from the first corner on, and before the second
+pub record IsInBlock (block : CellBlock) (k : CellKey) : Type 0 where
+  pub level : k.level ≡ block.from.level
+  pub low_x : block.from.x ≤ℤ k.x
+  pub high_x : k.x <ℤ block.end.x
+  pub low_y : block.from.y ≤ℤ k.y
+  pub high_y : k.y <ℤ block.end.y
+  pub low_z : block.from.z ≤ℤ k.z
+  pub high_z : k.z <ℤ block.end.z
 
 -- A cell comes after another in the order of x, then y, then z.
 abbrev pub IsAfter : CellKey → CellKey → Type 0

@@ -4,14 +4,18 @@ use Rattle.std.specs.Ordering.{nat_cmp}
 use Rattle.std.specs.FinMap.{FinMap, get}
 use Rattle.fixed_box.specs.Bounds.{Bounds, meets, level_of}
 use Rattle.broad_index.specs.declared.pair.Pair.{Pair}
+use Rattle.broad_index.specs.declared.query.Query.{Query}
+use Rattle.broad_index.specs.Found.{query_meets}
 use Rattle.broad_index.specs.Members.{has_pair, has_slot, both_meet, is_near}
 use Rattle.broad_index.specs.Touched.{ordered}
 use Rattle.cell_table.specs.declared.TheConstants.{LEVELS}
 use Rattle.cell_table.specs.declared.cell_key.CellKey.{CellKey}
-use Rattle.hier_grid.specs.declared.slot_box.SlotBox.{SlotBox}
+use Rattle.hier_grid.specs.declared.cell_block.CellBlock.{CellBlock}
 use Rattle.hier_grid.specs.declared.cell_row.CellRow.{CellRow}
+use Rattle.hier_grid.specs.declared.slot_box.SlotBox.{SlotBox}
 use Rattle.hier_grid.specs.declared.nearby.Nearby.{Nearby}
-use Rattle.hier_grid.specs.Cells.{cell_of, cell_on, IsAfter, IsInRows}
+use Rattle.hier_grid.specs.Cells.{cell_of, cell_on, IsAfter, IsInBlock, IsInRows}
+use Rattle.hier_grid.specs.Grid.{IsSized}
 
 -- what was in a list is still in it
 abbrev pub HasMore : List ℕ → List ℕ → Type 0
@@ -61,6 +65,24 @@ abbrev pub NearsAfter : FinMap nat_cmp Bounds → ℕ → Bounds → Nearby → 
 NearsAfter bodies level body near =
     (q : ℕ) (b : Bounds) → get bodies q ≡ Some b → level_of b ≡ level → IsAfter (cell_of b) (cell_on level body.lo) → meets body b ≡ true
     → IsNearby near q b
+
+-- a box that all boxes meet which meet a query
+abbrev pub IsRegionOf : FinMap nat_cmp Bounds → Query → Bounds → Type 0
+IsRegionOf bodies query region = (q : ℕ) (b : Bounds) → get bodies q ≡ Some b → query_meets query b ≡ true → meets region b ≡ true
+
+-- the boxes in a block's cells that meet a query lie in rows of cells
+abbrev pub HasCrossed : CellBlock → Query → List CellRow → Type 0
+HasCrossed block query rows = (b : Bounds) → IsSized b → IsInBlock block (cell_of b) → query_meets query b ≡ true → IsInRows rows (cell_of b)
+
+-- the slots of a level whose boxes meet a query are in a list
+abbrev pub HasHits : FinMap nat_cmp Bounds → ℕ → Query → List ℕ → Type 0
+HasHits bodies level query slots =
+    (q : ℕ) (b : Bounds) → get bodies q ≡ Some b → level_of b ≡ level → query_meets query b ≡ true → has_slot slots q ≡ true
+
+-- the same of the levels below an end
+abbrev pub HasHitsBelow : FinMap nat_cmp Bounds → ℕ → Query → List ℕ → Type 0
+HasHitsBelow bodies end query slots =
+    (q : ℕ) (b : Bounds) → get bodies q ≡ Some b → level_of b < end → query_meets query b ≡ true → has_slot slots q ≡ true
 
 -- a slot whose box meets another box
 abbrev pub meets_at : FinMap nat_cmp Bounds → Bounds → ℕ → Bool

@@ -3,18 +3,20 @@ ghost use Rattle.std.specs.FinMap as map;
 ghost use Rattle.broad_index.specs.Found.{found};
 ghost use Rattle.broad_index.specs.Members.{is_found};
 ghost use Rattle.broad_index.specs.Reach.{reach};
+ghost use Rattle.hier_grid.specs.Search.{HasHitsBelow, IsRegionOf};
 
 use crate::kept_boxes::KeptBoxes;
 use crate::nearby::Nearby;
 use crate::partners::push_partners;
 use crate::slot_box::SlotBox;
 use broad_index::{Query, push_rising_slots};
-use fixed_box::NoMemory;
+use cell_table::LEVELS;
+use fixed_box::{FBox, NoMemory};
+use prepared_query::{BoxTest, LineTest};
 use slot_lists::SlotBoxes;
 use std::alloc::Global;
 
-/// Appends the present slots whose boxes meet a query, rising. The query is tested against the boxes near its region.
-/// After an `Err` `out` is as before.
+/// Appends the present slots whose boxes meet a query, rising. After an `Err` `out` is as before.
 pub(crate) fn push_hits(
     kept: &KeptBoxes,
     alloc: Global,
@@ -26,25 +28,93 @@ pub(crate) fn push_hits(
 {
     kept.space_law();
     let region = query.region();
+    match query {
+        Query::Region(body) => push_near(kept, alloc, body, body, out),
+        Query::Spot(_) => push_near(kept, alloc, &region, query, out),
+        Query::Along(_) | Query::Between(_) => push_line(kept, alloc, &region, query, out),
+    }
+}
+
+// The same for a query that is tested against the boxes near its region.
+fn push_near<T: BoxTest>(
+    kept: &KeptBoxes,
+    alloc: Global,
+    region: &FBox,
+    test: &T,
+    out: &mut Vec<u32>,
+) -> Result<(), NoMemory>
+    requires { IsRegionOf kept.now (T.asks test.now) region.now }
+    ensures ok { OnOk result (out.new.items ≡ out.old.items ++ found kept.now (T.asks test.now)) }
+    ensures err { OnErr result (out.new.items ≡ out.old.items) }
+{
     let mut near = Nearby::new(alloc);
-    kept.push_candidates(&region, &mut near)?;
-    let mut hits = Vec::new(alloc);
-    push_found(kept.boxes(), query, &near.slots, &mut hits)?;
+    kept.push_candidates(region, &mut near)?;
+    push_found(kept, &near.slots, test, out)
+}
+
+// The same for a line, which is prepared if its numbers fit 32 bits.
+fn push_line(
+    kept: &KeptBoxes,
+    alloc: Global,
+    region: &FBox,
+    line: &Query,
+    out: &mut Vec<u32>,
+) -> Result<(), NoMemory>
+    requires { IsRegionOf kept.now line.now region.now }
+    ensures ok { OnOk result (out.new.items ≡ out.old.items ++ found kept.now line.now) }
+    ensures err { OnErr result (out.new.items ≡ out.old.items) }
+{
+    match LineTest::of(line) {
+        Some(prepared) => push_crossed(kept, alloc, region, &prepared, out),
+        None => push_crossed(kept, alloc, region, line, out),
+    }
+}
+
+// The same for a line as it is asked, which is followed by the cells that it crosses.
+fn push_crossed<T: BoxTest>(
+    kept: &KeptBoxes,
+    alloc: Global,
+    region: &FBox,
+    test: &T,
+    out: &mut Vec<u32>,
+) -> Result<(), NoMemory>
+    requires { IsRegionOf kept.now (T.asks test.now) region.now }
+    ensures ok { OnOk result (out.new.items ≡ out.old.items ++ found kept.now (T.asks test.now)) }
+    ensures err { OnErr result (out.new.items ≡ out.old.items) }
+{
+    let mut near = Nearby::new(alloc);
+    kept.push_crossed(region, test, &mut near)?;
+    push_found(kept, &near.slots, test, out)
+}
+
+// Appends those of some slots whose boxes meet a query, rising, where all that do are among them.
+fn push_found<T: BoxTest>(
+    kept: &KeptBoxes,
+    slots: &[u32],
+    test: &T,
+    out: &mut Vec<u32>,
+) -> Result<(), NoMemory>
+    requires { HasHitsBelow kept.now LEVELS (T.asks test.now) slots.now }
+    ensures ok { OnOk result (out.new.items ≡ out.old.items ++ found kept.now (T.asks test.now)) }
+    ensures err { OnErr result (out.new.items ≡ out.old.items) }
+{
+    let mut hits = Vec::new(*out.allocator());
+    push_met(kept.boxes(), slots, test, &mut hits)?;
     push_rising_slots(&mut hits, out)
 }
 
 // Appends those of some slots whose boxes meet a query.
-fn push_found(
+fn push_met<T: BoxTest>(
     boxes: &SlotBoxes,
-    query: &Query,
     slots: &[u32],
+    test: &T,
     out: &mut Vec<u32>,
 ) -> Result<(), NoMemory>
-    ensures { OnOk result (out.new.items ≡ out.old.items ++ filter (is_found boxes.now query.now) slots.now) }
+    ensures { OnOk result (out.new.items ≡ out.old.items ++ filter (is_found boxes.now (T.asks test.now)) slots.now) }
 {
     let mut rest = slots;
     'slots: while let [slot, more @ ..] = rest {
-        if is_found(boxes, *slot, query) {
+        if is_met(boxes, *slot, test) {
             out.push(*slot)?;
         }
         rest = more;
@@ -53,11 +123,11 @@ fn push_found(
 }
 
 // Whether a slot has a box that meets a query.
-fn is_found(boxes: &SlotBoxes, slot: u32, query: &Query) -> bool
-    ensures { result ≡ is_found boxes.now query.now slot }
+fn is_met<T: BoxTest>(boxes: &SlotBoxes, slot: u32, test: &T) -> bool
+    ensures { result ≡ is_found boxes.now (T.asks test.now) slot }
 {
     match boxes.box_of(slot) {
-        Some(body) => query.meets(&body),
+        Some(body) => test.meets(&body),
         None => false,
     }
 }

@@ -1,25 +1,37 @@
 ghost use Rattle.std.specs.Prelude.{◌≡◌, ℕ, ◌<◌, ◌≤◌, true, false, Some, IsTrue, IfOk, OnOk};
 ghost use Rattle.std.specs.FinMap as map;
 ghost use Rattle.fixed_box.specs.Bounds.{Bounds, meets};
-ghost use Rattle.hier_grid.specs.Grid.{AreKeyed, IsSized};
-ghost use Rattle.hier_grid.specs.Search.{HasMetIn, HasNearby, IsBare, IsEnd, NearsAfter, NearsIn, NearsLevel, StaysNearby};
+ghost use Rattle.hier_grid.specs.Grid.{AreKeyed, IsSized, is_met};
+ghost use Rattle.hier_grid.specs.Search.{HasHits, HasHitsBelow, HasMetIn, HasMore, HasNearby};
+ghost use Rattle.hier_grid.specs.Search.{IsBare, IsEnd, IsRegionOf, NearsAfter, NearsIn, NearsLevel, StaysNearby};
 ghost use Rattle.fixed_box.specs.Space.{space};
 
 use crate::cell::cell_of;
+use crate::crossed_cells::push_crossed;
+use crate::hull::{grown, part_in};
 use crate::leveled_boxes::LeveledBoxes;
-use crate::near_cells::{count_beside, push_after, push_beside, visit_rows};
+use crate::near_cells::{block_beside, count_beside, push_after, push_beside, visit_rows};
 use crate::nearby::Nearby;
 use cell_table::{CellKey, CellTable, LEVELS};
 use fixed_box::{FBox, NoMemory, SLOTS};
+use prepared_query::BoxTest;
 use slot_lists::SlotBoxes;
 use std::alloc::Global;
 use std::marker::Model;
+
+// A level of fewer boxes is scanned for a line at once.
+const FOLLOWED_FROM: u32 = 64;
+
+// A scan of so many boxes costs about as much as a step along a line.
+const BOXES_PER_STEP: u32 = 8;
 
 /// The boxes under their slots, each in the cell of its level, seen as a map from slot to box.
 #[derive(Drop)]
 pub(crate) struct KeptBoxes {
     boxes: LeveledBoxes,
     cells: CellTable,
+    // It grows with each box that is put, and stays as boxes go.
+    hull: Option<FBox>,
 }
 
 impl Model for KeptBoxes {
@@ -35,7 +47,7 @@ impl Model for KeptBoxes {
 
     ghost view = { λ k. k.boxes };
 
-    ghost invariant = { λ k. IsGrid k.boxes k.cells };
+    ghost invariant = { λ k. IsGrid k.boxes k.cells k.hull };
 }
 
 impl KeptBoxes {
@@ -46,6 +58,7 @@ impl KeptBoxes {
         Ok(KeptBoxes {
             boxes: LeveledBoxes::new(alloc)?,
             cells: CellTable::new(alloc)?,
+            hull: None,
         })
     }
 
@@ -85,6 +98,7 @@ impl KeptBoxes {
         ensures { self.new ≡ map.insert self.old slot body }
     {
         self.cells.put(slot, cell_of(&body));
+        self.hull = Some(grown(&self.hull, &body));
         self.boxes.put(slot, body);
     }
 
@@ -95,6 +109,7 @@ impl KeptBoxes {
         ensures { self.new ≡ map.insert self.old slot body }
     {
         rekey(&mut self.cells, slot, cell_of(&body));
+        self.hull = Some(grown(&self.hull, &body));
         self.boxes.set(slot, body);
     }
 
@@ -156,6 +171,105 @@ impl KeptBoxes {
         self.push_from(0, self.levels_end(), region, near)?;
         self.push_rows(near)?;
         Ok(())
+    }
+
+    /// Appends slots, and among them all whose boxes meet a line that has a region. `near` has no rows that count.
+    pub(crate) fn push_crossed<T: BoxTest>(
+        &self,
+        region: &FBox,
+        test: &T,
+        near: &mut Nearby,
+    ) -> Result<(), NoMemory>
+        requires { IsRegionOf self.now (T.asks test.now) region.now }
+        ensures { OnOk result (HasHitsBelow self.now LEVELS (T.asks test.now) near.new.slots.items) }
+    {
+        match self.part_of(region) {
+            Some(part) => self.push_crossed_in(&part, test, near),
+            None => Ok(()),
+        }
+    }
+
+    // The part of a region in which there may be boxes: each box that meets the region meets it. `None` only where no box does.
+    fn part_of(&self, region: &FBox) -> Option<FBox>
+        ensures { (slot : ℕ) (b : Bounds) → map.get self.now slot ≡ Some b → meets region.now b ≡ true → IsTrue (is_met result b) }
+    {
+        self.sized_law();
+        match &self.hull {
+            Some(hull) => part_in(hull, region),
+            None => None,
+        }
+    }
+
+    // The same as `push_crossed`, level by level.
+    fn push_crossed_in<T: BoxTest>(
+        &self,
+        region: &FBox,
+        test: &T,
+        near: &mut Nearby,
+    ) -> Result<(), NoMemory>
+        requires { IsRegionOf self.now (T.asks test.now) region.now }
+        ensures { OnOk result (HasHitsBelow self.now LEVELS (T.asks test.now) near.new.slots.items) }
+    {
+        'levels: for level in 0..self.levels_end() {
+            self.push_crossed_at(level, region, test, near)?;
+        }
+        Ok(())
+    }
+
+    // The same of one level. Where the line crosses too much of it, the level is scanned.
+    fn push_crossed_at<T: BoxTest>(
+        &self,
+        level: u8,
+        region: &FBox,
+        test: &T,
+        near: &mut Nearby,
+    ) -> Result<(), NoMemory>
+        requires level { level < LEVELS }
+        requires region { IsRegionOf self.now (T.asks test.now) region.now }
+        ensures more { OnOk result (HasMore near.old.slots.items near.new.slots.items) }
+        ensures found { OnOk result (HasHits self.now level (T.asks test.now) near.new.slots.items) }
+    {
+        if !self.has_some(level) || self.follow(level, region, test, near)? {
+            return Ok(());
+        }
+        self.boxes
+            .scan(level, region, &mut near.places, &mut near.slots)
+    }
+
+    // Appends slots of a level, and among them all whose boxes meet a line, if that takes few enough steps along it.
+    fn follow<T: BoxTest>(
+        &self,
+        level: u8,
+        region: &FBox,
+        test: &T,
+        near: &mut Nearby,
+    ) -> Result<bool, NoMemory>
+        requires level { level < LEVELS }
+        requires region { IsRegionOf self.now (T.asks test.now) region.now }
+        ensures more { OnOk result (HasMore near.old.slots.items near.new.slots.items) }
+        ensures found { IfOk result (λ whole. whole ≡ true → HasHits self.now level (T.asks test.now) near.new.slots.items) }
+    {
+        self.sized_law();
+        near.rows.clear();
+        let block = block_beside(level, region);
+        let mut steps = self.steps_at(level);
+        let whole = push_crossed(&block, test, &mut steps, &mut near.rows)?;
+        if whole {
+            visit_rows(&self.cells, &near.rows, &mut near.slots)?;
+        }
+        Ok(whole)
+    }
+
+    // In how many steps a level is to be followed: so few that a scan after them in vain costs at most about as much again.
+    fn steps_at(&self, level: u8) -> u32
+        requires { level < LEVELS }
+    {
+        let boxes = self.cells.level_len(level);
+        if boxes < FOLLOWED_FROM {
+            0
+        } else {
+            boxes / BOXES_PER_STEP
+        }
     }
 
     /// Appends the slots in the rows of cells that are near, and others that share their buckets.

@@ -4,10 +4,13 @@
 
 mod bucket_boxes;
 mod cell;
+mod cell_block;
 mod cell_row;
+mod crossed_cells;
 mod findings;
 mod grid;
 mod hits;
+mod hull;
 mod kept_boxes;
 mod level_columns;
 mod leveled_boxes;

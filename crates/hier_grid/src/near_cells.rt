@@ -1,9 +1,10 @@
 ghost use Rattle.std.specs.Prelude.{◌≡◌, ℤ, pos, ◌+ℤ◌, ◌-ℤ◌, ◌<◌, ◌≤ℤ◌, ◌<ℤ◌, OnOk};
 ghost use Rattle.cell_table.specs.declared.cell_key.CellKey as key;
-ghost use Rattle.hier_grid.specs.Cells.{cell_at, cell_on, IsAfter, IsBeside, IsInRow, IsInRows};
+ghost use Rattle.hier_grid.specs.Cells.{cell_at, cell_on, IsAfter, IsBeside, IsInBlock, IsInRow, IsInRows};
 ghost use Rattle.hier_grid.specs.Search.{HasCell, HasMore, HasRows};
 
 use crate::cell::cell_at;
+use crate::cell_block::CellBlock;
 use crate::cell_row::CellRow;
 use cell_table::{CellKey, CellTable, LEVELS};
 use fixed_box::{FBox, Fix, NoMemory};
@@ -15,11 +16,7 @@ pub(crate) fn push_beside(level: u8, region: &FBox, rows: &mut Vec<CellRow>) -> 
     ensures more { OnOk result (HasRows rows.old.items rows.new.items) }
     ensures found { OnOk result ((k : key.CellKey) → k.level ≡ level → IsBeside level region.now k → IsInRows rows.new.items k) }
 {
-    push_block(
-        &first_beside(level, region),
-        &end_beside(level, region),
-        rows,
-    )?;
+    push_cells(&block_beside(level, region), rows)?;
     Ok(())
 }
 
@@ -42,12 +39,28 @@ pub(crate) fn push_after(level: u8, region: &FBox, rows: &mut Vec<CellRow>) -> R
 pub(crate) fn count_beside(level: u8, region: &FBox) -> u64
     requires { level < LEVELS }
 {
-    let first = first_beside(level, region);
-    let end = end_beside(level, region);
-    let x = u64::from(first.x.abs_diff(end.x));
-    let y = u64::from(first.y.abs_diff(end.y));
-    let z = u64::from(first.z.abs_diff(end.z));
-    x.saturating_mul(y).saturating_mul(z)
+    block_beside(level, region).len()
+}
+
+/// The block of the cells of a level beside a region.
+pub(crate) fn block_beside(level: u8, region: &FBox) -> CellBlock
+    requires { level < LEVELS }
+    ensures level { result.from.level ≡ level }
+    ensures whole { (k : key.CellKey) → k.level ≡ level → IsBeside level region.now k → IsInBlock result k }
+{
+    CellBlock {
+        from: first_beside(level, region),
+        end: end_beside(level, region),
+    }
+}
+
+/// Appends the rows of a block of cells.
+pub(crate) fn push_cells(block: &CellBlock, rows: &mut Vec<CellRow>) -> Result<(), NoMemory>
+    ensures more { OnOk result (HasRows rows.old.items rows.new.items) }
+    ensures found { OnOk result ((k : key.CellKey) → IsInBlock block.now k → IsInRows rows.new.items k) }
+{
+    push_block(&block.from, &block.end, rows)?;
+    Ok(())
 }
 
 // Appends the rows of the cells from one corner on, below another.

@@ -11,4 +11,4 @@ none n h = grind (arith, nat_tests)
 pub returns : goal.returns
 returns c few =
     subst (λ m. IsBare m c.args.level) c.self.view_is
-    (bare c.self.inside.boxes c.self.inside.cells c.args.level c.self.invariant (sym c.level_len.ensures ∙ none c.level_len.result few))
+    (bare c.self.inside.boxes c.self.inside.cells c.self.inside.hull c.args.level c.self.invariant (sym c.level_len.ensures ∙ none c.level_len.result few))

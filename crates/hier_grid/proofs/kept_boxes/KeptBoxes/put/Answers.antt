@@ -12,4 +12,5 @@ put-requires-clause-absent c =
 pub invariant_of-self : goal.invariant_of-self
 invariant_of-self c =
     rw (c.put.ensures, c.put-2.ensures, c.cell_of.ensures.value)
-    (grid_put c.self.inside.boxes c.self.inside.cells c.args.slot c.args.body c.self.invariant c.cell_of.ensures.sized)
+    (grid_put c.self.inside.boxes c.self.inside.cells c.self.inside.hull c.args.slot c.args.body c.grown.result
+    c.self.invariant c.cell_of.ensures.sized c.grown.ensures.body c.grown.ensures.kept)
