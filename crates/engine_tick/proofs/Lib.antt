@@ -1,2 +1,4 @@
+pub mod Collisions
+pub mod Differences
 pub mod Moving
 pub mod NearTouches

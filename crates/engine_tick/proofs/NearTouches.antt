@@ -3,9 +3,10 @@ use Rattle.std.proofs.Common.{◌≡◌, ◌<◌, true, List, [], ◌++◌, Opti
 use Rattle.std.specs.List.{Contains}
 use Rattle.std.specs.Ordering.{nat_cmp}
 use Rattle.std.specs.FinMap.{FinMap, get}
-use Rattle.std.proofs.lemmas.Bool.{and_from, and_parts, eq-eqb, eqb-true}
+use Rattle.std.proofs.lemmas.Bool.{and_from, and_parts, eqb-true}
 use Rattle.std.proofs.lemmas.Bool.Decides.{nat_tests}
-use Rattle.std.proofs.lemmas.List.Folds.{Any-from_list_any, list_any_at}
+use Rattle.std.proofs.lemmas.Cmp.{and_equiv, nat_eq_equiv, on_equiv}
+use Rattle.std.proofs.lemmas.Map.Views.{Contains-from_any, list_any-from_Contains}
 use Rattle.fixed_box.specs.Bounds.{Bounds}
 use Rattle.broad_index.specs.declared.pair.Pair.{Pair}
 use Rattle.broad_index.specs.Members.{both_meet, has_pair, is_near, same_pair}
@@ -14,17 +15,15 @@ use Rattle.engine_tick.specs.Touching.{AreTouching, DoTouch}
 
 -- a pair is in a list, said by a test and by its place
 had : (pairs : List Pair) (p : Pair) → Contains pairs p → has_pair pairs p ≡ true
-had pairs p c =
-    list_any_at (same_pair p) pairs c.0 p c.1
-    (ap (same_pair p) c.2 ∙ and_from (p.a == p.a) (p.b == p.b) (eq-eqb p.a p.a refl) (eq-eqb p.b p.b refl))
+had pairs p c = list_any-from_Contains (and_equiv (on_equiv (λ q. q.a) nat_eq_equiv) (on_equiv (λ q. q.b) nat_eq_equiv)) p pairs c
+
+is_same : (p q : Pair) → same_pair p q ≡ true → p ≡ q
+is_same p q h =
+    let parts = and_parts (p.a == q.a) (p.b == q.b) h in
+    ap₂ (λ a b. record { a = a; b = b }) (eqb-true p.a q.a parts.0) (eqb-true p.b q.b parts.1)
 
 contained : (pairs : List Pair) (p : Pair) → has_pair pairs p ≡ true → Contains pairs p
-contained pairs p h =
-    let found = Any-from_list_any (same_pair p) pairs h in
-    let q : Pair = found.1 in
-    let parts = and_parts (p.a == q.a) (p.b == q.b) found.4 in
-    let pair = ap₂ (λ a b. record { a = a; b = b }) (eqb-true p.a q.a parts.0) (eqb-true p.b q.b parts.1) in
-    subst (Contains pairs) (sym pair) (found.0, found.2, found.3)
+contained pairs p h = Contains-from_any is_same p pairs h
 
 -- both bodies are there, and their boxes meet
 both_there : (bodies : FinMap nat_cmp Bounds) (p : Pair) → p.a < p.b → (a b : Option Bounds) → get bodies p.a ≡ a → get bodies p.b ≡ b
@@ -46,7 +45,8 @@ touched bodies p t =
 
 -- as an index appends them to an empty list
 pub listed_touch : ((bodies : FinMap nat_cmp Bounds) (p : Pair) → has_pair (near bodies) p ≡ is_near bodies p)
-    → (old new : FinMap nat_cmp Bounds) (before listed : List Pair) → before ≡ [] → new ≡ old → listed ≡ before ++ near old → AreTouching new listed
+    → (old new : FinMap nat_cmp Bounds) (before listed : List Pair) → before ≡ [] → new ≡ old → listed ≡ before ++ near old
+    → AreTouching new listed
 listed_touch law old new before listed none same is =
     subst (AreTouching new) (sym (is ∙ ap (λ b. b ++ near old) none ∙ ap near (sym same))) (record {
       none_missed = λ p t. contained (near new) p (law new p ∙ touched new p t);

@@ -1,2 +1,3 @@
+pub mod Colliding
 pub mod Moves
 pub mod Touching
