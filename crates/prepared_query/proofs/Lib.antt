@@ -1,2 +1,4 @@
+mod Around
 mod Lines
+mod Passes
 mod QueryMeets

@@ -1,2 +1,3 @@
 pub mod NarrowLine
 pub mod Prepared
+pub mod Slope

@@ -3,8 +3,10 @@
 
 mod box_test;
 mod law;
+mod line_hull;
 mod line_test;
-mod narrow_axis;
+mod slope;
+mod slopes;
 
 pub use box_test::BoxTest;
 pub use law::enclosing_law;

@@ -1,53 +1,78 @@
-ghost use Rattle.std.specs.Prelude.{◌≡◌, ◌-ℤ◌, true, false, IsTrue, SomeIff};
-ghost use Rattle.ray_slabs.specs.Vector.{is_in_reach, displacement};
+ghost use Rattle.std.specs.Prelude.{◌≡◌, ◌↔◌, ◌-ℤ◌, true, false, IsTrue, None, IfSome, SomeIff};
+ghost use Rattle.fixed_box.specs.Bounds.{meets};
+ghost use Rattle.fixed_box.specs.Point.{is_at_most};
+ghost use Rattle.fixed_box.specs.Space.{space};
+ghost use Rattle.ray_slabs.specs.Vector.{is_in_reach, displacement, widened};
 ghost use Rattle.ray_slabs.specs.Examples.{at, opposite};
 ghost use Rattle.broad_index.specs.declared.query.Query.TheVariants.{Between};
 ghost use Rattle.prepared_query.specs.NarrowLine.{fits_i32, is_narrow, is_narrow_vector};
+ghost use Rattle.prepared_query.specs.Prepared.{line_of};
 
 use crate::BoxTest;
-use crate::narrow_axis::{NarrowAxis, all_overlap};
+use crate::line_hull::line_hull;
+use crate::slopes::Slopes;
 use broad_index::Query;
-use fixed_box::{FBox, Fix, Point};
+use fixed_box::{FBox, Fix, Point, space_law};
 use ray_slabs::WPoint;
 use std::marker::Model;
 
-/// A ray or a segment whose numbers fit 32 bits, prepared to be asked of many boxes. Its products fit 64 bits, and it
-/// asks each axis of its own before two together, so that most boxes are left after one.
+/// A ray or a segment whose numbers fit 32 bits, prepared to be asked of many boxes. A box is asked at first whether it
+/// meets the least one around the line. Then it is enough that the endless line passes through it as it is seen along each
+/// axis (the separating axes of Ericson, Real-Time Collision Detection, 2005, 5.3.3). It is exact, and all products fit 64
+/// bits.
 #[derive(Debug, Drop)]
 pub struct LineTest {
-    from: Point,
-    dir: Point,
-    ends: bool,
+    // what it asks, by which the contracts know it
+    query: Query,
+    // the least box around the line, as far as coordinates go
+    hull: FBox,
+    // the endless line
+    slopes: Slopes,
 }
 
 impl Model for LineTest {
     ghost use Rattle.broad_index.specs.declared.query.Query.{Query};
-    ghost use Rattle.ray_slabs.specs.Vector.{widened};
-    ghost use Rattle.prepared_query.specs.Prepared.{line_of};
+    ghost use Rattle.prepared_query.specs.Prepared.{IsPrepared};
 
     ghost Value = { Query };
 
-    ghost view = { λ l. line_of l.ends (widened l.from) (widened l.dir) };
+    ghost view = { λ l. l.query };
+
+    ghost invariant = { λ l. IsPrepared l.query l.hull l.slopes };
 }
 
 impl LineTest {
     /// The line of a query, and `None` exactly where the query is no line or a number doesn't fit: its start, and how
     /// far it goes on each axis, as a ray by its direction or as a segment from end to end.
     pub fn of(query: &Query) -> Option<LineTest>
-        ensures { SomeIff result (IsTrue (is_narrow query.now)) query.now }
+        ensures made { IfSome result (λ line. line ≡ query.now) }
+        ensures none { (result ≡ None) ↔ (is_narrow query.now ≡ false) }
     {
         match query {
             Query::Region(_) | Query::Spot(_) => None,
-            Query::Along(ray) => Some(LineTest {
-                from: narrowed(&ray.from)?,
-                dir: narrowed(&ray.dir)?,
-                ends: false,
-            }),
-            Query::Between(seg) => Some(LineTest {
-                from: narrowed(&seg.a)?,
-                dir: displacement(&seg.a, &seg.b)?,
-                ends: true,
-            }),
+            Query::Along(ray) => {
+                let from = narrowed(&ray.from)?;
+                let dir = narrowed(&ray.dir)?;
+                Some(LineTest::new(query, &from, &dir, false))
+            }
+            Query::Between(seg) => {
+                let from = narrowed(&seg.a)?;
+                let dir = displacement(&seg.a, &seg.b)?;
+                Some(LineTest::new(query, &from, &dir, true))
+            }
+        }
+    }
+
+    // The line that starts at a point and goes so far on each axis, and ends there or never.
+    fn new(query: &Query, from: &Point, dir: &Point, ends: bool) -> LineTest
+        requires line { line_of ends (widened from.now) (widened dir.now) ≡ query.now }
+        requires start { IsTrue (is_narrow_vector (widened from.now)) }
+        ensures { result ≡ query.now }
+    {
+        LineTest {
+            query: *query,
+            hull: line_hull(from, dir, ends),
+            slopes: Slopes::new(from, dir),
         }
     }
 }
@@ -57,21 +82,18 @@ impl BoxTest for LineTest {
 
     #[inline]
     fn meets(&self, body: &FBox) -> bool {
-        let (lo, hi) = (body.lo(), body.hi());
-        let x = NarrowAxis::on_x(&self.from, &self.dir, &lo, &hi);
-        if !x.is_met(self.ends) {
-            return false;
-        }
-        let y = NarrowAxis::on_y(&self.from, &self.dir, &lo, &hi);
-        if !y.is_met(self.ends) {
-            return false;
-        }
-        let z = NarrowAxis::on_z(&self.from, &self.dir, &lo, &hi);
-        if !z.is_met(self.ends) {
-            return false;
-        }
-        all_overlap(&x, &y, &z)
+        corner_law(body);
+        self.hull.overlaps(body) && self.slopes.pass(body)
     }
+}
+
+// A law for proofs, with nothing to run: a box has its corners in order and in space.
+fn corner_law(body: &FBox)
+    ensures ordered { IsTrue (is_at_most body.now.lo body.now.hi) }
+    ensures in_space { IsTrue (meets space body.now) }
+{
+    space_law(body);
+    let _lo = body.lo();
 }
 
 // The same point in 32 bits.
@@ -85,7 +107,7 @@ fn narrowed(at: &WPoint) -> Option<Point>
     })
 }
 
-// How far it is from `a` to `b` on each axis.
+// How far it is from `a` to `b` on each axis, in 32 bits.
 fn displacement(a: &WPoint, b: &WPoint) -> Option<Point>
     ensures { SomeIff result (IsTrue (is_narrow_vector (displacement a.now b.now)))
         (record { x = b.now.x -ℤ a.now.x; y = b.now.y -ℤ a.now.y; z = b.now.z -ℤ a.now.z }) }

@@ -4,7 +4,6 @@ use Rattle.ray_slabs.specs.Vector.{widened}
 use Rattle.prepared_query.proofs.Lines.{segment}
 use Rattle.prepared_query.proofs.line_test.LineTest.of.Goals as goal
 
-pub returns-in_ok-displacement-in-Between : goal.returns-in_ok-displacement-in-Between
-returns-in_ok-displacement-in-Between c =
-    segment c.in-Between.seg c.in-Between.is c.in_ok-narrowed-in-Between.ensures.0 c.in_ok-displacement-in-Between.ensures.0
-    (ap widened c.in_ok-narrowed-in-Between.ensures.1) (ap widened c.in_ok-displacement-in-Between.ensures.1)
+pub new-requires-in-Between-clause-line : goal.new-requires-in-Between-clause-line
+new-requires-in-Between-clause-line c =
+    segment c.in-Between.seg c.in-Between.is (ap widened c.in_ok-from-in-Between.ensures.1) (ap widened c.in_ok-dir-in-Between.ensures.1)
