@@ -83,8 +83,8 @@ impl<B: BroadPhase + Drop> World<B> {
         self.index.pairs(touching)
     }
 
-    /// Ends a frame: moves bodies to where they are now, and tells which pairs of bodies collide then, which of them began to
-    /// and which are over. `kinds` has the kind of each slot; a body past its end collides with nobody.
+    /// Ends a frame: moves bodies to where they are now, and tells which pairs of bodies collide then, which of them are new
+    /// and which are over. `kinds` has the kind of each slot; a body whose slot is past its end collides with nobody.
     ///
     /// It costs what `tick` does, and a step for each pair that touches and for each that collided a frame before. The
     /// pairs of a body that left are over. A slot that was given to another body meanwhile is still the same one here.
