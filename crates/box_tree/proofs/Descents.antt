@@ -1,6 +1,6 @@
 -- The steps of a descent with a query.
 use Rattle.std.proofs.Common.{◌≡◌, ℕ, ◌+◌, ◌≤◌, max, true, false, cond, Option, None, Some, List, [], ◌∷◌, ◌++◌}
-use Rattle.std.proofs.Common.{is_some, option_to_list, map, length, get_or, length-append, append_assoc, refl, sym, ap, ◌∙◌, subst, arith, ⊎_elim}
+use Rattle.std.proofs.Common.{is_some, option_to_list, option_map, map, length, get_or, length-append, append_assoc, refl, sym, ap, ◌∙◌, subst, arith, ⊎_elim}
 use Rattle.std.specs.List.{filter}
 use Rattle.std.proofs.lemmas.List.{same_from_push, append-nil, length_push, map-append}
 use Rattle.std.proofs.lemmas.List.Elements.{filter-append}
@@ -11,8 +11,8 @@ use Rattle.broad_index.specs.Members.{meets_query}
 use Rattle.tree_nodes.specs.declared.node_view.NodeView.{NodeView}
 use Rattle.tree_nodes.specs.declared.node_view.NodeView.TheVariants.{Leaf as LeafNode, Inner}
 use Rattle.tree_nodes.specs.Tree.{Tree, tip, fork, top, leaves, Leaf, height, bounds, view_of, view_in, IsTree, Balanced, Within}
-use Rattle.box_tree.specs.Descent.{visits_by, visits_by_in, entry_of, exact, exact_in, IsInside, IsLeafInside, all_leaves, owed, all_owed, tops}
-use Rattle.box_tree.specs.Descent.{Wait, Stands, Popped, Laws, met_at, found_at}
+use Rattle.box_tree.specs.Descent.{visits_by, visits_by_in, entry_of, exact, exact_in, IsInside, IsLeafInside, all_leaves, owed, all_owed, views}
+use Rattle.box_tree.specs.Descent.{Wait, Stands, Popped, Laws, met_in, found_at, meets_node}
 
 pub found_append : (q : Query) (es fs : List (ℕ × Bounds)) → found_of (es ++ fs) q ≡ found_of es q ++ found_of fs q
 found_append q es fs =
@@ -76,22 +76,22 @@ module _ (bodies : List (Option Bounds)) where
       owed_of (fork n h k l r) = refl
 
       met_top : (o : Option Tree) (u : Tree) → view_in o (top u) ≡ Some (view_of u)
-          → met_at q (view_in o (top u)) (top u) ≡ cond (query_meets q (bounds u)) (top u ∷ []) []
-      met_top o (tip n s f) e = ap (λ v. met_at q v n) e
-      met_top o (fork n h k l r) e = ap (λ v. met_at q v n) e
+          → met_in q (view_in o (top u)) ≡ cond (query_meets q (bounds u)) (view_of u ∷ []) []
+      met_top o (tip n s f) e = ap (met_in q) e
+      met_top o (fork n h k l r) e = ap (met_in q) e
 
       -- a tree waits where it is met
-      onto : (t : Tree) (stack : List ℕ) (us : List Tree) (u : Tree) → Wait q t stack us → height u + length us ≤ 18 → Within t u → Balanced u
-          → IsInside bodies u → (vs : List Tree) × Wait q t (stack ++ cond (query_meets q (bounds u)) (top u ∷ []) []) vs
+      onto : (t : Tree) (stack : List NodeView) (us : List Tree) (u : Tree) → Wait q t stack us → height u + length us ≤ 18 → Within t u → Balanced u
+          → IsInside bodies u → (vs : List Tree) × Wait q t (stack ++ cond (query_meets q (bounds u)) (view_of u ∷ []) []) vs
           × (met (all_leaves vs) ≡ met (leaves u) ++ met (all_leaves us)) × (all_owed vs q ≡ owed u q + all_owed us q) × (length vs ≤ length us + 1)
       onto t stack us u s low here bal inside =
           elim (query_meets q (bounds u)) as
-          (λ m. query_meets q (bounds u) ≡ m → (vs : List Tree) × Wait q t (stack ++ cond m (top u ∷ []) []) vs
+          (λ m. query_meets q (bounds u) ≡ m → (vs : List Tree) × Wait q t (stack ++ cond m (view_of u ∷ []) []) vs
           × (met (all_leaves vs) ≡ met (leaves u) ++ met (all_leaves us)) × (all_owed vs q ≡ owed u q + all_owed us q) × (length vs ≤ length us + 1)) [
             | true ↦ λ m. (
               u ∷ us,
               record {
-                stack_is = ap (λ xs. xs ++ top u ∷ []) s.stack_is;
+                stack_is = ap (λ xs. xs ++ view_of u ∷ []) s.stack_is;
                 low = (low, s.low);
                 within = (here, s.within);
                 met = (m, s.met);
@@ -110,18 +110,18 @@ module _ (bodies : List (Option Bounds)) where
           ] refl
 
       -- the next tree comes off the stack
-      popped : (o : Option Tree) (rest before now : List ℕ) (at count : ℕ) → Stands o bodies q (rest ++ at ∷ []) before now count
-          → Popped o bodies q rest at before now count
-      popped o rest before now at count s = by_list s.us s.wait s.found_is s.count_is
+      popped : (o : Option Tree) (rest : List NodeView) (node : NodeView) (before now : List ℕ) (count : ℕ)
+          → Stands o bodies q (rest ++ node ∷ []) before now count → Popped o bodies q rest node before now count
+      popped o rest node before now count s = by_list s.us s.wait s.found_is s.count_is
         where
-          by_list : (us : List Tree) → Wait q s.t (rest ++ at ∷ []) us → now ++ met (all_leaves us) ≡ before ++ met (leaves s.t)
-              → count + all_owed us q ≡ visits_by s.t q → Popped o bodies q rest at before now count
+          by_list : (us : List Tree) → Wait q s.t (rest ++ node ∷ []) us → now ++ met (all_leaves us) ≡ before ++ met (leaves s.t)
+              → count + all_owed us q ≡ visits_by s.t q → Popped o bodies q rest node before now count
           by_list [] wa fo co =
-              let len : length (rest ++ at ∷ []) ≡ 0 = ap length wa.stack_is in
-              let l = length_push rest at in
+              let len : length (rest ++ node ∷ []) ≡ 0 = ap length wa.stack_is in
+              let l = length_push rest node in
               absurd (omega arith)
           by_list (u ∷ us) wa fo co =
-              let p = same_from_push rest (tops us) at (top u) wa.stack_is in
+              let p = same_from_push rest (views us) node (view_of u) wa.stack_is in
               record {
                 t = s.t;
                 u = u;
@@ -129,7 +129,7 @@ module _ (bodies : List (Option Bounds)) where
                 is = s.is;
                 is_tree = s.is_tree;
                 inside = s.inside;
-                at_is = p.1;
+                node_is = p.1;
                 wait = record { stack_is = p.0; low = wa.low.1; within = wa.within.1; met = wa.met.1 };
                 low_here = wa.low.0;
                 here = wa.within.0;
@@ -137,10 +137,6 @@ module _ (bodies : List (Option Bounds)) where
                 found_is = fo;
                 count_is = co;
               }
-
-      popped_shown : (o : Option Tree) (rest before now : List ℕ) (at count : ℕ) → (p : Popped o bodies q rest at before now count)
-          → view_in o at ≡ Some (view_of p.u)
-      popped_shown o rest before now at count p = rw (p.is, p.at_is) (w.shown p.t p.u p.here p.is_tree.apart)
 
       few_visits : (t : Tree) → (1 ≤ visits_by t q) × (visits_by t q + 1 ≤ length (leaves t) + length (leaves t))
       few_visits (tip n s b) = (omega arith, omega arith)
@@ -155,37 +151,36 @@ module _ (bodies : List (Option Bounds)) where
             | false ↦ (omega arith, omega arith)
           ]
 
-      length_tops : (us : List Tree) → length (tops us) ≡ length us
-      length_tops [] = refl
-      length_tops (u ∷ us) = length_push (tops us) (top u) ∙ (let l = length_tops us in omega arith)
+      length_views : (us : List Tree) → length (views us) ≡ length us
+      length_views [] = refl
+      length_views (u ∷ us) = length_push (views us) (view_of u) ∙ (let l = length_views us in omega arith)
 
-      pub fewer : (rest : List ℕ) (a b : Option NodeView) (m n : ℕ) → length ((rest ++ met_at q a m) ++ met_at q b n) ≤ length rest + 2
-      fewer rest a b m n =
-          let both = length-append (rest ++ met_at q a m) (met_at q b n) in
-          let one = length-append rest (met_at q a m) in
-          let la = short a m in
-          let lb = short b n in
+      pub fewer : (rest : List NodeView) (a b : Option NodeView) → length ((rest ++ met_in q a) ++ met_in q b) ≤ length rest + 2
+      fewer rest a b =
+          let both = length-append (rest ++ met_in q a) (met_in q b) in
+          let one = length-append rest (met_in q a) in
+          let la = short a in
+          let lb = short b in
           omega arith
         where
-          short : (o : Option NodeView) (m : ℕ) → length (met_at q o m) ≤ 1
-          short None m = omega arith
-          short (Some (LeafNode slot fat)) m = elim (query_meets q fat) as (λ x. length (cond x (m ∷ []) []) ≤ 1) [ true ↦ omega arith | false ↦ omega arith ]
-          short (Some (Inner left right h k)) m = elim (query_meets q h) as (λ x. length (cond x (m ∷ []) []) ≤ 1) [ true ↦ omega arith | false ↦ omega arith ]
+          short : (o : Option NodeView) → length (met_in q o) ≤ 1
+          short None = omega arith
+          short (Some v) = elim (meets_node q v) as (λ x. length (cond x (v ∷ []) []) ≤ 1) [ true ↦ omega arith | false ↦ omega arith ]
 
       -- where a descent stands after a leaf, and after an inner node
-      abbrev pub After : Option Tree → List ℕ → List ℕ → List ℕ → ℕ → NodeView → Type 0
+      abbrev pub After : Option Tree → List NodeView → List ℕ → List ℕ → ℕ → NodeView → Type 0
       After o rest before now count (LeafNode slot fat) =
           IsLeafInside bodies slot fat × Stands o bodies q rest before (now ++ found_at bodies q slot) count
       After o rest before now count (Inner left right h k) =
           (count + 2 ≤ visits_by_in o q) × (visits_by_in o q ≤ 16383) × (length rest ≤ 18)
-          × Stands o bodies q ((rest ++ met_at q (view_in o right) right) ++ met_at q (view_in o left) left) before now (count + 2)
+          × (is_some (view_in o left) ≡ true) × (is_some (view_in o right) ≡ true)
+          × Stands o bodies q ((rest ++ met_in q (view_in o right)) ++ met_in q (view_in o left)) before now (count + 2)
 
       -- one node more
-      looked_on : (o : Option Tree) (rest before now : List ℕ) (at count : ℕ) (v : NodeView) → Popped o bodies q rest at before now count
-          → view_in o at ≡ Some v → After o rest before now count v
-      looked_on o rest before now at count v p e =
-          let same : view_of p.u ≡ v = let s = popped_shown o rest before now at count p in cc in
-          subst (After o rest before now count) same (by_tree p.u (w.within p.t p.u p.here p.is_tree.balanced)
+      looked_on : (o : Option Tree) (rest : List NodeView) (node : NodeView) (before now : List ℕ) (count : ℕ)
+          → Popped o bodies q rest node before now count → After o rest before now count node
+      looked_on o rest node before now count p =
+          subst (After o rest before now count) (sym p.node_is) (by_tree p.u (w.within p.t p.u p.here p.is_tree.balanced)
           (inside_within p.t p.u p.inside p.here) p.low_here p.here p.met_here p.found_is p.count_is)
         where
           shown : (u : Tree) → Within p.t u → view_in o (top u) ≡ Some (view_of u)
@@ -216,7 +211,7 @@ module _ (bodies : List (Option Bounds)) where
               let within_r = w.deeper p.t (fork n h k l r) r here c.1 in
               let a = onto p.t rest p.us r p.wait (grind (arith)) within_r bal.2 inside.1 in
               let short = a.4 in
-              let b = onto p.t (rest ++ cond (query_meets q (bounds r)) (top r ∷ []) []) a.0 l a.1 (grind (arith)) within_l bal.1 inside.0 in
+              let b = onto p.t (rest ++ cond (query_meets q (bounds r)) (view_of r ∷ []) []) a.0 l a.1 (grind (arith)) within_l bal.1 inside.0 in
               let due : cond (query_meets q h) (visits_by l q + visits_by r q) 0 ≡ visits_by l q + visits_by r q =
               ap (λ x. cond x (visits_by l q + visits_by r q) 0) m in
               let vl = few_visits l in
@@ -229,7 +224,9 @@ module _ (bodies : List (Option Bounds)) where
               let owed_b = b.3 in (
                 rw p.is (omega arith),
                 rw p.is (omega arith),
-                rw p.wait.stack_is (let len = length_tops p.us in omega arith),
+                rw p.wait.stack_is (let len = length_views p.us in omega arith),
+                ap is_some (shown l within_l),
+                ap is_some (shown r within_r),
                 rw (met_top o r (shown r within_r), met_top o l (shown l within_l)) (record {
                   t = p.t;
                   us = b.0;
@@ -246,30 +243,22 @@ module _ (bodies : List (Option Bounds)) where
               )
 
       -- the same of the next node as the loop holds it
-      off : {o : Option Tree} (stack : List ℕ) {before now : List ℕ} {next : Option ℕ} {at count : ℕ}
-          → Stands o bodies q (stack ++ option_to_list next) before now count → next ≡ Some at → Popped o bodies q stack at before now count
-      off {o} stack {before} {now} {next} {at} {count} s n =
-          popped o stack before now at count (subst (λ x. Stands o bodies q (stack ++ option_to_list x) before now count) n s)
+      module _ {R : Type 0} (f : R → NodeView) (rest : List NodeView) {o : Option Tree} {before now : List ℕ} {next : Option R} {node : R} {count : ℕ}
+          (s : Stands o bodies q (rest ++ option_to_list (option_map f next)) before now count) (n : next ≡ Some node) where
+        after : After o rest before now count (f node)
+        after =
+            looked_on o rest (f node) before now count
+            (popped o rest (f node) before now count (subst (λ x. Stands o bodies q (rest ++ option_to_list (option_map f x)) before now count) n s))
 
-      pub next_shown : {o : Option Tree} (stack : List ℕ) {before now : List ℕ} {next : Option ℕ} {at count : ℕ}
-          → Stands o bodies q (stack ++ option_to_list next) before now count → next ≡ Some at → is_some (view_in o at) ≡ true
-      next_shown {o} stack {before} {now} {next} {at} {count} s n = ap is_some (popped_shown o stack before now at count (off stack s n))
+        pub at_leaf : {slot : ℕ} {fat : Bounds} → f node ≡ LeafNode slot fat → After o rest before now count (LeafNode slot fat)
+        at_leaf is = subst (After o rest before now count) is after
 
-      pub at_leaf : {o : Option Tree} (stack : List ℕ) {before now : List ℕ} {next : Option ℕ} {at count : ℕ} {v : NodeView} {slot : ℕ} {fat : Bounds}
-          → Stands o bodies q (stack ++ option_to_list next) before now count → next ≡ Some at → view_in o at ≡ Some v → v ≡ LeafNode slot fat
-          → After o stack before now count (LeafNode slot fat)
-      at_leaf {o} stack {before} {now} {next} {at} {count} {v} {slot} {fat} s n e is =
-          looked_on o stack before now at count (LeafNode slot fat) (off stack s n) (e ∙ ap Some is)
-
-      pub at_inner : {o : Option Tree} (stack : List ℕ) {before now : List ℕ} {next : Option ℕ} {at count : ℕ} {v : NodeView} {left right k : ℕ} {h : Bounds}
-          → Stands o bodies q (stack ++ option_to_list next) before now count → next ≡ Some at → view_in o at ≡ Some v → v ≡ Inner left right h k
-          → After o stack before now count (Inner left right h k)
-      at_inner {o} stack {before} {now} {next} {at} {count} {v} {left} {right} {k} {h} s n e is =
-          looked_on o stack before now at count (Inner left right h k) (off stack s n) (e ∙ ap Some is)
+        pub at_inner : {left right k : ℕ} {h : Bounds} → f node ≡ Inner left right h k → After o rest before now count (Inner left right h k)
+        at_inner is = subst (After o rest before now count) is after
 
       -- the start
       pub begun : (o : Option Tree) (before : List ℕ) (root : ℕ) (t : Tree) → o ≡ Some t → root ≡ top t → IsTree t → IsInside bodies t
-          → Stands o bodies q (met_at q (view_in o root) root) before before 1
+          → Stands o bodies q (met_in q (view_in o root)) before before 1
       begun o before root t is at is_tree inside =
           let low = is_tree.low in
           let a = onto t [] [] t (record { stack_is = refl; low = tt; within = tt; met = tt }) (omega arith) (w.itself t) is_tree.balanced inside in
@@ -291,10 +280,10 @@ module _ (bodies : List (Option Bounds)) where
           → (now ≡ before ++ found_of (exact_in bodies o) q) × (count ≡ visits_by_in o q)
       done_ok o before now count s = by_list s.us s.wait.stack_is s.found_is s.count_is
         where
-          by_list : (us : List Tree) → [] ≡ tops us → now ++ met (all_leaves us) ≡ before ++ met (leaves s.t)
+          by_list : (us : List Tree) → [] ≡ views us → now ++ met (all_leaves us) ≡ before ++ met (leaves s.t)
               → count + all_owed us q ≡ visits_by s.t q → (now ≡ before ++ found_of (exact_in bodies o) q) × (count ≡ visits_by_in o q)
           by_list [] st fo co = rw s.is (sym (append-nil now) ∙ fo, omega arith)
           by_list (u ∷ us) st fo co =
-              let len : length (tops us ++ top u ∷ []) ≡ 0 = ap length (sym st) in
-              let l = length_push (tops us) (top u) in
+              let len : length (views us ++ view_of u ∷ []) ≡ 0 = ap length (sym st) in
+              let l = length_push (views us) (view_of u) in
               absurd (omega arith)

@@ -71,10 +71,10 @@ abbrev pub all_owed : List Tree → Query → ℕ
 all_owed [] q = 0
 all_owed (u ∷ us) q = owed u q + all_owed us q
 
--- their numbers, the next one last
-abbrev pub tops : List Tree → List ℕ
-tops [] = []
-tops (u ∷ us) = tops us ++ top u ∷ []
+-- what their top nodes show, the next one last
+abbrev pub views : List Tree → List NodeView
+views [] = []
+views (u ∷ us) = views us ++ view_of u ∷ []
 
 -- The higher a waiting tree is, the fewer wait behind it.
 abbrev pub AreLow : List Tree → Type 0
@@ -91,14 +91,14 @@ AreMet q [] = Unit {0}
 AreMet q (u ∷ us) = IsTrue (query_meets q (bounds u)) × AreMet q us
 
 -- the trees of t that wait on a stack
-pub record Wait (q : Query) (t : Tree) (stack : List ℕ) (us : List Tree) : Type 0 where
-  pub stack_is : stack ≡ tops us
+pub record Wait (q : Query) (t : Tree) (stack : List NodeView) (us : List Tree) : Type 0 where
+  pub stack_is : stack ≡ views us
   pub low : AreLow us
   pub within : AllWithin t us
   pub met : AreMet q us
 
 -- where a descent stands: what it has found, with what it will find below the waiting trees, is what is found of all
-pub record Stands (o : Option Tree) (bodies : List (Option Bounds)) (q : Query) (stack before now : List ℕ) (count : ℕ) : Type 0 where
+pub record Stands (o : Option Tree) (bodies : List (Option Bounds)) (q : Query) (stack : List NodeView) (before now : List ℕ) (count : ℕ) : Type 0 where
   pub t : Tree
   pub us : List Tree
   pub is : o ≡ Some t
@@ -109,14 +109,15 @@ pub record Stands (o : Option Tree) (bodies : List (Option Bounds)) (q : Query) 
   pub count_is : count + all_owed us q ≡ visits_by t q
 
 -- and where its next tree is taken from the stack
-pub record Popped (o : Option Tree) (bodies : List (Option Bounds)) (q : Query) (rest : List ℕ) (at : ℕ) (before now : List ℕ) (count : ℕ) : Type 0 where
+pub record Popped (o : Option Tree) (bodies : List (Option Bounds)) (q : Query) (rest : List NodeView) (node : NodeView)
+    (before now : List ℕ) (count : ℕ) : Type 0 where
   pub t : Tree
   pub u : Tree
   pub us : List Tree
   pub is : o ≡ Some t
   pub is_tree : IsTree t
   pub inside : IsInside bodies t
-  pub at_is : at ≡ top u
+  pub node_is : node ≡ view_of u
   pub wait : Wait q t rest us
   pub low_here : height u + length us ≤ MOST_HEIGHT
   pub here : Within t u
@@ -129,10 +130,10 @@ abbrev pub meets_node : Query → NodeView → Bool
 meets_node q (LeafNode slot fat) = query_meets q fat
 meets_node q (Inner left right hull height) = query_meets q hull
 
--- the number of a node that is met
-abbrev pub met_at : Query → Option NodeView → ℕ → List ℕ
-met_at q None at = []
-met_at q (Some node) at = if meets_node q node then at ∷ [] else []
+-- a node that is met
+abbrev pub met_in : Query → Option NodeView → List NodeView
+met_in q None = []
+met_in q (Some node) = if meets_node q node then node ∷ [] else []
 
 -- what the leaf of a slot adds to what is found
 abbrev pub found_at : List (Option Bounds) → Query → ℕ → List ℕ

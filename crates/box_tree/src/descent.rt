@@ -1,20 +1,17 @@
-ghost use Rattle.std.specs.Prelude.{◌≡◌, ◌+◌, ◌<◌, ◌≤◌, ◌++◌, Some, None, OnOk, IfOk, IsSome, length, option_to_list};
-ghost use Rattle.smallvec.specs.SmallVec.{small_vec_len};
+ghost use Rattle.std.specs.Prelude.{◌≡◌, ◌+◌, ◌<◌, ◌≤◌, ◌++◌, Some, None, [], OnOk, IfOk, IsSome, length, option_map, option_to_list};
 ghost use Rattle.tree_nodes.specs.Tree.{Tree, IsTree, top, view_in};
 ghost use Rattle.broad_index.specs.declared.query.Query.{Query};
 ghost use Rattle.broad_index.specs.Found.{found_of};
 ghost use Rattle.broad_index.specs.Members.{meets_query};
-ghost use Rattle.box_tree.specs.Descent.{visits_by_in, exact_in, IsInside, Laws, met_at, found_at};
+ghost use Rattle.box_tree.specs.Descent.{visits_by_in, exact_in, IsInside, Laws, met_in, found_at};
 ghost use Rattle.box_tree.specs.Group.{BoxLaws};
+ghost use Rattle.box_tree.specs.declared.waiting.TheConstants.{MOST_WAITING};
 
 use crate::kept_boxes::KeptBoxes;
+use crate::waiting::Waiting;
 use fixed_box::{FBox, NoMemory, box_laws};
 use prepared_query::{BoxTest, enclosing_law};
-use smallvec::SmallVec;
 use tree_nodes::{NodeView, Nodes, tree_laws};
-
-// The nodes that wait, each of them met: no descent through a tree of 8,192 leaves has more than 32.
-type Stack = SmallVec<usize, 32>;
 
 // Appends the slots of leaves whose exact boxes meet a query, and answers how many nodes it looked at. It passes by what
 // stands below a hull that the query misses. It is compiled for each kind of test, so that no kind is told apart on the way.
@@ -47,14 +44,14 @@ fn walk<T: BoxTest>(
     ensures count { IfOk result (λ n. n ≡ visits_by_in nodes.now (T.asks test.now)) }
 {
     descent_law();
-    let mut stack: Stack = SmallVec::new(*out.allocator());
+    let mut waiting = Waiting::none(nodes.node(root));
     let mut next = met_node(nodes, root, test);
     let mut count = 1u32;
-    'walk: while let Some(at) = next {
-        match nodes.node(at) {
+    'walk: while let Some(node) = next {
+        match node {
             NodeView::Leaf { slot, fat: _ } => {
                 push_found(bodies, *slot, test, out)?;
-                next = stack.pop();
+                next = waiting.pop();
             }
             NodeView::Inner {
                 left,
@@ -63,7 +60,7 @@ fn walk<T: BoxTest>(
                 height: _,
             } => {
                 count += 2;
-                next = open(nodes, *left, *right, test, &mut stack);
+                next = open(nodes, *left, *right, test, &mut waiting);
             }
         }
     }
@@ -89,37 +86,41 @@ pub(crate) fn box_law()
 
 // Looks at the children of a node, and answers which node is next, if any. Where both are met, the left one comes first
 // and the right one waits. Where neither is, the last one that waits comes.
-fn open<T: BoxTest>(
-    nodes: &Nodes,
+fn open<'a, T: BoxTest>(
+    nodes: &'a Nodes,
     left: usize,
     right: usize,
     test: &T,
-    stack: &mut Stack,
-) -> Option<usize>
-    requires room { small_vec_len stack.old + 1 ≤ stack.old.capacity }
+    waiting: &mut Waiting<'a>,
+) -> Option<&'a NodeView>
+    requires room { length waiting.old < MOST_WAITING }
     requires left { IsSome (view_in nodes.now left) }
     requires right { IsSome (view_in nodes.now right) }
-    ensures next { stack.new.items ++ option_to_list result ≡
-        (stack.old.items ++ met_at (T.asks test.now) (view_in nodes.now right) right) ++ met_at (T.asks test.now) (view_in nodes.now left) left }
-    ensures ended { result ≡ None → small_vec_len stack.new ≡ 0 }
-    ensures capacity { stack.new.capacity ≡ stack.old.capacity }
+    ensures next { waiting.new ++ option_to_list (option_map (λ node. node.now) result) ≡
+        (waiting.old ++ met_in (T.asks test.now) (view_in nodes.now right)) ++ met_in (T.asks test.now) (view_in nodes.now left) }
+    ensures ended { result ≡ None → waiting.new ≡ [] }
 {
     let later = met_node(nodes, right, test);
     let Some(first) = met_node(nodes, left, test) else {
-        return if later.is_some() { later } else { stack.pop() };
+        return if later.is_some() {
+            later
+        } else {
+            waiting.pop()
+        };
     };
     if let Some(later) = later {
-        stack.push_reserved(later);
+        waiting.push(later);
     }
     Some(first)
 }
 
 // A node, if the query meets its hull, or its fat box.
-fn met_node<T: BoxTest>(nodes: &Nodes, at: usize, test: &T) -> Option<usize>
+fn met_node<'a, T: BoxTest>(nodes: &'a Nodes, at: usize, test: &T) -> Option<&'a NodeView>
     requires { IsSome (view_in nodes.now at) }
-    ensures { option_to_list result ≡ met_at (T.asks test.now) (view_in nodes.now at) at }
+    ensures { option_to_list (option_map (λ node. node.now) result) ≡ met_in (T.asks test.now) (view_in nodes.now at) }
 {
-    let bounds = match nodes.node(at) {
+    let node = nodes.node(at);
+    let bounds = match node {
         NodeView::Leaf { slot: _, fat } => fat,
         NodeView::Inner {
             left: _,
@@ -128,7 +129,7 @@ fn met_node<T: BoxTest>(nodes: &Nodes, at: usize, test: &T) -> Option<usize>
             height: _,
         } => hull,
     };
-    if test.meets(bounds) { Some(at) } else { None }
+    if test.meets(bounds) { Some(node) } else { None }
 }
 
 // Appends a slot whose exact box is met. Its fat box was asked first.

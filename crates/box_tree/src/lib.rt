@@ -18,6 +18,7 @@ mod room;
 mod search;
 mod touched;
 mod tree;
+mod waiting;
 
 pub use laws::margin_limits;
 pub use moved::Moved;
