@@ -14,8 +14,9 @@ use Rattle.broad_index.specs.Touched.{ordered}
 use Rattle.hier_grid.specs.declared.cell_row.CellRow.{CellRow}
 use Rattle.hier_grid.specs.declared.slot_box.SlotBox.{SlotBox}
 use Rattle.hier_grid.specs.Buckets.{AreOf, is_met, met_pairs}
-use Rattle.hier_grid.specs.Cells.{cell_of, IsInRows}
+use Rattle.hier_grid.specs.Cells.{IsInRows}
 use Rattle.hier_grid.specs.Search.{is_partner, HasPairs, IsSound}
+use Rattle.hier_grid.specs.Standing.{standing_cell}
 use Rattle.hier_grid.proofs.RunLemmas.{parted, rest_of}
 use Rattle.hier_grid.proofs.PartnerLemmas.{found_pairs, sound_pairs, pair_in}
 
@@ -101,8 +102,8 @@ slots_more es e rest slots l at h =
 
 -- ---- rows of cells, one after another
 -- what a search of a slot finds in those of some rows that aren't among the rest
-pub record FindsSoFar (bodies : FinMap nat_cmp Bounds) (own : SlotBox) (rows rest : List CellRow) (old new : List Pair) : Type 0 where
+pub record FindsSoFar (bodies : FinMap nat_cmp Bounds) (own : SlotBox) (floor : ℕ) (rows rest : List CellRow) (old new : List Pair) : Type 0 where
   pub sound : get bodies own.slot ≡ Some own.body → IsSound bodies old → IsSound bodies new
   pub more : HasPairs old new
-  pub whole : (q : ℕ) (b : Bounds) → get bodies q ≡ Some b → IsInRows rows (cell_of b) → meets own.body b ≡ true → not (q == own.slot) ≡ true
-      → IsInRows rest (cell_of b) ⊎ (has_pair new (ordered own.slot q) ≡ true)
+  pub whole : (q : ℕ) (b : Bounds) → get bodies q ≡ Some b → IsInRows rows (standing_cell floor b) → meets own.body b ≡ true → not (q == own.slot) ≡ true
+      → IsInRows rest (standing_cell floor b) ⊎ (has_pair new (ordered own.slot q) ≡ true)

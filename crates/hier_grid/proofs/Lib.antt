@@ -11,3 +11,4 @@ mod PairLemmas
 mod PartnerLemmas
 mod RunLemmas
 mod SlotLemmas
+mod StandingLemmas

@@ -1,5 +1,5 @@
 -- Serves proofs alone: boxes beside their slots by bucket, and what is found among them.
-use Rattle.std.specs.Prelude.{◌≡◌, Bool, true, not, ◌&&◌, ◌||◌, ◌==◌, nat_lt, List, map, filter, Some, All}
+use Rattle.std.specs.Prelude.{◌≡◌, ◌<◌, Bool, true, not, ◌&&◌, ◌||◌, ◌==◌, nat_lt, List, map, filter, Some, All}
 use Rattle.std.specs.Ordering.{nat_cmp}
 use Rattle.std.specs.FinMap.{FinMap, get}
 use Rattle.fixed_box.specs.Bounds.{Bounds, meets}
@@ -10,18 +10,19 @@ use Rattle.cell_table.specs.Listed.{Lists}
 use Rattle.hier_grid.specs.declared.bucket_boxes.BucketBoxes.{BucketBoxes}
 use Rattle.hier_grid.specs.declared.slot_box.SlotBox.{SlotBox}
 use Rattle.hier_grid.specs.declared.listing.Listing.{Listing}
-use Rattle.hier_grid.specs.Cells.{cell_of}
-use Rattle.hier_grid.specs.Grid.{AreKeyed}
+use Rattle.cell_table.specs.declared.TheConstants.{LEVELS}
 use Rattle.hier_grid.specs.Search.{Finds}
+use Rattle.hier_grid.specs.Standing.{AreStanding, standing_cell}
 
 -- beside each slot stands its box
 abbrev pub AreOf : FinMap nat_cmp Bounds → List SlotBox → Type 0
 AreOf bodies entries = All (λ e. get bodies e.slot ≡ Some e.body) entries
 
--- all boxes, in the order in which the slots of their cells are listed
+-- all boxes, in the order in which the slots of the cells are listed in which they stand
 pub record HasBuckets (bodies : FinMap nat_cmp Bounds) (boxes : BucketBoxes) : Type 0 where
   pub cells : FinMap nat_cmp CellKey
-  pub keyed : AreKeyed bodies cells
+  pub low : boxes.floor < LEVELS
+  pub keyed : AreStanding bodies boxes.floor cells
   pub listed : Lists cells boxes.list
   pub same : map (λ e. e.slot) boxes.entries.items ≡ boxes.list.slots
   pub right : AreOf bodies boxes.entries.items
@@ -41,4 +42,4 @@ met_pairs own any entries = map (λ e. ordered own.slot e.slot) (filter (is_met 
 -- what a search of a slot finds in some cells, whichever boxes were copied
 abbrev pub FindsIn : BucketBoxes → SlotBox → Bool → (CellKey → Type 0) → List Pair → List Pair → Type 0
 FindsIn boxes own any IsThere old new =
-    (bodies : FinMap nat_cmp Bounds) → HasBuckets bodies boxes → Finds bodies own any (λ _ b. IsThere (cell_of b)) old new
+    (bodies : FinMap nat_cmp Bounds) → HasBuckets bodies boxes → Finds bodies own any (λ _ b. IsThere (standing_cell boxes.floor b)) old new

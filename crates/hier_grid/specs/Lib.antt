@@ -3,3 +3,4 @@ pub mod Cells
 pub mod Grid
 pub mod Leveled
 pub mod Search
+pub mod Standing

@@ -1,14 +1,17 @@
-ghost use Rattle.std.specs.Prelude.{◌≡◌, ◌++◌, true, OnOk, All, length, map as mapped};
+ghost use Rattle.std.specs.Prelude.{◌≡◌, ◌<◌, ◌++◌, true, OnOk, All, length, map as mapped};
 ghost use Rattle.std.specs.FinMap as map;
 ghost use Rattle.hier_grid.specs.Cells.{IsInRow, IsInRows};
 ghost use Rattle.hier_grid.specs.Buckets.{AreOf, FindsIn, HasBuckets, is_met, met_pairs};
+ghost use Rattle.hier_grid.specs.Standing.{AreStanding};
 
 use crate::cell_row::CellRow;
+use crate::floor::floor_for;
 use crate::kept_boxes::KeptBoxes;
 use crate::partners::is_sought;
 use crate::slot_box::SlotBox;
+use crate::standing_cells::standing_cells;
 use broad_index::Pair;
-use cell_table::BucketList;
+use cell_table::{BucketList, CellTable, LEVELS};
 use fixed_box::NoMemory;
 use slot_lists::SlotBoxes;
 use std::alloc::Global;
@@ -19,6 +22,8 @@ use std::alloc::Global;
 pub(crate) struct BucketBoxes {
     list: BucketList,
     entries: Vec<SlotBox>,
+    /// No box stands in a cell of a level below this one.
+    pub(crate) floor: u8,
 }
 
 impl BucketBoxes {
@@ -27,14 +32,48 @@ impl BucketBoxes {
         BucketBoxes {
             list: BucketList::new(alloc),
             entries: Vec::new(alloc),
+            floor: 0,
         }
     }
 
-    /// Copies all boxes.
+    /// Copies all boxes, those of low levels merged where that pays.
     pub(crate) fn fill(&mut self, kept: &KeptBoxes) -> Result<(), NoMemory>
         ensures { OnOk result (HasBuckets kept.now self.new) }
     {
-        self.list.fill(kept.cells())?;
+        let floor = floor_for(kept);
+        if floor == 0 {
+            self.fill_own(kept)
+        } else {
+            self.fill_merged(kept, floor)
+        }
+    }
+
+    // Copies all boxes, each at its own level.
+    fn fill_own(&mut self, kept: &KeptBoxes) -> Result<(), NoMemory>
+        ensures { OnOk result (HasBuckets kept.now self.new) }
+    {
+        self.floor = 0;
+        self.fill_cells(kept, kept.cells())
+    }
+
+    // Copies all boxes, those of lower levels at a floor.
+    fn fill_merged(&mut self, kept: &KeptBoxes, floor: u8) -> Result<(), NoMemory>
+        requires { floor < LEVELS }
+        ensures { OnOk result (HasBuckets kept.now self.new) }
+    {
+        let alloc = *self.entries.allocator();
+        let cells = standing_cells(alloc, kept, floor)?;
+        self.floor = floor;
+        self.fill_cells(kept, &cells)
+    }
+
+    // Copies all boxes, in the order of the buckets of the cells in which they stand.
+    fn fill_cells(&mut self, kept: &KeptBoxes, cells: &CellTable) -> Result<(), NoMemory>
+        requires low { self.old.floor < LEVELS }
+        requires standing { AreStanding kept.now self.old.floor cells.now }
+        ensures { OnOk result (HasBuckets kept.now self.new) }
+    {
+        self.list.fill(cells)?;
         list_boxes(kept.boxes(), self.list.slots(), &mut self.entries)?;
         Ok(())
     }

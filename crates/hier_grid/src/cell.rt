@@ -3,6 +3,7 @@ ghost use Rattle.fixed_box.specs.Bounds.{cell_side, encloses};
 ghost use Rattle.fixed_box.specs.Space.{space};
 ghost use Rattle.hier_grid.specs.Cells.{cell_at, cell_of, cell_on};
 ghost use Rattle.hier_grid.specs.Grid.{IsSized};
+ghost use Rattle.hier_grid.specs.Standing.{standing_cell};
 
 use cell_table::{CellKey, LEVELS};
 use fixed_box::{FBox, Fix, Point, space_law};
@@ -18,6 +19,15 @@ pub(crate) fn cell_of(body: &FBox) -> CellKey
     inside_law(body);
     let level = body.level();
     cell_on(level, &body.lo())
+}
+
+/// The cell that a box stands in where none stands below a floor.
+pub(crate) fn standing_cell(floor: u8, body: &FBox) -> CellKey
+    requires { floor < LEVELS }
+    ensures value { result ≡ standing_cell floor body.now }
+    ensures level { result.level < LEVELS }
+{
+    cell_on(body.level().max(floor), &body.lo())
 }
 
 // The cell of a level that a point lies in.

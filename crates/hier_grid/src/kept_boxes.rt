@@ -83,8 +83,15 @@ impl KeptBoxes {
         self.sized_law();
     }
 
-    // A law for proofs, with nothing to run: each box is shorter than the cells of its level.
-    fn sized_law(&self)
+    /// A law for proofs, with nothing to run: each slot is one of those that there may be.
+    pub(crate) fn slots_law(&self)
+        ensures { (slot : ℕ) (b : Bounds) → map.get self.now slot ≡ Some b → slot < SLOTS }
+    {
+        self.boxes.slots_law();
+    }
+
+    /// A law for proofs, with nothing to run: each box is shorter than the cells of its level.
+    pub(crate) fn sized_law(&self)
         ensures { (slot : ℕ) (b : Bounds) → map.get self.now slot ≡ Some b → IsSized b }
     {
         // what a value keeps is known where it is read

@@ -1,6 +1,6 @@
-ghost use Rattle.std.specs.Prelude.{◌≡◌, ℕ, ◌<◌, ◌≤◌, [], true, false, IfOk, IfSome, OnOk, length};
+ghost use Rattle.std.specs.Prelude.{◌≡◌, ℕ, ◌<◌, ◌≤◌, [], true, false, Some, IfOk, IfSome, OnOk, length};
 ghost use Rattle.std.specs.FinMap as map;
-ghost use Rattle.fixed_box.specs.Bounds.{level_of};
+ghost use Rattle.fixed_box.specs.Bounds.{Bounds, level_of};
 ghost use Rattle.hier_grid.specs.Leveled.{columns_at};
 ghost use Rattle.hier_grid.specs.Search.{HasMet, HasMore};
 
@@ -53,6 +53,14 @@ impl LeveledBoxes {
         ensures { result.now ≡ self.now }
     {
         &self.boxes
+    }
+
+    /// A law for proofs, with nothing to run: each slot is one of those that there may be.
+    pub(crate) fn slots_law(&self)
+        ensures { (slot : ℕ) (b : Bounds) → map.get self.now slot ≡ Some b → slot < SLOTS }
+    {
+        // what a value keeps is known where it is read
+        let _places = &self.places;
     }
 
     /// Puts a box under an absent slot. It takes no memory.

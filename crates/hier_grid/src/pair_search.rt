@@ -1,5 +1,4 @@
-ghost use Rattle.std.specs.Prelude.{◌≡◌, ◌<◌, pos, ◌≤ℤ◌, true, false, OnOk};
-ghost use Rattle.broad_index.specs.Members.{has_slot};
+ghost use Rattle.std.specs.Prelude.{◌≡◌, ◌<◌, true, false, OnOk};
 ghost use Rattle.fixed_box.specs.Bounds.{level_of};
 ghost use Rattle.hier_grid.specs.Buckets.{IsListing};
 ghost use Rattle.hier_grid.specs.Cells.{cell_of, IsInRow};
@@ -7,14 +6,14 @@ ghost use Rattle.hier_grid.specs.Search.{IsDue, IsNearby, IsOther, Finds, FindsR
 
 use crate::bucket_boxes::BucketBoxes;
 use crate::cell::cell_of;
-use crate::cell_row::CellRow;
+use crate::cell_row::{CellRow, row_of};
 use crate::findings::Findings;
 use crate::kept_boxes::KeptBoxes;
+use crate::list_search::find_listed;
 use crate::listing::Listing;
 use crate::near_cells::visit_row;
-use crate::partners::push_pairs;
 use crate::slot_box::SlotBox;
-use cell_table::{CellKey, LEVELS};
+use cell_table::LEVELS;
 use fixed_box::NoMemory;
 use std::marker::Model;
 
@@ -87,6 +86,16 @@ impl PairSearch<'_> {
     fn find_from(&self, own: &SlotBox, found: &mut Findings) -> Result<(), NoMemory>
         ensures { OnOk result (Finds self.now own.now true (IsDue own.now.slot own.now.body) found.old.pairs.items found.new.pairs.items) }
     {
+        match self.listed {
+            Some(boxes) => find_listed(self.kept, boxes, self.end, own, found),
+            None => self.find_linked(own, found),
+        }
+    }
+
+    // The same by the rings of links.
+    fn find_linked(&self, own: &SlotBox, found: &mut Findings) -> Result<(), NoMemory>
+        ensures { OnOk result (Finds self.now own.now true (IsDue own.now.slot own.now.body) found.old.pairs.items found.new.pairs.items) }
+    {
         let cell = cell_of(&own.body);
         self.find_own(own, &row_of(&cell), found)?;
         self.find_others(own, cell.level, found)?;
@@ -100,13 +109,8 @@ impl PairSearch<'_> {
     {
         let near = &mut found.near;
         near.slots.clear();
-        match self.listed {
-            Some(boxes) => {
-                boxes.find_in_row(own, false, row, &mut near.looked, &mut found.pairs)?
-            }
-            None => visit_row(self.kept.cells(), row, &mut near.slots)?,
-        }
-        self.find_among(own, false, found)?;
+        visit_row(self.kept.cells(), row, &mut near.slots)?;
+        found.find_among(self.kept.boxes(), own, false)?;
         Ok(())
     }
 
@@ -124,42 +128,13 @@ impl PairSearch<'_> {
         Ok(())
     }
 
-    // Finds the pairs of a slot with its partners among what is near. Where no boxes are listed, the slots in rows of cells
-    // are compared with the others that are near.
+    // Finds the pairs of a slot with its partners among what is near. The slots in rows of cells are compared with the others
+    // that are near.
     fn find_near(&self, own: &SlotBox, found: &mut Findings) -> Result<(), NoMemory>
         ensures { OnOk result (Finds self.now own.now true (IsNearby found.old.near) found.old.pairs.items found.new.pairs.items) }
     {
-        let near = &mut found.near;
-        match self.listed {
-            Some(boxes) => {
-                boxes.find_in_rows(own, &near.rows, &mut near.looked, &mut found.pairs)?
-            }
-            None => self.kept.push_rows(near)?,
-        }
-        self.find_among(own, true, found)?;
+        self.kept.push_rows(&mut found.near)?;
+        found.find_among(self.kept.boxes(), own, true)?;
         Ok(())
-    }
-
-    // Finds the pairs of a slot with its partners among the slots that are near. Each of them is compared, and counted.
-    #[inline(always)]
-    fn find_among(&self, own: &SlotBox, any: bool, found: &mut Findings) -> Result<(), NoMemory>
-        ensures { OnOk result (Finds self.now own.now any (λ q _. has_slot found.old.near.slots.items q ≡ true)
-            found.old.pairs.items found.new.pairs.items) }
-    {
-        let near = &mut found.near;
-        near.looked = near.looked.saturating_add(near.slots.len() as u64);
-        push_pairs(self.kept.boxes(), own, any, &near.slots, &mut found.pairs)?;
-        Ok(())
-    }
-}
-
-// The row of one cell.
-fn row_of(cell: &CellKey) -> CellRow
-    requires { cell.now.z ≤ℤ pos 1048576 }
-    ensures { IsInRow result cell.now }
-{
-    CellRow {
-        key: *cell,
-        end: cell.z + 1,
     }
 }

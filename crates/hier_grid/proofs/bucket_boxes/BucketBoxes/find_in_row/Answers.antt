@@ -5,8 +5,8 @@ use Rattle.std.specs.Prelude.{◌<ℤ◌}
 use Rattle.broad_index.specs.Members.{has_pair}
 use Rattle.broad_index.specs.Touched.{ordered}
 use Rattle.hier_grid.specs.Buckets.{met_pairs}
-use Rattle.hier_grid.specs.Cells.{cell_of}
 use Rattle.hier_grid.specs.Search.{IsSound}
+use Rattle.hier_grid.specs.Standing.{standing_cell}
 use Rattle.hier_grid.proofs.PairLemmas.{more_pairs}
 use Rattle.hier_grid.proofs.BucketLemmas.{of_stretch, pair_met, slot_in_stretch, sound_met}
 use Rattle.hier_grid.proofs.bucket_boxes.BucketBoxes.find_in_row.Goals as goal
@@ -15,6 +15,7 @@ pub returns : goal.returns
 returns c bodies filled =
     let mine = c.args.own.now in
     let any = c.args.any in
+    let cell = standing_cell c.args.self.now.floor in
     let es = c.args.self.now.entries.items in
     let slots = c.args.self.now.list.slots in
     let row = c.row-places.result in
@@ -35,8 +36,8 @@ returns c bodies filled =
       found = λ q b e at m other due.
           let pair = ordered mine.slot q in
           let fits : SFits w32 c.args.row.now.end = search rules in
-          let stands = places.whole filled.cells (cell_of b).z q filled.listed at.low (subst (λ z. (cell_of b).z <ℤ z) (sym (to_z-of_z fits)) at.high)
-          (filled.keyed q ∙ ap (option_map cell_of) e ∙ ap Some at.column) in
+          let stands = places.whole filled.cells (cell b).z q filled.listed at.low (subst (λ z. (cell b).z <ℤ z) (sym (to_z-of_z fits)) at.high)
+          (filled.keyed q ∙ ap (option_map cell) e ∙ ap Some at.column) in
           elim stands.inside as (λ _. has_pair c.push_met-2.new.pairs.items pair ≡ true) [
             | inl i ↦ ap (λ l. has_pair l pair) last ∙ more_pairs mid _ pair (ap (λ l. has_pair l pair) first
                 ∙ pair_met bodies mine any stretch old q b of_row e m other due

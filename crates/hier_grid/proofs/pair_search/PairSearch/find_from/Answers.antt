@@ -1,22 +1,12 @@
--- A pair is found in the own cell, or in others.
-use Rattle.std.proofs.Common.{◌≡◌, true, sym, ◌∙◌, subst, inl, inr}
-use Rattle.broad_index.specs.Members.{has_pair}
-use Rattle.broad_index.specs.Touched.{ordered}
-use Rattle.hier_grid.specs.Cells.{IsInRow}
-use Rattle.hier_grid.proofs.PartnerLemmas.{higher}
+-- The boxes that are listed, or linked, are all boxes.
+use Rattle.std.proofs.Common.{true, subst}
+use Rattle.std.specs.Prelude.{OnOk}
+use Rattle.hier_grid.specs.Search.{Finds, IsDue}
 use Rattle.hier_grid.proofs.pair_search.PairSearch.find_from.Goals as goal
 
-pub returns : goal.returns
-returns c =
-    let slot = c.args.own.now.slot in
-    let mine = c.in_ok-find_own.ensures in
-    let others = c.in_ok-find_others.ensures in
-    record {
-      sound = λ own s. others.sound own (mine.sound own s);
-      more = λ p h. others.more p (mine.more p h);
-      found = λ q b e due m other any. elim due as (λ _. has_pair c.find_others.new.found.pairs.items (ordered slot q) ≡ true) [
-        | inl same ↦ others.more (ordered slot q) (mine.found q b e
-            (subst (IsInRow c.row_of.result) (c.cell_of-cell.ensures.value ∙ sym same.0) c.row_of.ensures) m other (higher slot q same.1))
-        | inr o ↦ others.found q b e o m other any
-      ];
-    }
+pub returns-in-Some : goal.returns-in-Some
+returns-in-Some c =
+    let own = c.args.own.now in
+    subst (λ m. OnOk c.find_listed.result
+    (Finds m own true (IsDue own.slot own.body) c.args.found.now.pairs.items c.find_listed.new.found.pairs.items)) c.self.view_is
+    c.find_listed.ensures

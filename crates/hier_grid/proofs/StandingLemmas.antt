@@ -1,0 +1,78 @@
+-- The cells in which boxes stand above a floor, and that cells beside a region have all boxes of lower levels that meet it.
+use Rattle.std.proofs.Common.{◌≡◌, ℕ, ◌+◌, ◌*◌, ◌<◌, ◌≤◌, true, cond, Option, None, Some, is_some, option_map, refl, sym, ap, ◌∙◌, arith, subst, inl, inr}
+use Rattle.std.specs.Prelude.{max}
+use Rattle.std.proofs.Math.Pow.{pow_mono}
+use Rattle.std.proofs.lemmas.Cmp.{nat_cmp_total}
+use Rattle.std.specs.Ordering.{nat_cmp}
+use Rattle.std.specs.FinMap.{FinMap, get, get-insert, insert, contains_key}
+use Rattle.fixed_box.specs.Bounds.{Bounds, cell_side, level_of, longest_side, meets}
+use Rattle.slot_lists.specs.SlotMapLaws.{tie_same, tie_other}
+use Rattle.cell_table.specs.declared.cell_key.CellKey.{CellKey}
+use Rattle.hier_grid.specs.declared.nearby.Nearby.{Nearby}
+use Rattle.hier_grid.specs.Cells.{cell_of, cell_on, IsBeside, IsInRows}
+use Rattle.hier_grid.specs.Grid.{AreKeyed, IsSized}
+use Rattle.hier_grid.specs.Search.{IsNearby}
+use Rattle.hier_grid.specs.Standing.{AreStanding, IsStandingNear, standing_cell}
+use Rattle.hier_grid.proofs.CellLemmas.{beside}
+
+max_left : (l f : ℕ) → f ≤ l → max l f ≡ l
+max_left l f h = omega arith
+
+max_right : (l f : ℕ) → l ≤ f → max l f ≡ f
+max_right l f h = omega arith
+
+-- a box whose level is at the floor or above it stands in its own cell
+pub stands_own : (floor : ℕ) (b : Bounds) → floor ≤ level_of b → standing_cell floor b ≡ cell_of b
+stands_own floor b h = ap (λ n. cell_on n b.lo) (max_left (level_of b) floor h)
+
+-- one of a lower level stands at the floor
+pub stands_low : (floor : ℕ) (b : Bounds) → level_of b ≤ floor → standing_cell floor b ≡ cell_on floor b.lo
+stands_low floor b h = ap (λ n. cell_on n b.lo) (max_right (level_of b) floor h)
+
+wider : (l f : ℕ) → l ≤ f → cell_side l ≤ cell_side f
+wider l f h = pow_mono {i = 12 + 2 * l} {j = 12 + 2 * f} (omega arith)
+
+-- The cell of the floor that such a box stands in is beside each region that it meets.
+pub met_low : (floor : ℕ) (region b : Bounds) → IsSized b → level_of b ≤ floor → meets region b ≡ true → IsBeside floor region (cell_on floor b.lo)
+met_low floor region b sized h m =
+    let wide = wider (level_of b) floor h in
+    let fits = sized.fits in
+    beside floor region b (shorter (longest_side b) (cell_side (level_of b)) (cell_side floor) fits wide) sized.ordered m
+  where
+    shorter : (x y z : ℕ) → x < y → y ≤ z → x < z
+    shorter x y z h l = omega arith
+
+own_map : (o : Option Bounds) → option_map cell_of o ≡ option_map (standing_cell 0) o
+own_map None = refl
+own_map (Some b) = ap Some (sym (stands_own 0 b (omega arith)))
+
+-- with no floor each box stands in its own cell
+pub standing_own : (bodies : FinMap nat_cmp Bounds) (cells : FinMap nat_cmp CellKey) → AreKeyed bodies cells → AreStanding bodies 0 cells
+standing_own bodies cells keyed s = keyed s ∙ own_map (get bodies s)
+
+-- ---- one cell after another
+pub put_here : (cells : FinMap nat_cmp CellKey) (s : ℕ) (k : CellKey) → get (insert cells s k) s ≡ Some k
+put_here cells s k = get-insert nat_cmp_total cells s k s ∙ ap (λ b. cond b (Some k) (get cells s)) (tie_same s s refl)
+
+pub put_other : (cells : FinMap nat_cmp CellKey) (s : ℕ) (k : CellKey) (q : ℕ) → (q ≡ s → ⊥) → get (insert cells s k) q ≡ get cells q
+put_other cells s k q ne = get-insert nat_cmp_total cells s k q ∙ ap (λ b. cond b (Some k) (get cells q)) (tie_other q s ne)
+
+-- ---- what is near
+pub near_standing : (floor : ℕ) (near : Nearby) (q : ℕ) (b : Bounds) → floor ≤ level_of b → IsNearby near q b → IsStandingNear floor near q b
+near_standing floor near q b h n = elim n as (λ _. IsStandingNear floor near q b) [
+  | inl slot ↦ inl slot
+  | inr row ↦ inr (subst (IsInRows near.rows.items) (sym (stands_own floor b h)) row)
+]
+
+-- ---- which slots have cells
+some_map : (floor : ℕ) (o : Option Bounds) → is_some (option_map (standing_cell floor) o) ≡ is_some o
+some_map floor None = refl
+some_map floor (Some b) = refl
+
+pub same_standing : (bodies : FinMap nat_cmp Bounds) (floor : ℕ) (cells : FinMap nat_cmp CellKey) (s : ℕ) → AreStanding bodies floor cells
+    → contains_key cells s ≡ contains_key bodies s
+same_standing bodies floor cells s keyed = ap is_some (keyed s) ∙ some_map floor (get bodies s)
+
+pub absent : (o : Option Bounds) → ((b : Bounds) → o ≡ Some b → ⊥) → o ≡ None
+absent None h = refl
+absent (Some b) h = absurd (h b refl)

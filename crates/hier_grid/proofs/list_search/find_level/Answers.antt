@@ -1,0 +1,30 @@
+-- A pair is found in the own cell, or in others.
+use Rattle.std.proofs.Common.{◌≡◌, ◌≤◌, true, ap, sym, ◌∙◌, subst, inl, inr, arith}
+use Rattle.fixed_box.specs.Bounds.{level_of}
+use Rattle.broad_index.specs.Members.{has_pair}
+use Rattle.broad_index.specs.Touched.{ordered}
+use Rattle.cell_table.specs.declared.cell_key.CellKey.{CellKey}
+use Rattle.hier_grid.specs.Cells.{IsInRow}
+use Rattle.hier_grid.proofs.PartnerLemmas.{higher}
+use Rattle.hier_grid.proofs.StandingLemmas.{stands_own}
+use Rattle.hier_grid.proofs.list_search.find_level.Goals as goal
+
+pub returns : goal.returns
+returns c =
+    let slot = c.args.own.now.slot in
+    let floor = c.args.boxes.now.floor in
+    let mine = c.in_ok-find_in_row.ensures c.args.kept.now c.requires.filled in
+    let others = c.in_ok-find_others.ensures in
+    record {
+      sound = λ own s. others.sound own (mine.sound own s);
+      more = λ p h. others.more p (mine.more p h);
+      found = λ q b e due m other any. elim due as (λ _. has_pair c.find_others.new.found.pairs.items (ordered slot q) ≡ true) [
+        | inl same ↦
+            let level = ap (λ (k : CellKey). k.level) same.0 in
+            let high : floor ≤ level_of b = (let h = c.requires.high in omega (arith, h, level)) in
+            others.more (ordered slot q) (mine.found q b e
+            (subst (IsInRow c.row_of.result) (c.cell_of-cell.ensures.value ∙ sym same.0 ∙ sym (stands_own floor b high)) c.row_of.ensures)
+            m other (higher slot q same.1))
+        | inr o ↦ others.found q b e o m other any
+      ];
+    }
