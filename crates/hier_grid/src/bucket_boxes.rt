@@ -16,8 +16,9 @@ use fixed_box::NoMemory;
 use slot_lists::SlotBoxes;
 use std::alloc::Global;
 
-/// All boxes beside their slots in the order of the buckets of their cells, copied once for the searches of many slots. So
-/// the boxes of a row of cells stand together, and are compared in place.
+/// All boxes beside their slots in the order of the buckets of the cells in which they stand, copied once for the searches of
+/// many slots. So the boxes of a row of cells stand together, and are compared in place. A box stands at its level, or at a
+/// floor above it.
 #[derive(Drop)]
 pub(crate) struct BucketBoxes {
     list: BucketList,

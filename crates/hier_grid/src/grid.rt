@@ -37,6 +37,10 @@ const LISTED_FROM: usize = 1_024;
 /// 16,384 buckets. `pairs` with fewer slots and no such copies at hand, and a query, follow the links between the slots of a
 /// bucket instead.
 ///
+/// Each level costs a search some nine rows of cells. So where the hull of all boxes has cells to spare, boxes of low levels
+/// are copied as if they lay at a higher one: a box is shorter than the cells of each level from its own on. Another table of
+/// cells is made for that, and dropped behind the copy.
+///
 /// Changes take no memory, and a time that doesn't grow with the number of boxes; `new` and every search take some.
 #[derive(Drop)]
 pub struct HierGrid {
