@@ -13,8 +13,8 @@ const FEWEST_IN_CELLS: u32 = 27;
 const FEWEST_RAISED: u32 = 512;
 
 /// The level below which no box is to stand in a list by bucket. Each level costs a search some nine rows of cells, so
-/// levels are merged as long as their boxes leave half of the cells empty that the hull of all boxes has at the highest of
-/// them. Any level would do: it decides on cost alone.
+/// levels are merged as long as their boxes are no more than the cells that the hull of all boxes has at the highest of them.
+/// Any level would do: it decides on cost alone.
 pub(crate) fn floor_for(kept: &KeptBoxes) -> u8
     ensures { result < LEVELS }
 {
@@ -45,11 +45,11 @@ fn floor_in(kept: &KeptBoxes, hull: &FBox) -> u8
     floor
 }
 
-// Whether so many boxes take more than half of the cells of a level.
+// Whether there are more boxes than cells of a level, those about the hull counted too.
 fn is_crowded(level: u8, hull: &FBox, boxes: u32) -> bool
     requires { level < LEVELS }
 {
-    count_beside(level, hull) < 2 * u64::from(boxes)
+    count_beside(level, hull) < u64::from(boxes)
 }
 
 // The least box that encloses all boxes, if there is one.

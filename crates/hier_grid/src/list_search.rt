@@ -1,7 +1,6 @@
-ghost use Rattle.std.specs.Prelude.{◌≡◌, ◌<◌, ◌≤◌, true, false, OnOk};
+ghost use Rattle.std.specs.Prelude.{◌≤◌, true, false, OnOk};
 ghost use Rattle.fixed_box.specs.Bounds.{level_of};
 ghost use Rattle.hier_grid.specs.Buckets.{HasBuckets};
-ghost use Rattle.hier_grid.specs.Cells.{cell_of, IsInRow};
 ghost use Rattle.hier_grid.specs.Search.{Finds, IsDue, IsEnd, IsOther};
 ghost use Rattle.hier_grid.specs.Standing.{IsStandingNear};
 

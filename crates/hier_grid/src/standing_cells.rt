@@ -1,6 +1,5 @@
-ghost use Rattle.std.specs.Prelude.{◌≡◌, ℕ, ◌<◌, Some, None, option_map, IfOk};
+ghost use Rattle.std.specs.Prelude.{◌≡◌, ℕ, ◌<◌, None, option_map, IfOk};
 ghost use Rattle.std.specs.FinMap as map;
-ghost use Rattle.fixed_box.specs.Bounds.{Bounds};
 ghost use Rattle.hier_grid.specs.Standing.{AreStanding, standing_cell};
 
 use crate::cell::standing_cell;

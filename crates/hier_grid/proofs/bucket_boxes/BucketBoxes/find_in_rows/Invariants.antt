@@ -8,7 +8,8 @@ use Rattle.hier_grid.proofs.BucketLemmas.{FindsSoFar}
 use Rattle.hier_grid.proofs.bucket_boxes.BucketBoxes.find_in_rows.Given as goal
 
 abbrev pub invariant-rows : goal.invariant-rows
-invariant-rows l = (bodies : FinMap nat_cmp Bounds) → HasBuckets bodies l.self → FindsSoFar bodies l.own l.self.floor l.rows l.rest l.fn.pairs.items l.pairs.items
+invariant-rows l = (bodies : FinMap nat_cmp Bounds) → HasBuckets bodies l.self
+    → FindsSoFar bodies l.own l.self.floor l.rows l.rest l.fn.pairs.items l.pairs.items
 
 abbrev pub decreases-rows : goal.decreases-rows
 decreases-rows l = length l.rest
