@@ -40,6 +40,12 @@ pub record IsInBlock (block : CellBlock) (k : CellKey) : Type 0 where
   pub low_z : block.from.z ≤ℤ k.z
   pub high_z : k.z <ℤ block.end.z
 
+-- two parts of a block have all its cells
+pub record IsCut (block a b : CellBlock) : Type 0 where
+  pub level_a : a.from.level ≡ block.from.level
+  pub level_b : b.from.level ≡ block.from.level
+  pub whole : (k : CellKey) → IsInBlock block k → IsInBlock a k ⊎ IsInBlock b k
+
 -- A cell comes after another in the order of x, then y, then z.
 abbrev pub IsAfter : CellKey → CellKey → Type 0
 IsAfter k c = (c.x <ℤ k.x) ⊎ (((k.x ≡ c.x) × (c.y <ℤ k.y)) ⊎ ((k.x ≡ c.x) × ((k.y ≡ c.y) × (c.z <ℤ k.z))))

@@ -93,16 +93,16 @@ pub(crate) fn high_face(level: u8, end: i32) -> Fix
     clamped(reach_of(level, end))
 }
 
-// The last place that a box reaches from an earlier cell of a level on an axis.
-fn reach_of(level: u8, end: i32) -> i64
+/// The last place that a box reaches from an earlier cell of a level on an axis.
+pub(crate) fn reach_of(level: u8, end: i32) -> i64
     requires { level < LEVELS }
     ensures { (result +ℤ pos 2) ≡ ((end *ℤ pos (cell_side level)) +ℤ pos (cell_side level)) }
 {
     start_of(level, end) + (side_of(level) - 2)
 }
 
-// Where a cell of a level starts on an axis. All cells whose places have 32 bits start where 64 bits go.
-fn start_of(level: u8, cell: i32) -> i64
+/// Where a cell of a level starts on an axis. All cells whose places have 32 bits start where 64 bits go.
+pub(crate) fn start_of(level: u8, cell: i32) -> i64
     requires { level < LEVELS }
     ensures { result ≡ cell *ℤ pos (cell_side level) }
 {

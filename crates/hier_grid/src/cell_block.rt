@@ -1,7 +1,6 @@
-ghost use Rattle.std.specs.Prelude.{◌≡◌, ◌⊎◌, ◌<◌, true, IsTrue};
+ghost use Rattle.std.specs.Prelude.{◌<◌, IsTrue, IfSome};
 ghost use Rattle.fixed_box.specs.Bounds.{Bounds};
-ghost use Rattle.cell_table.specs.declared.cell_key.CellKey as key;
-ghost use Rattle.hier_grid.specs.Cells.{cell_of, IsInBlock};
+ghost use Rattle.hier_grid.specs.Cells.{cell_of, IsCut, IsInBlock};
 ghost use Rattle.hier_grid.specs.Grid.{IsSized, is_held};
 
 use crate::cell::{high_face, low_face};
@@ -24,36 +23,68 @@ impl CellBlock {
         x.saturating_mul(y).saturating_mul(z)
     }
 
-    /// Whether the block is a short run of cells along z: the buckets of these are read together, so that a look at each
-    /// costs less than a cut.
-    pub(crate) fn is_short(&self) -> bool {
-        let column = (count(self.from.x, self.end.x) <= 1) & (count(self.from.y, self.end.y) <= 1);
-        column & (count(self.from.z, self.end.z) <= SHORT)
-    }
-
-    /// The block in two, cut in the middle of its longest axis. Runs along z are cut last.
+    /// The block in two, cut in the middle of its longest axis.
     pub(crate) fn halves(&self) -> (CellBlock, CellBlock)
-        ensures low { result.0.from.level ≡ self.now.from.level }
-        ensures high { result.1.from.level ≡ self.now.from.level }
-        ensures whole { (k : key.CellKey) → IsInBlock self.now k → IsInBlock result.0 k ⊎ IsInBlock result.1 k }
+        ensures { IsCut self.now result.0 result.1 }
     {
         let x = count(self.from.x, self.end.x);
         let y = count(self.from.y, self.end.y);
-        let z = count(self.from.z, self.end.z) / SHORT;
-        if (x >= y) & (x > z) {
-            self.cut_x(middle(self.from.x, self.end.x))
-        } else if y > z {
-            self.cut_y(middle(self.from.y, self.end.y))
+        let z = count(self.from.z, self.end.z);
+        if (x >= y) & (x >= z) {
+            self.halves_x()
+        } else if y >= z {
+            self.halves_y()
         } else {
-            self.cut_z(middle(self.from.z, self.end.z))
+            self.halves_z()
+        }
+    }
+
+    /// The block in two, cut in the middle of its x axis.
+    pub(crate) fn halves_x(&self) -> (CellBlock, CellBlock)
+        ensures { IsCut self.now result.0 result.1 }
+    {
+        self.cut_x(middle(self.from.x, self.end.x))
+    }
+
+    /// The block in two, cut in the middle of its y axis.
+    pub(crate) fn halves_y(&self) -> (CellBlock, CellBlock)
+        ensures { IsCut self.now result.0 result.1 }
+    {
+        self.cut_y(middle(self.from.y, self.end.y))
+    }
+
+    /// The block in two, cut in the middle of its z axis.
+    pub(crate) fn halves_z(&self) -> (CellBlock, CellBlock)
+        ensures { IsCut self.now result.0 result.1 }
+    {
+        self.cut_z(middle(self.from.z, self.end.z))
+    }
+
+    /// The block in two, cut at a face of another one: first a part outside that one, and then the rest. `None` where no
+    /// face cuts it.
+    pub(crate) fn part_outside(&self, other: &CellBlock) -> Option<(CellBlock, CellBlock)>
+        ensures { IfSome result (λ parts. IsCut self.now parts.0 parts.1) }
+    {
+        if is_between(self.from.x, other.from.x, self.end.x) {
+            Some(self.cut_x(other.from.x))
+        } else if is_between(self.from.x, other.end.x, self.end.x) {
+            Some(turned(self, self.cut_x(other.end.x)))
+        } else if is_between(self.from.y, other.from.y, self.end.y) {
+            Some(self.cut_y(other.from.y))
+        } else if is_between(self.from.y, other.end.y, self.end.y) {
+            Some(turned(self, self.cut_y(other.end.y)))
+        } else if is_between(self.from.z, other.from.z, self.end.z) {
+            Some(self.cut_z(other.from.z))
+        } else if is_between(self.from.z, other.end.z, self.end.z) {
+            Some(turned(self, self.cut_z(other.end.z)))
+        } else {
+            None
         }
     }
 
     // The cells before a place on x, and those from it on.
     fn cut_x(&self, at: i32) -> (CellBlock, CellBlock)
-        ensures low { result.0.from.level ≡ self.now.from.level }
-        ensures high { result.1.from.level ≡ self.now.from.level }
-        ensures whole { (k : key.CellKey) → IsInBlock self.now k → IsInBlock result.0 k ⊎ IsInBlock result.1 k }
+        ensures { IsCut self.now result.0 result.1 }
     {
         let end = CellKey { x: at, ..self.end };
         let from = CellKey { x: at, ..self.from };
@@ -62,9 +93,7 @@ impl CellBlock {
 
     // The cells before a place on y, and those from it on.
     fn cut_y(&self, at: i32) -> (CellBlock, CellBlock)
-        ensures low { result.0.from.level ≡ self.now.from.level }
-        ensures high { result.1.from.level ≡ self.now.from.level }
-        ensures whole { (k : key.CellKey) → IsInBlock self.now k → IsInBlock result.0 k ⊎ IsInBlock result.1 k }
+        ensures { IsCut self.now result.0 result.1 }
     {
         let end = CellKey { y: at, ..self.end };
         let from = CellKey { y: at, ..self.from };
@@ -73,9 +102,7 @@ impl CellBlock {
 
     // The cells before a place on z, and those from it on.
     fn cut_z(&self, at: i32) -> (CellBlock, CellBlock)
-        ensures low { result.0.from.level ≡ self.now.from.level }
-        ensures high { result.1.from.level ≡ self.now.from.level }
-        ensures whole { (k : key.CellKey) → IsInBlock self.now k → IsInBlock result.0 k ⊎ IsInBlock result.1 k }
+        ensures { IsCut self.now result.0 result.1 }
     {
         let end = CellKey { z: at, ..self.end };
         let from = CellKey { z: at, ..self.from };
@@ -103,15 +130,25 @@ impl CellBlock {
     }
 }
 
-// So many cells along z are looked at one by one.
-const SHORT: u32 = 4;
-
-// How many places lie from one on and below another.
-fn count(from: i32, end: i32) -> u32 {
+/// How many places lie from one on and below another.
+pub(crate) fn count(from: i32, end: i32) -> u32 {
     from.abs_diff(end)
 }
 
 // A place between two. Cells are so few that nothing wraps, and a cut anywhere would do.
 fn middle(from: i32, end: i32) -> i32 {
     from.wrapping_add(end.wrapping_sub(from) >> 1)
+}
+
+// Whether a cut at a place leaves cells on both sides.
+fn is_between(from: i32, at: i32, end: i32) -> bool {
+    (from < at) & (at < end)
+}
+
+// The two parts of a block the other way round.
+fn turned(block: &CellBlock, parts: (CellBlock, CellBlock)) -> (CellBlock, CellBlock)
+    requires { IsCut block.now parts.0 parts.1 }
+    ensures { IsCut block.now result.0 result.1 }
+{
+    (parts.1, parts.0)
 }

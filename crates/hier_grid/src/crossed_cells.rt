@@ -7,16 +7,18 @@ ghost use Rattle.hier_grid.specs.Search.{HasCrossed, HasRows};
 
 use crate::cell_block::CellBlock;
 use crate::cell_row::CellRow;
+use crate::line_path::LinePath;
 use crate::near_cells::push_cells;
 use cell_table::LEVELS;
 use fixed_box::NoMemory;
 use prepared_query::{BoxTest, enclosing_law};
 
-/// Appends rows of a block's cells, and among them those of all boxes that meet a query: a line is followed by cutting the
-/// block in two, and each half again, down to short runs of cells, and what it misses is passed by. It asks the line of at
-/// most so many blocks as there are steps, and answers false where that isn't enough.
+/// Appends rows of a block's cells, and among them those of all boxes that meet a line: the block is cut in two, and each
+/// part again, down to a few cells, and a part that the line misses is passed by. It makes at most so many steps, and answers
+/// false where that isn't enough.
 pub(crate) fn push_crossed<T: BoxTest>(
     block: &CellBlock,
+    path: &LinePath,
     test: &T,
     steps: &mut u32,
     rows: &mut Vec<CellRow>,
@@ -30,18 +32,21 @@ pub(crate) fn push_crossed<T: BoxTest>(
         return Ok(false);
     }
     *steps -= 1;
-    if !may_meet(block, test) {
-        return Ok(true);
-    }
-    if block.is_short() {
+    let Some((first, rest)) = path.cut(block) else {
         push_cells(block, rows)?;
         return Ok(true);
+    };
+    // where the line misses the one part of a block that it meets, it meets the other
+    if !may_meet(&first, test) {
+        return push_crossed(&rest, path, test, steps, rows);
     }
-    let (low, high) = block.halves();
-    if !push_crossed(&low, test, steps, rows)? {
+    if !push_crossed(&first, path, test, steps, rows)? {
         return Ok(false);
     }
-    push_crossed(&high, test, steps, rows)
+    if !may_meet(&rest, test) {
+        return Ok(true);
+    }
+    push_crossed(&rest, path, test, steps, rows)
 }
 
 // Whether a box of a block's cells may meet a query.

@@ -6,6 +6,7 @@ ghost use Rattle.broad_index.specs.Reach.{reach};
 ghost use Rattle.hier_grid.specs.Search.{HasHitsBelow, IsRegionOf};
 
 use crate::kept_boxes::KeptBoxes;
+use crate::line_path::LinePath;
 use crate::nearby::Nearby;
 use crate::partners::push_partners;
 use crate::slot_box::SlotBox;
@@ -31,7 +32,7 @@ pub(crate) fn push_hits(
     match query {
         Query::Region(body) => push_near(kept, alloc, body, body, out),
         Query::Spot(_) => push_near(kept, alloc, &region, query, out),
-        Query::Along(_) | Query::Between(_) => push_line(kept, alloc, &region, query, out),
+        Query::Along(_) | Query::Between(_) => push_line(kept, &region, query, out),
     }
 }
 
@@ -55,7 +56,6 @@ fn push_near<T: BoxTest>(
 // The same for a line, which is prepared if its numbers fit 32 bits.
 fn push_line(
     kept: &KeptBoxes,
-    alloc: Global,
     region: &FBox,
     line: &Query,
     out: &mut Vec<u32>,
@@ -64,17 +64,18 @@ fn push_line(
     ensures ok { OnOk result (out.new.items ≡ out.old.items ++ found kept.now line.now) }
     ensures err { OnErr result (out.new.items ≡ out.old.items) }
 {
+    let path = LinePath::of(line, region);
     match LineTest::of(line) {
-        Some(prepared) => push_crossed(kept, alloc, region, &prepared, out),
-        None => push_crossed(kept, alloc, region, line, out),
+        Some(prepared) => push_crossed(kept, region, &path, &prepared, out),
+        None => push_crossed(kept, region, &path, line, out),
     }
 }
 
 // The same for a line as it is asked, which is followed by the cells that it crosses.
 fn push_crossed<T: BoxTest>(
     kept: &KeptBoxes,
-    alloc: Global,
     region: &FBox,
+    path: &LinePath,
     test: &T,
     out: &mut Vec<u32>,
 ) -> Result<(), NoMemory>
@@ -82,8 +83,8 @@ fn push_crossed<T: BoxTest>(
     ensures ok { OnOk result (out.new.items ≡ out.old.items ++ found kept.now (T.asks test.now)) }
     ensures err { OnErr result (out.new.items ≡ out.old.items) }
 {
-    let mut near = Nearby::new(alloc);
-    kept.push_crossed(region, test, &mut near)?;
+    let mut near = Nearby::new(*out.allocator());
+    kept.push_crossed(region, path, test, &mut near)?;
     push_found(kept, &near.slots, test, out)
 }
 

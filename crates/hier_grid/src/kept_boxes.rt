@@ -10,6 +10,7 @@ use crate::cell::cell_of;
 use crate::crossed_cells::push_crossed;
 use crate::hull::{grown, part_in};
 use crate::leveled_boxes::LeveledBoxes;
+use crate::line_path::LinePath;
 use crate::near_cells::{block_beside, count_beside, push_after, push_beside, visit_rows};
 use crate::nearby::Nearby;
 use cell_table::{CellKey, CellTable, LEVELS};
@@ -184,6 +185,7 @@ impl KeptBoxes {
     pub(crate) fn push_crossed<T: BoxTest>(
         &self,
         region: &FBox,
+        path: &LinePath,
         test: &T,
         near: &mut Nearby,
     ) -> Result<(), NoMemory>
@@ -191,7 +193,7 @@ impl KeptBoxes {
         ensures { OnOk result (HasHitsBelow self.now LEVELS (T.asks test.now) near.new.slots.items) }
     {
         match self.part_of(region) {
-            Some(part) => self.push_crossed_in(&part, test, near),
+            Some(part) => self.push_crossed_in(&part, path, test, near),
             None => Ok(()),
         }
     }
@@ -211,6 +213,7 @@ impl KeptBoxes {
     fn push_crossed_in<T: BoxTest>(
         &self,
         region: &FBox,
+        path: &LinePath,
         test: &T,
         near: &mut Nearby,
     ) -> Result<(), NoMemory>
@@ -218,7 +221,7 @@ impl KeptBoxes {
         ensures { OnOk result (HasHitsBelow self.now LEVELS (T.asks test.now) near.new.slots.items) }
     {
         'levels: for level in 0..self.levels_end() {
-            self.push_crossed_at(level, region, test, near)?;
+            self.push_crossed_at(level, region, path, test, near)?;
         }
         Ok(())
     }
@@ -228,6 +231,7 @@ impl KeptBoxes {
         &self,
         level: u8,
         region: &FBox,
+        path: &LinePath,
         test: &T,
         near: &mut Nearby,
     ) -> Result<(), NoMemory>
@@ -236,7 +240,7 @@ impl KeptBoxes {
         ensures more { OnOk result (HasMore near.old.slots.items near.new.slots.items) }
         ensures found { OnOk result (HasHits self.now level (T.asks test.now) near.new.slots.items) }
     {
-        if !self.has_some(level) || self.follow(level, region, test, near)? {
+        if !self.has_some(level) || self.follow(level, region, path, test, near)? {
             return Ok(());
         }
         self.boxes
@@ -248,6 +252,7 @@ impl KeptBoxes {
         &self,
         level: u8,
         region: &FBox,
+        path: &LinePath,
         test: &T,
         near: &mut Nearby,
     ) -> Result<bool, NoMemory>
@@ -260,7 +265,7 @@ impl KeptBoxes {
         near.rows.clear();
         let block = block_beside(level, region);
         let mut steps = self.steps_at(level);
-        let whole = push_crossed(&block, test, &mut steps, &mut near.rows)?;
+        let whole = push_crossed(&block, path, test, &mut steps, &mut near.rows)?;
         if whole {
             visit_rows(&self.cells, &near.rows, &mut near.slots)?;
         }

@@ -15,6 +15,7 @@ mod hull;
 mod kept_boxes;
 mod level_columns;
 mod leveled_boxes;
+mod line_path;
 mod list_search;
 mod listing;
 mod near_cells;

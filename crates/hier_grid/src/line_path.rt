@@ -1,0 +1,233 @@
+ghost use Rattle.std.specs.Prelude.{◌<◌, IfSome};
+ghost use Rattle.hier_grid.specs.Cells.{IsCut};
+
+use crate::cell::{reach_of, start_of};
+use crate::cell_block::{CellBlock, count};
+use broad_index::Query;
+use cell_table::{CellKey, LEVELS};
+use fixed_box::FBox;
+use ray_slabs::WPoint;
+
+/// About where a line goes, rounded: by it a block of cells is cut so that most of what the line misses is left out at once.
+/// No proof rests on it, since the line itself is asked of each part.
+#[derive(Drop)]
+pub(crate) struct LinePath {
+    // The axis on which the line goes farthest, where it starts on it, and the ends of its region there.
+    main: Axis,
+    start: i64,
+    least: i64,
+    most: i64,
+    x: Course,
+    y: Course,
+    z: Course,
+}
+
+#[derive(Clone, Copy)]
+enum Axis {
+    X,
+    Y,
+    Z,
+}
+
+// Where a line starts on an axis, and how far it goes there while it goes 2^20 on its main axis.
+#[derive(Drop)]
+struct Course {
+    start: i64,
+    slope: i64,
+}
+
+// How far a line goes on each axis.
+#[derive(Drop)]
+struct Way {
+    x: i64,
+    y: i64,
+    z: i64,
+}
+
+impl LinePath {
+    /// The path of a line in a region.
+    pub(crate) fn of(line: &Query, region: &FBox) -> LinePath {
+        match line {
+            Query::Along(ray) => LinePath::new(&ray.from, &way_of(&ray.dir), region),
+            Query::Between(seg) => LinePath::new(&seg.a, &way_between(&seg.a, &seg.b), region),
+            Query::Region(body) => LinePath::resting(body),
+            Query::Spot(_) => LinePath::resting(region),
+        }
+    }
+
+    fn new(from: &WPoint, way: &Way, region: &FBox) -> LinePath {
+        let lo = region.lo();
+        let hi = region.hi();
+        let main = way.main();
+        let (start, far, least, most) = match main {
+            Axis::X => (from.x(), way.x, lo.x, hi.x),
+            Axis::Y => (from.y(), way.y, lo.y, hi.y),
+            Axis::Z => (from.z(), way.z, lo.z, hi.z),
+        };
+        LinePath {
+            main,
+            start,
+            least: i64::from(least),
+            most: i64::from(most),
+            x: Course::new(from.x(), way.x, far),
+            y: Course::new(from.y(), way.y, far),
+            z: Course::new(from.z(), way.z, far),
+        }
+    }
+
+    // The path of what goes nowhere.
+    fn resting(region: &FBox) -> LinePath {
+        let at = WPoint::of(&region.lo());
+        LinePath::new(&at, &Way { x: 0, y: 0, z: 0 }, region)
+    }
+
+    /// A block in two, first a part that the line misses most likely, or `None` where its cells are so few that a look at
+    /// each is best. On the main axis it is cut in the middle, down to slabs of one cell, and a slab about the path.
+    pub(crate) fn cut(&self, block: &CellBlock) -> Option<(CellBlock, CellBlock)>
+        requires { block.now.from.level < LEVELS }
+        ensures { IfSome result (λ parts. IsCut block.now parts.0 parts.1) }
+    {
+        if block.len() <= FEW {
+            return None;
+        }
+        if self.main_len(block) > 1 {
+            return Some(self.main_halves(block));
+        }
+        if let Some(parts) = block.part_outside(&self.window(block)) {
+            return Some(parts);
+        }
+        if block.len() <= MANY {
+            return None;
+        }
+        Some(block.halves())
+    }
+
+    fn main_len(&self, block: &CellBlock) -> u32 {
+        match self.main {
+            Axis::X => count(block.from.x, block.end.x),
+            Axis::Y => count(block.from.y, block.end.y),
+            Axis::Z => count(block.from.z, block.end.z),
+        }
+    }
+
+    fn main_halves(&self, block: &CellBlock) -> (CellBlock, CellBlock)
+        ensures { IsCut block.now result.0 result.1 }
+    {
+        match self.main {
+            Axis::X => block.halves_x(),
+            Axis::Y => block.halves_y(),
+            Axis::Z => block.halves_z(),
+        }
+    }
+
+    // The cells of boxes that the line meets as it passes by a block on the main axis.
+    fn window(&self, block: &CellBlock) -> CellBlock
+        requires { block.now.from.level < LEVELS }
+    {
+        let level = block.from.level;
+        let (from, end) = match self.main {
+            Axis::X => (block.from.x, block.end.x),
+            Axis::Y => (block.from.y, block.end.y),
+            Axis::Z => (block.from.z, block.end.z),
+        };
+        let first = self.ahead(start_of(level, from));
+        let last = self.ahead(reach_of(level, end));
+        let x = self.x.cells(level, first, last);
+        let y = self.y.cells(level, first, last);
+        let z = self.z.cells(level, first, last);
+        CellBlock {
+            from: CellKey {
+                level,
+                x: x.0,
+                y: y.0,
+                z: z.0,
+            },
+            end: CellKey {
+                level,
+                x: x.1,
+                y: y.1,
+                z: z.1,
+            },
+        }
+    }
+
+    // How far a place lies ahead of the line's start on the main axis, from the places in its region.
+    fn ahead(&self, place: i64) -> i64 {
+        place.max(self.least).min(self.most).wrapping_sub(self.start)
+    }
+}
+
+impl Way {
+    // The axis on which it is farthest.
+    fn main(&self) -> Axis {
+        let x = self.x.unsigned_abs();
+        let y = self.y.unsigned_abs();
+        let z = self.z.unsigned_abs();
+        if (x >= y) & (x >= z) {
+            Axis::X
+        } else if y >= z {
+            Axis::Y
+        } else {
+            Axis::Z
+        }
+    }
+}
+
+impl Course {
+    fn new(start: i64, way: i64, main: i64) -> Course {
+        let slope = if main == 0 {
+            0
+        } else {
+            way.wrapping_mul(1 << 20).wrapping_div(main)
+        };
+        Course { start, slope }
+    }
+
+    // The cells of boxes that may be met between two places ahead, from one on and below another.
+    fn cells(&self, level: u8, first: i64, last: i64) -> (i32, i32)
+        requires { level < LEVELS }
+    {
+        let a = self.place(first);
+        let b = self.place(last);
+        (
+            cell_near(level, a.min(b)).wrapping_sub(1),
+            cell_near(level, a.max(b)).wrapping_add(1),
+        )
+    }
+
+    fn place(&self, ahead: i64) -> i64 {
+        self.start
+            .wrapping_add(ahead.wrapping_mul(self.slope) >> 20)
+    }
+}
+
+// How far a direction goes.
+fn way_of(dir: &WPoint) -> Way {
+    Way {
+        x: dir.x(),
+        y: dir.y(),
+        z: dir.z(),
+    }
+}
+
+// How far it is from one point to another.
+fn way_between(a: &WPoint, b: &WPoint) -> Way {
+    Way {
+        x: b.x().wrapping_sub(a.x()),
+        y: b.y().wrapping_sub(a.y()),
+        z: b.z().wrapping_sub(a.z()),
+    }
+}
+
+// The cell of a place on an axis, as far as 32 bits go.
+fn cell_near(level: u8, place: i64) -> i32
+    requires { level < LEVELS }
+{
+    (place >> (12 + 2 * level)).clamp(i64::from(i32::MIN), i64::from(i32::MAX)) as i32
+}
+
+// A look at so few cells costs less than a cut.
+const FEW: u64 = 4;
+
+// So many cells about the path are looked at one by one.
+const MANY: u64 = 16;
