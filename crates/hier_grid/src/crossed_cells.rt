@@ -32,10 +32,11 @@ pub(crate) fn push_crossed<T: BoxTest>(
         return Ok(false);
     }
     *steps -= 1;
-    let Some((first, rest)) = path.cut(block) else {
+    let Some(cut) = path.cut(block) else {
         push_cells(block, rows)?;
         return Ok(true);
     };
+    let (first, rest) = block.parts(&cut);
     // where the line misses the one part of a block that it meets, it meets the other
     if !may_meet(&first, test) {
         return push_crossed(&rest, path, test, steps, rows);

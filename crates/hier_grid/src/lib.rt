@@ -7,6 +7,7 @@ mod cell;
 mod cell_block;
 mod cell_row;
 mod crossed_cells;
+mod cut;
 mod findings;
 mod floor;
 mod grid;

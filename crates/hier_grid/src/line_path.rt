@@ -1,10 +1,10 @@
-ghost use Rattle.std.specs.Prelude.{◌<◌, IfSome};
-ghost use Rattle.hier_grid.specs.Cells.{IsCut};
+ghost use Rattle.std.specs.Prelude.{◌<◌};
 
 use crate::cell::{reach_of, start_of};
-use crate::cell_block::{CellBlock, count};
+use crate::cell_block::CellBlock;
+use crate::cut::{Axis, Cut};
 use broad_index::Query;
-use cell_table::{CellKey, LEVELS};
+use cell_table::LEVELS;
 use fixed_box::FBox;
 use ray_slabs::WPoint;
 
@@ -20,13 +20,6 @@ pub(crate) struct LinePath {
     x: Course,
     y: Course,
     z: Course,
-}
-
-#[derive(Clone, Copy)]
-enum Axis {
-    X,
-    Y,
-    Z,
 }
 
 // Where a line starts on an axis, and how far it goes there while it goes 2^20 on its main axis.
@@ -81,74 +74,86 @@ impl LinePath {
         LinePath::new(&at, &Way { x: 0, y: 0, z: 0 }, region)
     }
 
-    /// A block in two, first a part that the line misses most likely, or `None` where its cells are so few that a look at
-    /// each is best. On the main axis it is cut in the middle, down to slabs of one cell, and a slab about the path.
-    pub(crate) fn cut(&self, block: &CellBlock) -> Option<(CellBlock, CellBlock)>
-        requires { block.now.from.level < LEVELS }
-        ensures { IfSome result (λ parts. IsCut block.now parts.0 parts.1) }
-    {
-        if block.len() <= FEW {
-            return None;
-        }
-        if self.main_len(block) > 1 {
-            return Some(self.main_halves(block));
-        }
-        if let Some(parts) = block.part_outside(&self.window(block)) {
-            return Some(parts);
-        }
-        if block.len() <= MANY {
-            return None;
-        }
-        Some(block.halves())
-    }
-
-    fn main_len(&self, block: &CellBlock) -> u32 {
-        match self.main {
-            Axis::X => count(block.from.x, block.end.x),
-            Axis::Y => count(block.from.y, block.end.y),
-            Axis::Z => count(block.from.z, block.end.z),
-        }
-    }
-
-    fn main_halves(&self, block: &CellBlock) -> (CellBlock, CellBlock)
-        ensures { IsCut block.now result.0 result.1 }
-    {
-        match self.main {
-            Axis::X => block.halves_x(),
-            Axis::Y => block.halves_y(),
-            Axis::Z => block.halves_z(),
-        }
-    }
-
-    // The cells of boxes that the line meets as it passes by a block on the main axis.
-    fn window(&self, block: &CellBlock) -> CellBlock
+    /// Where a block is to be cut, the first part of it one that the line misses most likely, or `None` where its cells are so
+    /// few that a look at each is best. On the main axis it is cut in the middle, down to slabs of one cell, and a slab about
+    /// the path.
+    pub(crate) fn cut(&self, block: &CellBlock) -> Option<Cut>
         requires { block.now.from.level < LEVELS }
     {
-        let level = block.from.level;
-        let (from, end) = match self.main {
-            Axis::X => (block.from.x, block.end.x),
-            Axis::Y => (block.from.y, block.end.y),
-            Axis::Z => (block.from.z, block.end.z),
+        let cells = block.len();
+        if cells <= FEW {
+            return None;
+        }
+        if block.len_on(self.main) > 1 {
+            return Some(middle_of(block, self.main));
+        }
+        let aside = self.cut_aside(block);
+        if aside.is_none() && cells > MANY {
+            return Some(middle_of(block, block.longest()));
+        }
+        aside
+    }
+
+    // Where a part on one side of the path is cut off, as the path passes by a block on the main axis. `None` where there is
+    // no such part.
+    fn cut_aside(&self, block: &CellBlock) -> Option<Cut>
+        requires { block.now.from.level < LEVELS }
+    {
+        let passed = self.passed(block);
+        let (second, third) = match self.main {
+            Axis::X => (Axis::Y, Axis::Z),
+            Axis::Y => (Axis::X, Axis::Z),
+            Axis::Z => (Axis::X, Axis::Y),
         };
-        let first = self.ahead(start_of(level, from));
-        let last = self.ahead(reach_of(level, end));
-        let x = self.x.cells(level, first, last);
-        let y = self.y.cells(level, first, last);
-        let z = self.z.cells(level, first, last);
-        CellBlock {
-            from: CellKey {
-                level,
-                x: x.0,
-                y: y.0,
-                z: z.0,
-            },
-            end: CellKey {
-                level,
-                x: x.1,
-                y: y.1,
-                z: z.1,
-            },
+        let cut = self.cut_on(second, block, passed);
+        if cut.is_some() {
+            cut
+        } else {
+            self.cut_on(third, block, passed)
         }
+    }
+
+    // The same on one axis.
+    fn cut_on(&self, axis: Axis, block: &CellBlock, passed: (i64, i64)) -> Option<Cut>
+        requires { block.now.from.level < LEVELS }
+    {
+        let (from, end) = block.ends_on(axis);
+        let (first, last) = self.course(axis).cells(block.from.level, passed);
+        if (from < first) & (first < end) {
+            Some(Cut {
+                axis,
+                at: first,
+                turned: false,
+            })
+        } else if (from < last) & (last < end) {
+            Some(Cut {
+                axis,
+                at: last,
+                turned: true,
+            })
+        } else {
+            None
+        }
+    }
+
+    fn course(&self, axis: Axis) -> &Course {
+        match axis {
+            Axis::X => &self.x,
+            Axis::Y => &self.y,
+            Axis::Z => &self.z,
+        }
+    }
+
+    // From where to where the line passes by a block on the main axis, ahead of its start.
+    fn passed(&self, block: &CellBlock) -> (i64, i64)
+        requires { block.now.from.level < LEVELS }
+    {
+        let (from, end) = block.ends_on(self.main);
+        let level = block.from.level;
+        (
+            self.ahead(start_of(level, from)),
+            self.ahead(reach_of(level, end)),
+        )
     }
 
     // How far a place lies ahead of the line's start on the main axis, from the places in its region.
@@ -184,11 +189,11 @@ impl Course {
     }
 
     // The cells of boxes that may be met between two places ahead, from one on and below another.
-    fn cells(&self, level: u8, first: i64, last: i64) -> (i32, i32)
+    fn cells(&self, level: u8, passed: (i64, i64)) -> (i32, i32)
         requires { level < LEVELS }
     {
-        let a = self.place(first);
-        let b = self.place(last);
+        let a = self.place(passed.0);
+        let b = self.place(passed.1);
         (
             cell_near(level, a.min(b)).wrapping_sub(1),
             cell_near(level, a.max(b)).wrapping_add(1),
@@ -199,6 +204,12 @@ impl Course {
         self.start
             .wrapping_add(ahead.wrapping_mul(self.slope) >> 20)
     }
+}
+
+// A cut in the middle of an axis.
+fn middle_of(block: &CellBlock, axis: Axis) -> Cut {
+    let (from, end) = block.ends_on(axis);
+    Cut::between(axis, from, end)
 }
 
 // How far a direction goes.

@@ -34,29 +34,29 @@ pub returns-then-not-may_meet-clause-found : goal.returns-then-not-may_meet-clau
 returns-then-not-may_meet-clause-found g t c =
     let query = g.T.BoxTest.asks c.args.test.now in
     let block = c.args.block.now in
-    let a = c.in-Some.first in
-    let b = c.in-Some.rest in
+    let a = c.parts.result.0 in
+    let b = c.parts.result.1 in
     let new = c.push_crossed.new.rows.items in
     both c.push_crossed.result (HasRows c.args.rows.now.items new) (HasCrossed b query new) (HasCrossed block query new)
     c.push_crossed.ensures.more c.push_crossed.ensures.found
-    (λ _ rest. parts block a b query new c.in-Some.ensures (missed a query new (c.may_meet.ensures c.if-not-may_meet.true)) rest)
+    (λ _ rest. parts block a b query new c.parts.ensures (missed a query new (c.may_meet.ensures c.if-not-may_meet.true)) rest)
 
 pub returns-then-not-may_meet-2-clause-found : goal.returns-then-not-may_meet-2-clause-found
 returns-then-not-may_meet-2-clause-found g t c _ =
     let query = g.T.BoxTest.asks c.args.test.now in
     let new = c.push_crossed-2.new.rows.items in
-    parts c.args.block.now c.in-Some.first c.in-Some.rest query new c.in-Some.ensures (c.in_ok-push_crossed.ensures.found c.if-not-branch.false)
-    (missed c.in-Some.rest query new (c.may_meet-2.ensures c.if-not-may_meet-2.true))
+    parts c.args.block.now c.parts.result.0 c.parts.result.1 query new c.parts.ensures (c.in_ok-push_crossed.ensures.found c.if-not-branch.false)
+    (missed c.parts.result.1 query new (c.may_meet-2.ensures c.if-not-may_meet-2.true))
 
 pub returns-clause-found : goal.returns-clause-found
 returns-clause-found g t c =
     let query = g.T.BoxTest.asks c.args.test.now in
     let block = c.args.block.now in
-    let a = c.in-Some.first in
-    let b = c.in-Some.rest in
+    let a = c.parts.result.0 in
+    let b = c.parts.result.1 in
     let old = c.push_crossed-2.new.rows.items in
     let new = c.push_crossed-3.new.rows.items in
     both c.push_crossed-3.result (HasRows old new) (HasCrossed b query new) (HasCrossed block query new)
     c.push_crossed-3.ensures.more c.push_crossed-3.ensures.found
-    (λ more rest. parts block a b query new c.in-Some.ensures
+    (λ more rest. parts block a b query new c.parts.ensures
     (later a query old new more (c.in_ok-push_crossed.ensures.found c.if-not-branch.false)) rest)
