@@ -41,6 +41,11 @@ const LISTED_FROM: usize = 1_024;
 /// are copied as if they lay at a higher one: a box is shorter than the cells of each level from its own on. Another table of
 /// cells is made for that, and dropped behind the copy.
 ///
+/// A ray or a segment is followed through the cells of a level: their block is cut in two again and again about the line's
+/// path, and a part that the line misses is passed by. The block reaches no further than a hull, which grows with each box
+/// that comes or moves and doesn't shrink. A level through which the line would take more steps than there are sixteenths of
+/// its boxes is scanned.
+///
 /// Changes take no memory, and a time that doesn't grow with the number of boxes; `new` and every search take some.
 #[derive(Drop)]
 pub struct HierGrid {

@@ -20,11 +20,8 @@ use slot_lists::SlotBoxes;
 use std::alloc::Global;
 use std::marker::Model;
 
-// A level of fewer boxes is scanned for a line at once.
-const FOLLOWED_FROM: u32 = 64;
-
-// A scan of so many boxes costs about as much as a step along a line.
-const BOXES_PER_STEP: u32 = 8;
+// A scan of so many boxes for a line costs about as much as a step along it.
+const BOXES_PER_STEP: u32 = 16;
 
 /// The boxes under their slots, each in the cell of its level, seen as a map from slot to box.
 #[derive(Drop)]
@@ -247,7 +244,8 @@ impl KeptBoxes {
             .scan(level, region, &mut near.places, &mut near.slots)
     }
 
-    // Appends slots of a level, and among them all whose boxes meet a line, if that takes few enough steps along it.
+    // Appends slots of a level, and among them all whose boxes meet a line, where that is expected to cost less than a scan, and
+    // takes at most twice as many steps along the line as expected. Else it answers false.
     fn follow<T: BoxTest>(
         &self,
         level: u8,
@@ -262,26 +260,18 @@ impl KeptBoxes {
         ensures found { IfOk result (λ whole. whole ≡ true → HasHits self.now level (T.asks test.now) near.new.slots.items) }
     {
         self.sized_law();
-        near.rows.clear();
         let block = block_beside(level, region);
-        let mut steps = self.steps_at(level);
+        let expected = path.steps_through(&block);
+        if expected > self.cells.level_len(level) / BOXES_PER_STEP {
+            return Ok(false);
+        }
+        near.rows.clear();
+        let mut steps = expected.saturating_mul(2);
         let whole = push_crossed(&block, path, test, &mut steps, &mut near.rows)?;
         if whole {
             visit_rows(&self.cells, &near.rows, &mut near.slots)?;
         }
         Ok(whole)
-    }
-
-    // In how many steps a level is to be followed: so few that a scan after them in vain costs at most about as much again.
-    fn steps_at(&self, level: u8) -> u32
-        requires { level < LEVELS }
-    {
-        let boxes = self.cells.level_len(level);
-        if boxes < FOLLOWED_FROM {
-            0
-        } else {
-            boxes / BOXES_PER_STEP
-        }
     }
 
     /// Appends the slots in the rows of cells that are near, and others that share their buckets.

@@ -74,8 +74,13 @@ impl LinePath {
         LinePath::new(&at, &Way { x: 0, y: 0, z: 0 }, region)
     }
 
+    /// About how many steps it takes to follow the line through a block.
+    pub(crate) fn steps_through(&self, block: &CellBlock) -> u32 {
+        block.len_on(self.main).saturating_mul(STEPS_PER_CELL)
+    }
+
     /// Where a block is to be cut, the first part of it one that the line misses most likely, or `None` where its cells are so
-    /// few that a look at each is best. On the main axis it is cut in the middle, down to slabs of one cell, and a slab about
+    /// few that a look at each is best. On the main axis it is cut in the middle, down to thin slabs, and a slab about
     /// the path.
     pub(crate) fn cut(&self, block: &CellBlock) -> Option<Cut>
         requires { block.now.from.level < LEVELS }
@@ -84,7 +89,7 @@ impl LinePath {
         if cells <= FEW {
             return None;
         }
-        if block.len_on(self.main) > 1 {
+        if block.len_on(self.main) > SLAB {
             return Some(middle_of(block, self.main));
         }
         let aside = self.cut_aside(block);
@@ -158,7 +163,10 @@ impl LinePath {
 
     // How far a place lies ahead of the line's start on the main axis, from the places in its region.
     fn ahead(&self, place: i64) -> i64 {
-        place.max(self.least).min(self.most).wrapping_sub(self.start)
+        place
+            .max(self.least)
+            .min(self.most)
+            .wrapping_sub(self.start)
     }
 }
 
@@ -237,8 +245,14 @@ fn cell_near(level: u8, place: i64) -> i32
     (place >> (12 + 2 * level)).clamp(i64::from(i32::MIN), i64::from(i32::MAX)) as i32
 }
 
+// Each cell on the main axis takes about so many steps.
+const STEPS_PER_CELL: u32 = 3;
+
+// So many cells a slab is thick at most.
+const SLAB: u32 = 2;
+
 // A look at so few cells costs less than a cut.
-const FEW: u64 = 4;
+const FEW: u64 = 8;
 
 // So many cells about the path are looked at one by one.
-const MANY: u64 = 16;
+const MANY: u64 = 48;
