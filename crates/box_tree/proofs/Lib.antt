@@ -1,14 +1,8 @@
-pub mod Counts
-pub mod CrossedPairs
-pub mod Descents
 pub mod LeafCounts
 pub mod LeafTies
 pub mod Soundness
 pub mod Changes
 pub mod Fats
-pub mod Groups
-pub mod Preorders
-pub mod GroupsDone
 pub mod Searching
 pub mod SharedSlots
 pub mod TouchedPairs

@@ -21,18 +21,20 @@ use Rattle.broad_index.specs.Touched.{gathered_with, AreKept, AreMarked, Renewed
 use Rattle.work_pieces.specs.Each.{Each}
 use Rattle.work_pieces.specs.Runs.{InRuns, put_together}
 use Rattle.tree_nodes.specs.Tree.{Tree, Leaf, leaves, leaves_in, IsTreeIn}
-use Rattle.box_tree.specs.declared.preorder.ListedNode.{ListedNode}
-use Rattle.box_tree.specs.Boxes.{Boxes, visits_for, cost, marked_slots, shared_slots, sought, raised, Finds}
-use Rattle.box_tree.specs.Descent.{entry_of, exact, exact_in}
-use Rattle.box_tree.specs.Group.{touched_of, crossed, all_visits_in, Adds, AreOf}
+use Rattle.tree_search.specs.declared.preorder.ListedNode.{ListedNode}
+use Rattle.box_tree.specs.Boxes.{Boxes, visits_for, cost, marked_slots, shared_slots, sought, Finds}
+use Rattle.tree_search.specs.Looked.{raised}
+use Rattle.tree_search.specs.Descent.{entry_of, exact, exact_in}
+use Rattle.tree_search.specs.Group.{touched_of, crossed, all_visits_in, Adds, AreOf}
 use Rattle.box_tree.specs.Searches.{looked_for, searches, sought_from}
 use Rattle.box_tree.specs.Ties.{IsKept}
-use Rattle.box_tree.proofs.Counts.{raised_again}
-use Rattle.box_tree.proofs.CrossedPairs.{has_append}
 use Rattle.box_tree.proofs.LeafTies.{some_there}
 use Rattle.box_tree.proofs.Searching.{ReachLaw, RenewingLaw, seen, exact_in_is, all_reached, searched_slots, marked_is, are_marked, same_costs}
-use Rattle.box_tree.proofs.TouchedPairs.{exact_in_own, touched_own, touched_marked, renewed_of, own_boxed, crossed_boxed}
+use Rattle.box_tree.proofs.TouchedPairs.{exact_in_own, touched_own, touched_marked, renewed_of, own_boxed, crossed_boxed, has_append}
 use Rattle.box_tree.proofs.TouchedSums.{touched_total}
+
+raised_again : (a c s : ℕ) → raised (raised a c) s ≡ raised a (c + s)
+raised_again a c s = grind (arith)
 
 abbrev pub TouchedLaw : Type 0
 TouchedLaw = (m : FinMap nat_cmp Bounds) (rs : List (ℕ × List ℕ)) → AreReached m rs → (p : Pair) → has_pair (gathered_with rs) p

@@ -16,7 +16,8 @@ use Rattle.tree_nodes.specs.Tree.{Tree}
 use Rattle.box_tree.specs.declared.listing.Listing.{Listing}
 use Rattle.box_tree.specs.Boxes.{Boxes, untouched, no_boxes}
 use Rattle.slot_lists.specs.SlotMap.{map_of}
-use Rattle.box_tree.specs.Ties.{BoxLists, Sound, Whole}
+use Rattle.box_tree.specs.Ties.{BoxLists}
+use Rattle.box_tree.specs.Whole.{Sound, Whole}
 
 abbrev pub Inserted : Type 0
 Inserted = (bodies : FinMap nat_cmp Bounds) (k : ℕ) (v : Bounds) (p : Pair) → (p.a == k) ≡ false → (p.b == k) ≡ false

@@ -1,5 +1,5 @@
 -- Definitions: a tree of fat boxes, as clauses see it.
-use Rattle.std.specs.Prelude.{◌≡◌, ◌&&◌, ◌||◌, ℕ, ◌+◌, ◌-◌, ◌^◌, min, Bool, false, if◌then◌else◌}
+use Rattle.std.specs.Prelude.{◌≡◌, ◌&&◌, ◌||◌, ℕ, Bool, false, if◌then◌else◌}
 use Rattle.std.specs.Prelude.{List, map, filter, sum, replicate, slice_index_or, Option, None, Some, refl}
 use Rattle.std.specs.Ordering.{nat_cmp}
 use Rattle.std.specs.FinMap.{FinMap, code, entries, empty, get, insert}
@@ -10,6 +10,7 @@ use Rattle.broad_index.specs.declared.pair.Pair.{Pair}
 use Rattle.broad_index.specs.Members.{has_pair, has_slot, is_near}
 use Rattle.tree_nodes.specs.Tree.{Tree, Leaf, leaves_in, visits_in}
 use Rattle.tree_nodes.specs.TreeCode.{coded_tree}
+use Rattle.tree_search.specs.Looked.{raised}
 use Rattle.box_tree.specs.declared.TheConstants.{MARGIN}
 use Rattle.box_tree.specs.declared.moved.Moved.{Moved}
 use Rattle.box_tree.specs.declared.moved.Moved.TheVariants.{Inside, Relinked}
@@ -78,10 +79,6 @@ marked_slots marks xs = filter (λ s. slice_index_or marks s false) (map (λ x. 
 -- The slots that several threads seek, in the order of their leaves, so that those of a piece lie near one another.
 abbrev pub shared_slots : Boxes → List ℕ
 shared_slots b = marked_slots b.touched (leaves_in b.tree)
-
--- a number of 64 bits, which stops at its greatest value
-abbrev pub raised : ℕ → ℕ → ℕ
-raised looked more = min (looked + more) (2 ^ 64 - 1)
 
 -- Once the pairs were asked for, no slot is touched, and one descent for each of those that were is counted. The tree stays.
 abbrev pub searched : Boxes → Boxes

@@ -1,16 +1,10 @@
--- Serves proofs alone: what ties the parts of a tree of fat boxes to one another.
-use Rattle.std.specs.Prelude.{◌≡◌, ℕ, Bool, true, List, length, count_by, slice_index_or, Option, None, Some, is_some, IsTrue, Contains, refl}
+-- Serves proofs alone: what ties the boxes, their fat boxes and the tree to one another.
+use Rattle.std.specs.Prelude.{◌≡◌, ℕ, List, length, count_by, slice_index_or, Option, None, Some, is_some, IsTrue, Contains, refl}
 use Rattle.std.specs.Coded.{Coded, code_by, coded×, coded_list, coded_option}
 use Rattle.fixed_box.specs.declared.TheConstants.{SLOTS}
 use Rattle.fixed_box.specs.Bounds.{Bounds, coded_bounds, encloses}
-use Rattle.broad_index.specs.declared.pair.Pair.{Pair}
-use Rattle.broad_index.specs.Near.{rises}
-use Rattle.broad_index.specs.Touched.{AreKept}
 use Rattle.tree_nodes.specs.Tree.{Tree, Leaf, leaves_in, IsTreeIn}
 use Rattle.tree_nodes.specs.TreeCode.{coded_tree}
-use Rattle.slot_lists.specs.SlotMap.{map_of}
-use Rattle.box_tree.specs.declared.listing.Listing.{Listing}
-use Rattle.box_tree.specs.Preorder.{preorder_in}
 
 -- fat boxes by their slots, and the tree of their leaves
 pub record LeafLists : Type 0 where
@@ -59,16 +53,3 @@ pub record IsKept (tree : Option Tree) (bodies fats : List (Option Bounds)) : Ty
   pub bodies_len : length bodies ≡ SLOTS
   pub leafed : Leafed tree fats
   pub fat : AreFat fats bodies
-
--- The kept pairs are those of the map for every pair of which neither slot is marked.
-pub record Sound (bodies : List (Option Bounds)) (marks : List Bool) (kept : List Pair) : Type 0 where
-  pub kept_rise : rises kept ≡ true
-  pub kept_are : AreKept (map_of bodies) marks kept
-
--- The nodes are listed as they are now, where it is said that they are.
-abbrev pub AreListed : Listing → BoxLists → Type 0
-AreListed listing boxes = listing.fresh ≡ true → listing.nodes.items ≡ preorder_in boxes.bodies boxes.tree
-
-pub record Whole (boxes : BoxLists) (marks : List Bool) (kept : List Pair) (listing : Listing) : Type 0 where
-  pub sound : Sound boxes.bodies marks kept
-  pub listed : AreListed listing boxes

@@ -1,13 +1,13 @@
-ghost use Rattle.std.specs.Prelude.{◌≡◌, ◌↔◌, ℕ, ◌<◌, true, false, None, Some, IfOk, IfSome, IsTrue, option_map, map as mapped, slice_index_or};
+ghost use Rattle.std.specs.Prelude.{◌≡◌, ◌↔◌, ℕ, ◌<◌, true, false, None, Some, IfOk, IfSome, IsTrue, map as mapped, slice_index_or};
 ghost use Rattle.std.specs.FinMap as map;
 ghost use Rattle.fixed_box.specs.Bounds.{Bounds, encloses, fattened};
 ghost use Rattle.fixed_box.specs.declared.TheConstants.{SLOTS};
 ghost use Rattle.slot_lists.specs.SlotMap.{map_of};
 ghost use Rattle.broad_index.specs.Held.{Holds};
-ghost use Rattle.tree_nodes.specs.Tree.{leaves_in, top, IsTreeIn};
+ghost use Rattle.tree_nodes.specs.Tree.{leaves_in, IsTreeIn};
 ghost use Rattle.box_tree.specs.declared.TheConstants.{MARGIN};
 ghost use Rattle.box_tree.specs.Boxes.{fat_entry, is_inside, shifted, told};
-ghost use Rattle.box_tree.specs.Descent.{exact_in, IsInsideIn};
+ghost use Rattle.tree_search.specs.Descent.{exact_in, IsInsideIn};
 ghost use Rattle.box_tree.specs.Ties.{IsKept};
 
 use crate::leaves::Leaves;
@@ -17,6 +17,7 @@ use slot_lists::no_boxes;
 use std::alloc::Global;
 use std::marker::Model;
 use tree_nodes::Nodes;
+use tree_search::BoxedTree;
 
 /// The boxes under their slots, each inside the fat box of its leaf. Only `new` takes memory.
 #[derive(Drop)]
@@ -72,11 +73,13 @@ impl KeptBoxes {
         self.leaves.nodes()
     }
 
-    /// The number of the top node, if there is one.
-    pub(crate) fn root(&self) -> Option<usize>
-        ensures { result ≡ option_map top self.now.tree }
+    /// What a search reads of them.
+    pub(crate) fn boxed_tree(&self) -> BoxedTree<'_>
+        ensures bodies { result.bodies ≡ self.now.bodies }
+        ensures tree { result.tree ≡ self.now.tree }
     {
-        self.leaves.nodes().root()
+        self.kept_law();
+        BoxedTree::new(self.leaves.nodes(), &self.bodies)
     }
 
     /// How many slots are present. It looks at none of them.

@@ -2,23 +2,17 @@
 //! keeps the pairs that it found and seeks those of touched slots alone.
 #![tactic(auto)]
 
-mod descent;
-mod findings;
-mod group;
-mod hits;
 mod kept_boxes;
 mod laws;
 mod leaves;
 mod listing;
-mod marks;
+mod marked;
 mod moved;
-mod preorder;
 mod renewal;
 mod room;
 mod search;
 mod touched;
 mod tree;
-mod waiting;
 
 pub use laws::margin_limits;
 pub use moved::Moved;

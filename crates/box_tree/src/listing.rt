@@ -1,11 +1,11 @@
 ghost use Rattle.std.specs.Prelude.{◌≡◌, true, false, IfSome, OnOk};
-ghost use Rattle.box_tree.specs.Preorder.{preorder_in};
-ghost use Rattle.box_tree.specs.Ties.{AreListed};
+ghost use Rattle.tree_search.specs.Preorder.{preorder_in};
+ghost use Rattle.box_tree.specs.Whole.{AreListed};
 
 use crate::kept_boxes::KeptBoxes;
-use crate::preorder::{ListedNode, list_preorder};
 use fixed_box::NoMemory;
 use std::alloc::Global;
+use tree_search::{ListedNode, list_preorder};
 
 /// The nodes of a tree as searches of many slots read them, and whether they are listed as they are now.
 #[derive(Drop)]
@@ -40,8 +40,15 @@ impl Listing {
         if self.fresh {
             return Ok(());
         }
-        list_preorder(boxes, &mut self.nodes)?;
+        list_nodes(boxes, &mut self.nodes)?;
         self.fresh = true;
         Ok(())
     }
+}
+
+// Replaces a list by the nodes of the tree.
+pub(crate) fn list_nodes(boxes: &KeptBoxes, out: &mut Vec<ListedNode>) -> Result<(), NoMemory>
+    ensures { OnOk result (out.new.items ≡ preorder_in boxes.now.bodies boxes.now.tree) }
+{
+    list_preorder(&boxes.boxed_tree(), out)
 }

@@ -6,11 +6,11 @@ ghost use Rattle.broad_index.specs.Near.{near, rises};
 ghost use Rattle.broad_index.specs.Touched.{Renewed};
 ghost use Rattle.box_tree.specs.Boxes.{untouched};
 
-use crate::marks::Marks;
 use crate::room::Room;
 use broad_index::{Pair, renew_pairs};
 use fixed_box::NoMemory;
 use std::mem;
+use tree_search::Marks;
 
 // Appends the pairs of a map, keeps them, and takes the marks away: those of the kept pairs that have no marked slot, and
 // those that were found for marked slots.

@@ -1,25 +1,7 @@
-use crate::findings::Findings;
-use crate::marks::Marks;
 use broad_index::Pair;
-use fixed_box::{FBox, NoMemory};
+use fixed_box::NoMemory;
 use std::alloc::Global;
-
-/// Lists that a search of slots keeps for their memory alone.
-#[derive(Drop)]
-pub(crate) struct SearchRoom {
-    // The boxes that are searched for, and the slots whose searches are done.
-    pub(crate) touched: Vec<(u32, FBox)>,
-    pub(crate) done: Marks,
-}
-
-impl SearchRoom {
-    pub(crate) fn new(alloc: Global) -> Result<SearchRoom, NoMemory> {
-        Ok(SearchRoom {
-            touched: Vec::new(alloc),
-            done: Marks::new(alloc)?,
-        })
-    }
-}
+use tree_search::{Findings, SearchRoom};
 
 /// What the searches of touched slots found, and lists that are kept for their memory alone.
 #[derive(Drop)]

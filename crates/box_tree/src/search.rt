@@ -1,15 +1,13 @@
-ghost use Rattle.std.specs.Prelude.{◌≡◌, ◌≤◌, ◌++◌, not, ◌==◌, [], filter, length, None, OnOk, IfOk, slice_index_or};
+ghost use Rattle.std.specs.Prelude.{◌≡◌, ◌≤◌, ◌++◌, [], length, None, OnOk, IfOk, slice_index_or};
 ghost use Rattle.fixed_box.specs.declared.TheConstants.{SLOTS};
 ghost use Rattle.broad_index.specs.Touched.{gathered_with};
 ghost use Rattle.box_tree.specs.Boxes.{visits_for};
 ghost use Rattle.box_tree.specs.Searches.{sought_from, reached_in, searches, looked_for};
 
-use crate::descent::descend;
-use crate::findings::Findings;
 use crate::kept_boxes::KeptBoxes;
-use crate::marks::Marks;
 use broad_index::push_ordered_pairs;
-use fixed_box::{FBox, NoMemory, SLOTS, box_laws};
+use fixed_box::{FBox, NoMemory, SLOTS};
+use tree_search::{Findings, Marks, descend_with_box, push_others};
 
 // Appends the touched slots that are present, in rising order.
 pub(crate) fn push_sought(
@@ -45,29 +43,14 @@ pub(crate) fn reach(
     ensures ok { OnOk result (out.new.items ≡ reached_in boxes.now.bodies boxes.now.tree slot) }
     ensures count { IfOk result (λ n. n ≡ visits_for boxes.now.tree (slice_index_or boxes.now.bodies slot None)) }
 {
-    box_laws();
     out.clear();
     let Some(body) = boxes.box_of(slot) else {
         return Ok(0);
     };
     met.clear();
-    let count = descend(boxes, &body, met)?;
+    let count = descend_with_box(&boxes.boxed_tree(), &body, met)?;
     push_others(slot, met, out)?;
     Ok(count)
-}
-
-// Appends all slots but one.
-pub(crate) fn push_others(slot: u32, met: &[u32], out: &mut Vec<u32>) -> Result<(), NoMemory>
-    ensures { OnOk result (out.new.items ≡ out.old.items ++ filter (λ s. not (s == slot)) met.now) }
-{
-    let mut rest = met;
-    'met: while let [other, more @ ..] = rest {
-        if *other != slot {
-            out.push(*other)?;
-        }
-        rest = more;
-    }
-    Ok(())
 }
 
 // Appends the pairs of some slots with what each of them reaches, and answers a number raised by how many nodes it looked

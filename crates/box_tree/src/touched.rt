@@ -1,31 +1,26 @@
-ghost use Rattle.std.specs.Prelude.{◌≡◌, ◌||◌, ◌≤◌, ◌++◌, ◌==◌, List, ℕ, [], true, false, map, filter, not, length};
-ghost use Rattle.std.specs.Prelude.{OnOk, IfOk, slice_index_or};
+ghost use Rattle.std.specs.Prelude.{◌≡◌, ◌≤◌, ◌++◌, List, [], length};
+ghost use Rattle.std.specs.Prelude.{OnOk, IfOk};
 ghost use Rattle.slot_lists.specs.SlotMap.{map_of};
 ghost use Rattle.broad_index.specs.declared.pair.Pair.{Pair};
-ghost use Rattle.broad_index.specs.declared.query.Query.TheVariants.{Region};
-ghost use Rattle.broad_index.specs.Found.{found_of};
-ghost use Rattle.broad_index.specs.Members.{has_slot};
-ghost use Rattle.broad_index.specs.Touched.{ordered_pairs, gathered_with, AreKept, Renewed};
+ghost use Rattle.broad_index.specs.Touched.{gathered_with, AreKept, Renewed};
 ghost use Rattle.fixed_box.specs.declared.TheConstants.{SLOTS};
-ghost use Rattle.tree_nodes.specs.Tree.{leaves_in, visits_in};
-ghost use Rattle.box_tree.specs.Boxes.{marked_slots, raised, untouched};
-ghost use Rattle.box_tree.specs.Descent.{exact_in};
-ghost use Rattle.box_tree.specs.Group.{crossed, all_visits_in, Adds, AreOf};
-ghost use Rattle.box_tree.specs.Preorder.{preorder_in};
+ghost use Rattle.tree_nodes.specs.Tree.{leaves_in};
+ghost use Rattle.box_tree.specs.Boxes.{marked_slots};
+ghost use Rattle.tree_search.specs.Looked.{raised};
+ghost use Rattle.tree_search.specs.Descent.{exact_in};
+ghost use Rattle.tree_search.specs.Group.{crossed, all_visits_in, Adds, AreOf};
+ghost use Rattle.tree_search.specs.Preorder.{preorder_in};
 ghost use Rattle.box_tree.specs.Searches.{boxed, looked_for, searches, sought_from};
-ghost use Rattle.box_tree.specs.Ties.{AreListed};
+ghost use Rattle.box_tree.specs.Whole.{AreListed};
 
-use crate::descent::{box_law, descend};
-use crate::findings::Findings;
-use crate::group::{GROUP, search_group};
 use crate::kept_boxes::KeptBoxes;
-use crate::listing::Listing;
-use crate::marks::Marks;
-use crate::preorder::{ListedNode, list_preorder, push_marked, push_marked_slots};
-use crate::room::{Room, SearchRoom};
-use crate::search::{push_others, push_sought, search_all};
-use broad_index::{holding_laws, keeping_laws, push_ordered_pairs};
-use fixed_box::{FBox, NoMemory, box_laws};
+use crate::listing::{Listing, list_nodes};
+use crate::marked::{push_marked, push_marked_slots};
+use crate::room::Room;
+use crate::search::{push_sought, search_all};
+use broad_index::{holding_laws, keeping_laws};
+use fixed_box::{FBox, NoMemory};
+use tree_search::{Findings, ListedNode, Marks, SearchRoom, listing_law, search_boxes};
 
 // From how many touched slots on they are searched for in groups. For fewer it doesn't pay to walk over the tree.
 const FEWEST_GROUPED: usize = 1_024;
@@ -47,6 +42,7 @@ pub(crate) fn search_touched(
 {
     holding_laws();
     keeping_laws();
+    listing_law();
     boxes.kept_law();
     room.found.pairs.clear();
     room.slots.clear();
@@ -81,13 +77,14 @@ pub(crate) fn push_shared(
     ensures ok { OnOk result (out.new.items ≡ marked_slots marks.now (leaves_in boxes.now.tree)) }
     ensures few { OnOk result (length out.new.items ≤ SLOTS) }
 {
+    listing_law();
     boxes.kept_law();
     if let Some(list) = listing.if_fresh() {
         push_marked_slots(list, marks, out)?;
         return Ok(());
     }
     let mut list = Vec::new(*out.allocator());
-    list_preorder(boxes, &mut list)?;
+    list_nodes(boxes, &mut list)?;
     push_marked_slots(&list, marks, out)?;
     Ok(())
 }
@@ -144,106 +141,5 @@ fn search_groups(
     ensures ok { OnOk result (Adds found.old.pairs.items found.new.pairs.items (crossed (exact_in boxes.now.bodies boxes.now.tree) room.old.touched.items)) }
     ensures count { IfOk result (λ n. n ≡ raised looked (all_visits_in boxes.now.tree room.old.touched.items)) }
 {
-    room.done.clear();
-    let number = search_by_groups(
-        boxes,
-        preorder,
-        &room.touched,
-        looked,
-        &mut room.done,
-        found,
-    )?;
-    Ok(number)
-}
-
-// Searches for touched boxes group by group, and for those that are left one by one. A pair of two groups is found from the
-// earlier one alone.
-fn search_by_groups(
-    boxes: &KeptBoxes,
-    preorder: &[ListedNode],
-    touched: &[(u32, FBox)],
-    looked: u64,
-    done: &mut Marks,
-    found: &mut Findings,
-) -> Result<u64, NoMemory>
-    requires list { preorder.now ≡ preorder_in boxes.now.bodies boxes.now.tree }
-    requires touched { AreOf boxes.now.bodies touched.now }
-    requires none { done.old ≡ untouched }
-    ensures ok { OnOk result (Adds found.old.pairs.items found.new.pairs.items (crossed (exact_in boxes.now.bodies boxes.now.tree) touched.now)) }
-    ensures count { IfOk result (λ n. n ≡ raised looked (all_visits_in boxes.now.tree touched.now)) }
-{
-    box_law();
-    boxes.kept_law();
-    let Some(_top) = boxes.root() else {
-        return Ok(looked);
-    };
-    let mut rest = touched;
-    let mut number = looked;
-    'groups: while rest.len() >= GROUP {
-        let (group, more) = rest.split_at(GROUP);
-        number = search_group(preorder, done, group, number, &mut found.pairs)?;
-        set_done(group, done);
-        rest = more;
-    }
-    let all = search_each(boxes, rest, number, found)?;
-    Ok(all)
-}
-
-// Marks the slots of a group.
-fn set_done(group: &[(u32, FBox)], done: &mut Marks)
-    ensures { (k : ℕ) → slice_index_or done.new k false ≡ true →
-        (slice_index_or done.old k false || has_slot (map (λ e. e.0) group.now) k) ≡ true }
-{
-    let mut rest = group;
-    'group: while let [(slot, _), more @ ..] = rest {
-        set_mark(*slot, done);
-        rest = more;
-    }
-}
-
-// Marks a slot.
-fn set_mark(slot: u32, done: &mut Marks)
-    ensures { (k : ℕ) → slice_index_or done.new k false ≡ true → (slice_index_or done.old k false || (k == slot)) ≡ true }
-{
-    done.set(slot);
-}
-
-// Searches for touched boxes one by one.
-fn search_each(
-    boxes: &KeptBoxes,
-    touched: &[(u32, FBox)],
-    looked: u64,
-    found: &mut Findings,
-) -> Result<u64, NoMemory>
-    ensures ok { OnOk result (found.new.pairs.items ≡ found.old.pairs.items ++ crossed (exact_in boxes.now.bodies boxes.now.tree) touched.now) }
-    ensures count { IfOk result (λ n. n ≡ raised looked (all_visits_in boxes.now.tree touched.now)) }
-{
-    let mut rest = touched;
-    let mut number = looked;
-    'touched: while let [(slot, body), more @ ..] = rest {
-        let count = search_one(boxes, *slot, body, found)?;
-        number = number.saturating_add(u64::from(count));
-        rest = more;
-    }
-    Ok(number)
-}
-
-// Searches for one touched box, and answers how many nodes its descent looked at.
-fn search_one(
-    boxes: &KeptBoxes,
-    slot: u32,
-    body: &FBox,
-    found: &mut Findings,
-) -> Result<u32, NoMemory>
-    ensures ok { OnOk result (found.new.pairs.items ≡ found.old.pairs.items ++
-        ordered_pairs slot (filter (λ s. not (s == slot)) (found_of (exact_in boxes.now.bodies boxes.now.tree) (Region body.now)))) }
-    ensures count { IfOk result (λ n. n ≡ visits_in boxes.now.tree body.now) }
-{
-    box_laws();
-    found.met.clear();
-    let count = descend(boxes, body, &mut found.met)?;
-    found.others.clear();
-    push_others(slot, &found.met, &mut found.others)?;
-    push_ordered_pairs(slot, &found.others, &mut found.pairs)?;
-    Ok(count)
+    search_boxes(&boxes.boxed_tree(), preorder, looked, room, found)
 }

@@ -11,13 +11,10 @@ ghost use Rattle.box_tree.specs.declared.TheConstants.{MARGIN};
 ghost use Rattle.box_tree.specs.Boxes.{no_boxes as outset, shifted, told, fat_entry, cost, searched, shared_slots, Finds};
 
 use crate::Moved;
-use crate::findings::Findings;
-use crate::hits::push_hits;
 use crate::kept_boxes::KeptBoxes;
 use crate::listing::Listing;
-use crate::marks::Marks;
 use crate::renewal::renew;
-use crate::room::{Room, SearchRoom};
+use crate::room::Room;
 use crate::search::reach;
 use crate::touched::{push_shared, search_run, search_touched};
 use broad_index::{
@@ -28,6 +25,7 @@ use fixed_box::{FBox, NoMemory};
 use std::alloc::Global;
 use std::marker::Model;
 use tree_nodes::{MOST_HEIGHT, Nodes};
+use tree_search::{Findings, Marks, SearchRoom, push_hits};
 
 /// Moving boxes under slots, in a balanced tree of fat boxes that keeps the pairs it found.
 ///
@@ -56,7 +54,7 @@ pub struct BoxTree {
 impl Model for BoxTree {
     ghost use Rattle.box_tree.specs.Boxes.{Boxes, coded_boxes};
     ghost use Rattle.slot_lists.specs.SlotMap.{map_of};
-    ghost use Rattle.box_tree.specs.Ties.{Whole};
+    ghost use Rattle.box_tree.specs.Whole.{Whole};
 
     ghost Value = { Boxes };
 
@@ -227,7 +225,7 @@ impl BroadPhase for BoxTree {
         holding_laws();
         self.boxes.kept_law();
         let mut met = Vec::new(*out.allocator());
-        push_hits(&self.boxes, query, &mut met)?;
+        push_hits(&self.boxes.boxed_tree(), query, &mut met)?;
         push_rising_slots(&mut met, out)
     }
 

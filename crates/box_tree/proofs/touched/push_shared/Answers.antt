@@ -2,9 +2,8 @@
 use Rattle.std.proofs.Common.{◌≡◌, ℕ, map, ◌++◌, ◌≤◌, ◌∙◌, ap, sym, subst, length}
 use Rattle.fixed_box.specs.declared.TheConstants.{SLOTS}
 use Rattle.fixed_box.specs.Bounds.{Bounds}
-use Rattle.box_tree.specs.Group.{touched_of}
-use Rattle.box_tree.specs.Preorder.{listed, preorder_in}
-use Rattle.box_tree.proofs.Preorders.{listed_in}
+use Rattle.tree_search.specs.Group.{touched_of}
+use Rattle.tree_search.specs.Preorder.{listed, preorder_in}
 use Rattle.box_tree.proofs.SharedSlots.{along_is, list_there, shared_few}
 use Rattle.box_tree.proofs.touched.push_shared.Goals as goal
 
@@ -14,8 +13,8 @@ returns-clause-ok c =
     let k = c.args.boxes.now in
     c.in_ok-push_marked_slots-2.ensures
     ∙ ap (λ l. l ++ map (λ (e : ℕ × Bounds). e.0) (touched_of marks (listed c.deref.result.now))) c.requires.empty
-    ∙ ap (λ l. map (λ (e : ℕ × Bounds). e.0) (touched_of marks (listed l))) (c.deref.ensures.value ∙ c.in_ok-list_preorder.ensures)
-    ∙ ap (λ es. map (λ (e : ℕ × Bounds). e.0) (touched_of marks es)) (listed_in k.bodies k.tree)
+    ∙ ap (λ l. map (λ (e : ℕ × Bounds). e.0) (touched_of marks (listed l))) (c.deref.ensures.value ∙ c.in_ok-list_nodes.ensures)
+    ∙ ap (λ es. map (λ (e : ℕ × Bounds). e.0) (touched_of marks es)) (c.listing_law.ensures k.bodies k.tree)
     ∙ sym (along_is k.tree k.bodies k.fats c.kept_law.ensures.kept marks)
 
 pub returns-clause-few : goal.returns-clause-few
@@ -32,7 +31,7 @@ returns-in-Some-clause-ok c =
     c.in_ok-push_marked_slots.ensures
     ∙ ap (λ l. l ++ map (λ (e : ℕ × Bounds). e.0) (touched_of marks (listed c.in-Some.list.now))) c.requires.empty
     ∙ ap (λ l. map (λ (e : ℕ × Bounds). e.0) (touched_of marks (listed l))) there
-    ∙ ap (λ es. map (λ (e : ℕ × Bounds). e.0) (touched_of marks es)) (listed_in k.bodies k.tree)
+    ∙ ap (λ es. map (λ (e : ℕ × Bounds). e.0) (touched_of marks es)) (c.listing_law.ensures k.bodies k.tree)
     ∙ sym (along_is k.tree k.bodies k.fats c.kept_law.ensures.kept marks)
 
 pub returns-in-Some-clause-few : goal.returns-in-Some-clause-few

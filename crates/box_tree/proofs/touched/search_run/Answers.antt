@@ -1,10 +1,10 @@
 -- Searches for the boxes of slots are those for the slots.
 use Rattle.std.proofs.Common.{◌++◌, ◌∙◌, ap, sym, subst}
-use Rattle.box_tree.specs.Boxes.{raised}
-use Rattle.box_tree.specs.Descent.{exact_in}
-use Rattle.box_tree.specs.Group.{crossed, all_visits_in, Adds, AreOf}
+use Rattle.tree_search.specs.Looked.{raised}
+use Rattle.tree_search.specs.Descent.{exact_in}
+use Rattle.tree_search.specs.Group.{crossed, all_visits_in, Adds, AreOf}
 use Rattle.box_tree.specs.Searches.{boxed}
-use Rattle.box_tree.specs.Preorder.{preorder_in}
+use Rattle.tree_search.specs.Preorder.{preorder_in}
 use Rattle.box_tree.proofs.SharedSlots.{list_there}
 use Rattle.box_tree.proofs.TouchedPairs.{boxed_own, crossed_boxed, visits_boxed}
 use Rattle.box_tree.proofs.touched.search_run.Goals as goal

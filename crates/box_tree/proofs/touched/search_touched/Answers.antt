@@ -2,12 +2,11 @@
 use Rattle.std.proofs.Common.{◌++◌, ◌∙◌, ap}
 use Rattle.broad_index.specs.Members.{has_pair}
 use Rattle.broad_index.specs.Touched.{gathered_with}
-use Rattle.box_tree.specs.Boxes.{raised}
-use Rattle.box_tree.specs.Group.{touched_of, all_visits_in}
-use Rattle.box_tree.specs.Preorder.{listed}
+use Rattle.tree_search.specs.Looked.{raised}
+use Rattle.tree_search.specs.Group.{touched_of, all_visits_in}
+use Rattle.tree_search.specs.Preorder.{listed}
 use Rattle.box_tree.specs.Searches.{searches, sought_from}
-use Rattle.box_tree.proofs.CrossedPairs.{has_append}
-use Rattle.box_tree.proofs.Preorders.{listed_in}
+use Rattle.box_tree.proofs.TouchedPairs.{has_append}
 use Rattle.box_tree.proofs.SharedSlots.{renewed_run, renewed_along, along_own, sought_marked}
 use Rattle.box_tree.proofs.TouchedSums.{touched_total}
 use Rattle.box_tree.proofs.touched.search_touched.Goals as goal
@@ -33,7 +32,7 @@ search_groups-requires-clause-touched c =
     along_own c.args.boxes.now.tree c.args.boxes.now.bodies c.args.boxes.now.fats s marks c.push_marked.new.out.items
     (c.in_ok-push_marked.ensures ∙ ap (λ es. es ++ touched_of marks (listed c.deref-2.result.now)) c.clear-3.ensures.items
     ∙ ap (λ l. touched_of marks (listed l)) (c.deref-2.ensures.value ∙ c.in_ok-refresh.ensures.nodes)
-    ∙ ap (touched_of marks) (listed_in c.args.boxes.now.bodies c.args.boxes.now.tree))
+    ∙ ap (touched_of marks) (c.listing_law.ensures c.args.boxes.now.bodies c.args.boxes.now.tree))
 
 pub returns-clause-ok : goal.returns-clause-ok
 returns-clause-ok c =
@@ -43,7 +42,7 @@ returns-clause-ok c =
     c.push_marked.new.out.items c.clear.new.self.items c.search_groups.new.found.pairs.items
     (c.in_ok-push_marked.ensures ∙ ap (λ es. es ++ touched_of marks (listed c.deref-2.result.now)) c.clear-3.ensures.items
     ∙ ap (λ l. touched_of marks (listed l)) (c.deref-2.ensures.value ∙ c.in_ok-refresh.ensures.nodes)
-    ∙ ap (touched_of marks) (listed_in c.args.boxes.now.bodies c.args.boxes.now.tree))
+    ∙ ap (touched_of marks) (c.listing_law.ensures c.args.boxes.now.bodies c.args.boxes.now.tree))
     c.clear.ensures.items c.in_ok-many.ensures.ok
 
 pub returns-clause-count : goal.returns-clause-count
@@ -54,5 +53,5 @@ returns-clause-count c =
     ∙ ap (λ es. raised c.args.looked (all_visits_in c.args.boxes.now.tree es))
     (c.in_ok-push_marked.ensures ∙ ap (λ es. es ++ touched_of marks (listed c.deref-2.result.now)) c.clear-3.ensures.items
     ∙ ap (λ l. touched_of marks (listed l)) (c.deref-2.ensures.value ∙ c.in_ok-refresh.ensures.nodes)
-    ∙ ap (touched_of marks) (listed_in c.args.boxes.now.bodies c.args.boxes.now.tree))
+    ∙ ap (touched_of marks) (c.listing_law.ensures c.args.boxes.now.bodies c.args.boxes.now.tree))
     ∙ ap (raised c.args.looked) (touched_total c.args.boxes.now.tree c.args.boxes.now.bodies c.args.boxes.now.fats s marks)

@@ -1,6 +1,6 @@
 -- The slot is touched.
 use Rattle.std.proofs.Common.{false, refl, subst, sym}
-use Rattle.box_tree.specs.Ties.{Sound}
+use Rattle.box_tree.specs.Whole.{Sound}
 use Rattle.box_tree.proofs.Soundness.{sound_taken, unlisted}
 use Rattle.box_tree.proofs.tree.BoxTreeBroadPhase.leave.Goals as goal
 

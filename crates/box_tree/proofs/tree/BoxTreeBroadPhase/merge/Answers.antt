@@ -4,7 +4,7 @@ use Rattle.std.specs.List.{sum}
 use Rattle.slot_lists.specs.SlotMap.{map_of}
 use Rattle.work_pieces.specs.Runs.{put_together}
 use Rattle.broad_index.specs.Members.{has_pair}
-use Rattle.box_tree.specs.Boxes.{raised}
+use Rattle.tree_search.specs.Looked.{raised}
 use Rattle.box_tree.proofs.Searching.{near_viewed, same_searched}
 use Rattle.box_tree.proofs.Soundness.{sound_renewed}
 use Rattle.box_tree.proofs.SharedSlots.{pieces_renewed, pieces_counted}

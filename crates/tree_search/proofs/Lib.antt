@@ -1,0 +1,7 @@
+mod Counts
+mod CrossedPairs
+mod Descents
+mod Groups
+mod GroupsDone
+mod Own
+mod Preorders

@@ -1,0 +1,174 @@
+ghost use Rattle.std.specs.Prelude.{◌≡◌, ◌<◌, ◌++◌, Some, None, [], OnOk, IfOk, IsSome, length, option_map, option_to_list};
+ghost use Rattle.tree_nodes.specs.Tree.{Tree, IsTree, top, view_in, visits_in};
+ghost use Rattle.broad_index.specs.declared.query.Query.{Query};
+ghost use Rattle.broad_index.specs.declared.query.Query.TheVariants.{Region};
+ghost use Rattle.broad_index.specs.Found.{found_of};
+ghost use Rattle.broad_index.specs.Members.{meets_query};
+ghost use Rattle.tree_search.specs.Descent.{visits_by_in, exact_in, IsInside, Laws, met_in, found_at};
+ghost use Rattle.tree_search.specs.Group.{BoxLaws};
+ghost use Rattle.tree_search.specs.declared.waiting.TheConstants.{MOST_WAITING};
+
+use crate::BoxedTree;
+use crate::waiting::Waiting;
+use fixed_box::{FBox, NoMemory, box_laws};
+use prepared_query::{BoxTest, enclosing_law};
+use tree_nodes::{NodeView, Nodes, tree_laws};
+
+// Appends the slots of leaves whose exact boxes meet a query, and answers how many nodes it looked at. It passes by what
+// stands below a hull that the query misses. It is compiled for each kind of test, so that no kind is told apart on the way.
+pub(crate) fn descend<T: BoxTest>(
+    boxes: &BoxedTree,
+    test: &T,
+    out: &mut Vec<u32>,
+) -> Result<u32, NoMemory>
+    ensures ok { OnOk result (out.new.items ≡ out.old.items ++ found_of (exact_in boxes.now.bodies boxes.now.tree) (T.asks test.now)) }
+    ensures count { IfOk result (λ n. n ≡ visits_by_in boxes.now.tree (T.asks test.now)) }
+{
+    boxes.boxed_law();
+    match boxes.root() {
+        None => Ok(0),
+        Some(root) => walk(boxes.nodes(), boxes.bodies(), root, test, out),
+    }
+}
+
+/// Appends the slots whose boxes meet one, in the order of the leaves, and answers how many nodes the descent looked at: the
+/// top, and the children of each node whose hull meets the box.
+pub fn descend_with_box(
+    boxes: &BoxedTree,
+    region: &FBox,
+    out: &mut Vec<u32>,
+) -> Result<u32, NoMemory>
+    ensures ok { OnOk result (out.new.items ≡ out.old.items ++ found_of (exact_in boxes.now.bodies boxes.now.tree) (Region region.now)) }
+    ensures count { IfOk result (λ n. n ≡ visits_in boxes.now.tree region.now) }
+{
+    box_laws();
+    descend(boxes, region, out)
+}
+
+// The same from the root on. The next node is held apart from those that wait. A node is asked, and counted, with its
+// sibling as their parent is opened: one that is missed never waits.
+fn walk<T: BoxTest>(
+    nodes: &Nodes,
+    bodies: &[Option<FBox>],
+    root: usize,
+    test: &T,
+    out: &mut Vec<u32>,
+) -> Result<u32, NoMemory>
+    requires { (t : Tree) × (nodes.now ≡ Some t) × (root ≡ top t) × IsTree t × IsInside bodies.now t }
+    ensures ok { OnOk result (out.new.items ≡ out.old.items ++ found_of (exact_in bodies.now nodes.now) (T.asks test.now)) }
+    ensures count { IfOk result (λ n. n ≡ visits_by_in nodes.now (T.asks test.now)) }
+{
+    descent_law();
+    let mut waiting = Waiting::none(nodes.node(root));
+    let mut next = met_node(nodes, root, test);
+    let mut count = 1u32;
+    'walk: while let Some(node) = next {
+        match node {
+            NodeView::Leaf { slot, fat: _ } => {
+                push_found(bodies, *slot, test, out)?;
+                next = waiting.pop();
+            }
+            NodeView::Inner {
+                left,
+                right,
+                hull: _,
+                height: _,
+            } => {
+                count += 2;
+                next = open(nodes, *left, *right, test, &mut waiting);
+            }
+        }
+    }
+    Ok(count)
+}
+
+// A law for proofs, with nothing to run: what a descent rests on.
+pub(crate) fn descent_law()
+    ensures { (query : Query) → Laws query }
+{
+    box_laws();
+    tree_laws();
+    enclosing_law();
+}
+
+// A law for proofs, with nothing to run: what a descent with a group rests on.
+pub(crate) fn box_law()
+    ensures { BoxLaws }
+{
+    box_laws();
+    descent_law();
+}
+
+// Looks at the children of a node, and answers which node is next, if any. Where both are met, the left one comes first
+// and the right one waits. Where neither is, the last one that waits comes.
+fn open<'a, T: BoxTest>(
+    nodes: &'a Nodes,
+    left: usize,
+    right: usize,
+    test: &T,
+    waiting: &mut Waiting<'a>,
+) -> Option<&'a NodeView>
+    requires room { length waiting.old < MOST_WAITING }
+    requires left { IsSome (view_in nodes.now left) }
+    requires right { IsSome (view_in nodes.now right) }
+    ensures next { waiting.new ++ option_to_list (option_map (λ node. node.now) result) ≡
+        (waiting.old ++ met_in (T.asks test.now) (view_in nodes.now right)) ++ met_in (T.asks test.now) (view_in nodes.now left) }
+    ensures ended { result ≡ None → waiting.new ≡ [] }
+{
+    let later = met_node(nodes, right, test);
+    let Some(first) = met_node(nodes, left, test) else {
+        return if later.is_some() {
+            later
+        } else {
+            waiting.pop()
+        };
+    };
+    if let Some(later) = later {
+        waiting.push(later);
+    }
+    Some(first)
+}
+
+// A node, if the query meets its hull, or its fat box.
+fn met_node<'a, T: BoxTest>(nodes: &'a Nodes, at: usize, test: &T) -> Option<&'a NodeView>
+    requires { IsSome (view_in nodes.now at) }
+    ensures { option_to_list (option_map (λ node. node.now) result) ≡ met_in (T.asks test.now) (view_in nodes.now at) }
+{
+    let node = nodes.node(at);
+    let bounds = match node {
+        NodeView::Leaf { slot: _, fat } => fat,
+        NodeView::Inner {
+            left: _,
+            right: _,
+            hull,
+            height: _,
+        } => hull,
+    };
+    if test.meets(bounds) { Some(node) } else { None }
+}
+
+// Appends a slot whose exact box is met. Its fat box was asked first.
+fn push_found<T: BoxTest>(
+    bodies: &[Option<FBox>],
+    slot: u32,
+    test: &T,
+    out: &mut Vec<u32>,
+) -> Result<(), NoMemory>
+    requires { slot < length bodies.now }
+    ensures { OnOk result (out.new.items ≡ out.old.items ++ found_at bodies.now (T.asks test.now) slot) }
+{
+    if is_found(&bodies[slot as usize], test) {
+        out.push(slot)?;
+    }
+    Ok(())
+}
+
+// Whether there is a box, and the query meets it.
+fn is_found<T: BoxTest>(body: &Option<FBox>, test: &T) -> bool
+    ensures { result ≡ meets_query (T.asks test.now) body.now }
+{
+    match body {
+        Some(body) => test.meets(body),
+        None => false,
+    }
+}

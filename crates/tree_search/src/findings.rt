@@ -1,0 +1,27 @@
+ghost use Rattle.std.specs.Prelude.{◌≡◌, []};
+
+use broad_index::Pair;
+use std::alloc::Global;
+
+/// The pairs that searches found, in any order, and room for what one search meets.
+#[derive(Drop)]
+pub struct Findings {
+    /// Each with its lower slot first, and maybe more than once.
+    pub pairs: Vec<Pair>,
+    /// All slots that one search meets, and those but its own.
+    pub met: Vec<u32>,
+    pub others: Vec<u32>,
+}
+
+impl Findings {
+    /// No pair, and room that is taken as it is needed.
+    pub fn new(alloc: Global) -> Findings
+        ensures { result.pairs.items ≡ [] }
+    {
+        Findings {
+            pairs: Vec::new(alloc),
+            met: Vec::new(alloc),
+            others: Vec::new(alloc),
+        }
+    }
+}

@@ -1,0 +1,43 @@
+ghost use Rattle.std.specs.Prelude.{◌≡◌, ◌++◌, OnOk};
+ghost use Rattle.fixed_box.specs.Bounds.{Bounds, holds, meets};
+ghost use Rattle.broad_index.specs.Found.{found_of};
+ghost use Rattle.tree_search.specs.Descent.{exact_in};
+
+use crate::BoxedTree;
+use crate::descent::descend;
+use broad_index::Query;
+use fixed_box::{FBox, NoMemory, Point, box_laws};
+use prepared_query::LineTest;
+
+/// Appends the slots whose boxes meet a query, in the order of the leaves. What kind it is is told here, once for all nodes:
+/// a region and a spot are asked as boxes, and a line whose numbers fit 32 bits is prepared. After an `Err` there may be some
+/// of them.
+pub fn push_hits(boxes: &BoxedTree, query: &Query, out: &mut Vec<u32>) -> Result<(), NoMemory>
+    ensures { OnOk result (out.new.items ≡ out.old.items ++ found_of (exact_in boxes.now.bodies boxes.now.tree) query.now) }
+{
+    match query {
+        Query::Region(region) => descend(boxes, region, out)?,
+        Query::Spot(at) => descend(boxes, &flat_box(at), out)?,
+        Query::Along(_) | Query::Between(_) => descend_along(boxes, query, out)?,
+    };
+    Ok(())
+}
+
+// The box that is a point: what holds the point is what meets it.
+fn flat_box(at: &Point) -> FBox
+    ensures { (body : Bounds) → meets result body ≡ holds body at.now }
+{
+    let flat = FBox::new(*at, *at).unwrap();
+    box_laws();
+    flat
+}
+
+// A descent with a line, prepared where its numbers fit.
+fn descend_along(boxes: &BoxedTree, query: &Query, out: &mut Vec<u32>) -> Result<u32, NoMemory>
+    ensures { OnOk result (out.new.items ≡ out.old.items ++ found_of (exact_in boxes.now.bodies boxes.now.tree) query.now) }
+{
+    if let Some(line) = LineTest::of(query) {
+        return descend(boxes, &line, out);
+    }
+    descend(boxes, query, out)
+}

@@ -1,0 +1,25 @@
+//! Searches of a tree of fat boxes for the exact boxes of its leaves: with a query, with a box, and with eight boxes at once
+//! (Ericson, *Real-Time Collision Detection*, 2005, 6.3 and 6.6.2).
+#![tactic(auto)]
+
+mod box_search;
+mod boxed_tree;
+mod descent;
+mod findings;
+mod group;
+mod hits;
+mod laws;
+mod marks;
+mod preorder;
+mod search_room;
+mod waiting;
+
+pub use box_search::{push_others, search_boxes};
+pub use boxed_tree::BoxedTree;
+pub use descent::descend_with_box;
+pub use findings::Findings;
+pub use hits::push_hits;
+pub use laws::listing_law;
+pub use marks::Marks;
+pub use preorder::{ListedNode, NodeKind, list_preorder};
+pub use search_room::SearchRoom;
