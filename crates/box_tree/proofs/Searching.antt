@@ -21,7 +21,7 @@ use Rattle.broad_index.specs.Touched.{gathered_with, AreKept, AreMarked, Renewed
 use Rattle.tree_nodes.specs.Tree.{Tree, Leaf, tip, fork, leaves, leaves_in}
 use Rattle.box_tree.specs.Boxes.{Boxes, visits_for, cost, sought, searched, untouched}
 use Rattle.tree_search.specs.Looked.{raised}
-use Rattle.tree_search.specs.Descent.{entry_of, exact, exact_in, IsLeafInside, IsInside, IsInsideIn}
+use Rattle.tree_search.specs.Exact.{entry_of, exact, exact_in, IsLeafInside, IsInside, IsInsideIn}
 use Rattle.box_tree.specs.Searches.{looked_for, sought_from, reached_by, reached_in, searches}
 use Rattle.slot_lists.specs.SlotMap.{map_of}
 use Rattle.box_tree.specs.Ties.{IsKept}

@@ -24,8 +24,8 @@ use Rattle.tree_nodes.specs.Tree.{Tree, Leaf, leaves, leaves_in, IsTreeIn}
 use Rattle.tree_search.specs.declared.preorder.ListedNode.{ListedNode}
 use Rattle.box_tree.specs.Boxes.{Boxes, visits_for, cost, marked_slots, shared_slots, sought, Finds}
 use Rattle.tree_search.specs.Looked.{raised}
-use Rattle.tree_search.specs.Descent.{entry_of, exact, exact_in}
-use Rattle.tree_search.specs.Group.{touched_of, crossed, all_visits_in, Adds, AreOf}
+use Rattle.tree_search.specs.Exact.{entry_of, exact, exact_in}
+use Rattle.tree_search.specs.Crossed.{touched_of, crossed, all_visits_in, Adds, AreOf}
 use Rattle.box_tree.specs.Searches.{looked_for, searches, sought_from}
 use Rattle.box_tree.specs.Ties.{IsKept}
 use Rattle.box_tree.proofs.LeafTies.{some_there}

@@ -12,8 +12,8 @@ use Rattle.broad_index.specs.declared.pair.Pair.{Pair}
 use Rattle.broad_index.specs.Members.{has_pair, has_slot, same_pair}
 use Rattle.broad_index.specs.Touched.{ordered_pairs, gathered_with, AreKept, AreMarked, Renewed}
 use Rattle.tree_nodes.specs.Tree.{Tree, Leaf, leaves}
-use Rattle.tree_search.specs.Descent.{entry_of, exact, exact_in}
-use Rattle.tree_search.specs.Group.{touched_of, crossed, all_visits_in, AreOf}
+use Rattle.tree_search.specs.Exact.{entry_of, exact, exact_in}
+use Rattle.tree_search.specs.Crossed.{touched_of, crossed, all_visits_in, AreOf}
 use Rattle.box_tree.specs.Searches.{boxed, reached_by, reached_in, searches}
 use Rattle.box_tree.specs.Ties.{IsKept}
 use Rattle.box_tree.proofs.LeafTies.{some_there}

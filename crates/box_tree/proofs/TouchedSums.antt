@@ -9,8 +9,8 @@ use Rattle.fixed_box.specs.Bounds.{Bounds}
 use Rattle.slot_lists.specs.SlotMap.{entries_from}
 use Rattle.tree_nodes.specs.Tree.{Tree, Leaf, leaves_in, IsTreeIn, one, visits_in}
 use Rattle.box_tree.specs.Boxes.{visits_for}
-use Rattle.tree_search.specs.Descent.{entry_of, exact, exact_in}
-use Rattle.tree_search.specs.Group.{touched_of, all_visits_in}
+use Rattle.tree_search.specs.Exact.{entry_of, exact, exact_in}
+use Rattle.tree_search.specs.Crossed.{touched_of, all_visits_in}
 use Rattle.box_tree.specs.Searches.{sought_from}
 use Rattle.box_tree.specs.Ties.{IsKept}
 use Rattle.box_tree.proofs.LeafTies.{some_there}

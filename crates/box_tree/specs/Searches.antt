@@ -7,7 +7,7 @@ use Rattle.broad_index.specs.Found.{found_of}
 use Rattle.tree_nodes.specs.Tree.{Tree}
 use Rattle.box_tree.specs.Boxes.{visits_for}
 use Rattle.tree_search.specs.Looked.{raised}
-use Rattle.tree_search.specs.Descent.{entry_of, exact_in}
+use Rattle.tree_search.specs.Exact.{entry_of, exact_in}
 use Rattle.slot_lists.specs.SlotMap.{entries_from}
 
 -- the marked ones of slots that have boxes, counted from n

@@ -7,7 +7,7 @@ ghost use Rattle.broad_index.specs.Held.{Holds};
 ghost use Rattle.tree_nodes.specs.Tree.{leaves_in, IsTreeIn};
 ghost use Rattle.box_tree.specs.declared.TheConstants.{MARGIN};
 ghost use Rattle.box_tree.specs.Boxes.{fat_entry, is_inside, shifted, told};
-ghost use Rattle.tree_search.specs.Descent.{exact_in, IsInsideIn};
+ghost use Rattle.tree_search.specs.Exact.{exact_in, IsInsideIn};
 ghost use Rattle.box_tree.specs.Ties.{IsKept};
 
 use crate::leaves::Leaves;

@@ -1,5 +1,5 @@
 ghost use Rattle.std.specs.Prelude.{◌≡◌, ◌++◌, OnOk, map};
-ghost use Rattle.tree_search.specs.Group.{touched_of};
+ghost use Rattle.tree_search.specs.Crossed.{touched_of};
 ghost use Rattle.tree_search.specs.Preorder.{entry_at, listed};
 
 use fixed_box::{FBox, NoMemory};

@@ -8,7 +8,7 @@ use Rattle.fixed_box.specs.Bounds.{Bounds, meets}
 use Rattle.broad_index.specs.declared.pair.Pair.{Pair}
 use Rattle.broad_index.specs.Members.{has_pair, same_pair}
 use Rattle.broad_index.specs.Touched.{ordered, ordered_pairs}
-use Rattle.tree_search.specs.Group.{others_met, crossed}
+use Rattle.tree_search.specs.Crossed.{others_met, crossed}
 
 pub crossed_append : (es xs ys : List (ℕ × Bounds)) → crossed es (xs ++ ys) ≡ crossed es xs ++ crossed es ys
 crossed_append es [] ys = refl

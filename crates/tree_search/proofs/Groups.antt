@@ -22,8 +22,9 @@ use Rattle.tree_nodes.specs.Parts.{height_shown}
 use Rattle.tree_nodes.specs.Tree.{Tree, tip, fork, top, leaves, height, bounds, view_of, view_in, visits, count_of}
 use Rattle.tree_nodes.specs.Tree.{Balanced, IsRefitted, IsTreeIn, Within}
 use Rattle.tree_search.specs.Looked.{raised}
-use Rattle.tree_search.specs.Descent.{entry_of, exact, exact_in, IsInside, IsInsideIn}
-use Rattle.tree_search.specs.Group.{others_met, crossed, below, all_below, all_visits_in, picked, Adds, IsShown, IsBelow, BoxLaws, OpenedAs}
+use Rattle.tree_search.specs.Exact.{entry_of, exact, exact_in, IsInside, IsInsideIn}
+use Rattle.tree_search.specs.Crossed.{others_met, crossed, all_visits_in, Adds}
+use Rattle.tree_search.specs.Group.{below, all_below, picked, IsShown, IsBelow, BoxLaws, OpenedAs}
 use Rattle.tree_search.proofs.Descents.{exact_append}
 use Rattle.tree_search.proofs.Counts.{raised_again}
 use Rattle.tree_search.proofs.CrossedPairs.{crossed_append, has_append}

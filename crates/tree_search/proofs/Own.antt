@@ -2,8 +2,8 @@
 use Rattle.std.proofs.Common.{◌≡◌, ℕ, Option, None, Some, List, [], ◌∷◌, ◌++◌, get_or, refl}
 use Rattle.fixed_box.specs.Bounds.{Bounds}
 use Rattle.tree_nodes.specs.Tree.{Tree, Leaf, leaves}
-use Rattle.tree_search.specs.Descent.{entry_of, exact, exact_in}
-use Rattle.tree_search.specs.Group.{AreOf}
+use Rattle.tree_search.specs.Exact.{entry_of, exact, exact_in}
+use Rattle.tree_search.specs.Crossed.{AreOf}
 
 entry_own : (bodies : List (Option Bounds)) (s : ℕ) (p : Option Bounds) (es : List (ℕ × Bounds)) → get_or bodies s None ≡ p → AreOf bodies es
     → AreOf bodies (entry_of s p ++ es)

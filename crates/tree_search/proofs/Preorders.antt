@@ -13,9 +13,12 @@ use Rattle.tree_search.specs.declared.preorder.ListedNode.{ListedNode}
 use Rattle.tree_search.specs.declared.preorder.NodeKind.{NodeKind}
 use Rattle.tree_search.specs.declared.preorder.NodeKind.TheVariants.{Leaf as LeafKind, Inner as InnerKind}
 use Rattle.tree_search.specs.Looked.{raised}
-use Rattle.tree_search.specs.Descent.{entry_of, exact, exact_in, all_leaves, IsInside}
-use Rattle.tree_search.specs.Group.{undone, others_met, crossed, picked, left_pairs, all_below, BoxLaws}
-use Rattle.tree_search.specs.Preorder.{leaf_node, preorder, preorder_in, entry_at, listed, all_preorder, AllSound, below_each, IsListed, Reads}
+use Rattle.tree_search.specs.Exact.{entry_of, exact, exact_in, IsInside}
+use Rattle.tree_search.specs.Descent.{all_leaves}
+use Rattle.tree_search.specs.Group.{undone, picked, left_pairs, all_below, BoxLaws}
+use Rattle.tree_search.specs.Crossed.{others_met, crossed}
+use Rattle.tree_search.specs.Preorder.{leaf_node, preorder, preorder_in, entry_at, listed}
+use Rattle.tree_search.specs.Reading.{all_preorder, AllSound, below_each, IsListed, Reads}
 use Rattle.tree_search.proofs.Counts.{raised_again, raised_none}
 use Rattle.tree_search.proofs.CrossedPairs.{crossed_append}
 use Rattle.tree_search.proofs.Descents.{exact_append}

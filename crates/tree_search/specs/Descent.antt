@@ -1,5 +1,5 @@
 -- Serves proofs alone: what a descent with a query looks at, and what it finds.
-use Rattle.std.specs.Prelude.{◌≡◌, ℕ, Bool, false, ◌+◌, ◌<◌, ◌≤◌, List, [], ◌∷◌, ◌++◌, length, Option, None, Some, if◌then◌else◌, slice_index_or, IsTrue}
+use Rattle.std.specs.Prelude.{◌≡◌, ℕ, Bool, false, ◌+◌, ◌≤◌, List, [], ◌∷◌, ◌++◌, length, Option, None, Some, if◌then◌else◌, slice_index_or, IsTrue}
 use Rattle.fixed_box.specs.Bounds.{Bounds, encloses, hull}
 use Rattle.broad_index.specs.declared.query.Query.{Query}
 use Rattle.broad_index.specs.Found.{query_meets, found_of}
@@ -8,6 +8,7 @@ use Rattle.tree_nodes.specs.declared.node_view.NodeView.{NodeView}
 use Rattle.tree_nodes.specs.declared.node_view.NodeView.TheVariants.{Leaf as LeafNode, Inner}
 use Rattle.tree_nodes.specs.declared.TheConstants.{MOST_HEIGHT}
 use Rattle.tree_nodes.specs.Tree.{Tree, tip, fork, top, bounds, leaves, Leaf, height, count_of, view_of, view_at, IsTree, Balanced, Within}
+use Rattle.tree_search.specs.Exact.{exact, IsInside}
 
 -- how many nodes a descent with a query looks at: it goes on below a hull that is met
 abbrev pub visits_by : Tree → Query → ℕ
@@ -17,34 +18,6 @@ visits_by (fork n h k l r) q = 1 + (if query_meets q h then visits_by l q + visi
 abbrev pub visits_by_in : Option Tree → Query → ℕ
 visits_by_in None q = 0
 visits_by_in (Some t) q = visits_by t q
-
--- the exact box of a slot, where it has one
-abbrev pub entry_of : ℕ → Option Bounds → List (ℕ × Bounds)
-entry_of slot None = []
-entry_of slot (Some b) = (slot, b) ∷ []
-
--- the slots of leaves with their exact boxes
-abbrev pub exact : List (Option Bounds) → List Leaf → List (ℕ × Bounds)
-exact bodies [] = []
-exact bodies (x ∷ xs) = entry_of x.slot (slice_index_or bodies x.slot None) ++ exact bodies xs
-
-abbrev pub exact_in : List (Option Bounds) → Option Tree → List (ℕ × Bounds)
-exact_in bodies None = []
-exact_in bodies (Some t) = exact bodies (leaves t)
-
--- a leaf's slot is one of the list, and its fat box encloses its exact one
-pub record IsLeafInside (bodies : List (Option Bounds)) (slot : ℕ) (fat : Bounds) : Type 0 where
-  pub small : slot < length bodies
-  pub inside : (b : Bounds) → slice_index_or bodies slot None ≡ Some b → IsTrue (encloses fat b)
-
--- each leaf is so
-abbrev pub IsInside : List (Option Bounds) → Tree → Type 0
-IsInside bodies (tip n s f) = IsLeafInside bodies s f
-IsInside bodies (fork n h k l r) = IsInside bodies l × IsInside bodies r
-
-abbrev pub IsInsideIn : List (Option Bounds) → Option Tree → Type 0
-IsInsideIn bodies None = Unit {0}
-IsInsideIn bodies (Some t) = IsInside bodies t
 
 -- what is known of trees and queries
 pub record Laws (q : Query) : Type 0 where

@@ -1,14 +1,10 @@
--- Serves proofs alone: the nodes of a tree listed in preorder.
-use Rattle.std.specs.Prelude.{◌≡◌, ℕ, ◌+◌, Bool, List, [], ◌∷◌, ◌++◌, length, Option, None, Some, slice_index_or}
+-- Definitions: the nodes of a tree listed in preorder (Ericson, Real-Time Collision Detection, 2005, 6.6.2).
+use Rattle.std.specs.Prelude.{ℕ, List, [], ◌∷◌, ◌++◌, length, Option, None, Some, slice_index_or}
 use Rattle.fixed_box.specs.Bounds.{Bounds}
-use Rattle.broad_index.specs.declared.pair.Pair.{Pair}
-use Rattle.tree_nodes.specs.Tree.{Tree, tip, fork, leaves, Balanced}
+use Rattle.tree_nodes.specs.Tree.{Tree, tip, fork}
 use Rattle.tree_search.specs.declared.preorder.ListedNode.{ListedNode}
 use Rattle.tree_search.specs.declared.preorder.NodeKind.{NodeKind}
 use Rattle.tree_search.specs.declared.preorder.NodeKind.TheVariants.{Leaf as LeafKind, Inner as InnerKind}
-use Rattle.tree_search.specs.Looked.{raised}
-use Rattle.tree_search.specs.Descent.{exact, all_leaves, IsInside}
-use Rattle.tree_search.specs.Group.{crossed, undone, all_below}
 
 -- the leaf of a slot with its exact box, where it has one
 abbrev pub leaf_node : ℕ → Option Bounds → List ListedNode
@@ -34,32 +30,3 @@ entry_at b (InnerKind below) = []
 abbrev pub listed : List ListedNode → List (ℕ × Bounds)
 listed [] = []
 listed (x ∷ xs) = entry_at x.bounds x.kind ++ listed xs
-
--- the list is that of a tree whose hulls and fat boxes enclose what stands below them
-pub record IsListed (bodies : List (Option Bounds)) (t : Tree) (list : List ListedNode) : Type 0 where
-  pub list_is : list ≡ preorder bodies t
-  pub balanced : Balanced t
-  pub inside : IsInside bodies t
-
--- trees that are still to be read, one behind another
-abbrev pub all_preorder : List (Option Bounds) → List Tree → List ListedNode
-all_preorder bodies [] = []
-all_preorder bodies (u ∷ us) = preorder bodies u ++ all_preorder bodies us
-
-abbrev pub AllSound : List (Option Bounds) → List Tree → Type 0
-AllSound bodies [] = Unit {0}
-AllSound bodies (u ∷ us) = (Balanced u × IsInside bodies u) × AllSound bodies us
-
--- how many nodes below their tops some look at
-abbrev pub below_each : List Tree → List (ℕ × Bounds) → ℕ
-below_each [] es = 0
-below_each (u ∷ us) es = all_below u es + below_each us es
-
--- where a search stands that reads on: what it has found, with what it will find in the trees to come, is what is found of all
-pub record Reads (bodies : List (Option Bounds)) (t : Tree) (done : List Bool) (group : List (ℕ × Bounds)) (rest : List ListedNode)
-    (before now : List Pair) (looked number : ℕ) : Type 0 where
-  pub us : List Tree
-  pub rest_is : rest ≡ all_preorder bodies us
-  pub sound : AllSound bodies us
-  pub found_is : now ++ crossed group (undone done (exact bodies (all_leaves us))) ≡ before ++ crossed group (undone done (exact bodies (leaves t)))
-  pub count_is : raised number (below_each us group) ≡ raised looked (all_below t group)

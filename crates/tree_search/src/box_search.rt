@@ -4,8 +4,8 @@ ghost use Rattle.broad_index.specs.Found.{found_of};
 ghost use Rattle.broad_index.specs.Members.{has_slot};
 ghost use Rattle.broad_index.specs.Touched.{ordered_pairs};
 ghost use Rattle.tree_nodes.specs.Tree.{visits_in};
-ghost use Rattle.tree_search.specs.Descent.{exact_in};
-ghost use Rattle.tree_search.specs.Group.{crossed, all_visits_in, Adds, AreOf};
+ghost use Rattle.tree_search.specs.Exact.{exact_in};
+ghost use Rattle.tree_search.specs.Crossed.{crossed, all_visits_in, Adds, AreOf};
 ghost use Rattle.tree_search.specs.Looked.{raised, unmarked};
 ghost use Rattle.tree_search.specs.Preorder.{preorder_in};
 

@@ -2,7 +2,7 @@ ghost use Rattle.std.specs.Prelude.{◌≡◌, option_map};
 ghost use Rattle.slot_lists.specs.SlotMap.{map_of};
 ghost use Rattle.broad_index.specs.Held.{Holds};
 ghost use Rattle.tree_nodes.specs.Tree.{top, IsTreeIn};
-ghost use Rattle.tree_search.specs.Descent.{exact_in, IsInsideIn};
+ghost use Rattle.tree_search.specs.Exact.{exact_in, IsInsideIn};
 
 use fixed_box::FBox;
 use std::marker::Model;
@@ -20,7 +20,7 @@ impl<'a> Model for BoxedTree<'a> {
     ghost use Rattle.slot_lists.specs.SlotMap.{map_of};
     ghost use Rattle.broad_index.specs.Held.{Holds};
     ghost use Rattle.tree_search.specs.Boxed.{Boxed, coded_boxed};
-    ghost use Rattle.tree_search.specs.Descent.{exact_in, IsInsideIn};
+    ghost use Rattle.tree_search.specs.Exact.{exact_in, IsInsideIn};
 
     ghost Value = { Boxed };
 

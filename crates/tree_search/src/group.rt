@@ -3,9 +3,10 @@ ghost use Rattle.fixed_box.specs.Bounds.{Bounds};
 ghost use Rattle.broad_index.specs.Touched.{ordered_pairs};
 ghost use Rattle.tree_nodes.specs.Tree.{Tree, leaves};
 ghost use Rattle.tree_search.specs.Looked.{raised};
-ghost use Rattle.tree_search.specs.Descent.{exact};
-ghost use Rattle.tree_search.specs.Group.{crossed, all_below, picked, left_pairs, undone, BoxLaws};
-ghost use Rattle.tree_search.specs.Preorder.{IsListed};
+ghost use Rattle.tree_search.specs.Exact.{exact};
+ghost use Rattle.tree_search.specs.Crossed.{crossed};
+ghost use Rattle.tree_search.specs.Group.{all_below, picked, left_pairs, undone, BoxLaws};
+ghost use Rattle.tree_search.specs.Reading.{IsListed};
 
 use crate::descent::box_law;
 use crate::{ListedNode, Marks, NodeKind};

@@ -1,7 +1,7 @@
 ghost use Rattle.std.specs.Prelude.{◌≡◌, ◌++◌, OnOk};
 ghost use Rattle.fixed_box.specs.Bounds.{Bounds, holds, meets};
 ghost use Rattle.broad_index.specs.Found.{found_of};
-ghost use Rattle.tree_search.specs.Descent.{exact_in};
+ghost use Rattle.tree_search.specs.Exact.{exact_in};
 
 use crate::BoxedTree;
 use crate::descent::descend;

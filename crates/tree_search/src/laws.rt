@@ -1,7 +1,7 @@
 ghost use Rattle.std.specs.Prelude.{◌≡◌, List, Option};
 ghost use Rattle.fixed_box.specs.Bounds.{Bounds};
 ghost use Rattle.tree_nodes.specs.Tree.{Tree};
-ghost use Rattle.tree_search.specs.Descent.{exact_in};
+ghost use Rattle.tree_search.specs.Exact.{exact_in};
 ghost use Rattle.tree_search.specs.Preorder.{listed, preorder_in};
 
 /// A law for proofs, with nothing to run: the leaves of a list in preorder are those of the tree, in their order.

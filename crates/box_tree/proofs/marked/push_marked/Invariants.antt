@@ -1,5 +1,5 @@
 use Rattle.std.proofs.Common.{◌≡◌, ◌++◌, length}
-use Rattle.tree_search.specs.Group.{touched_of}
+use Rattle.tree_search.specs.Crossed.{touched_of}
 use Rattle.tree_search.specs.Preorder.{listed}
 use Rattle.box_tree.proofs.marked.push_marked.Given as goal
 

@@ -2,7 +2,7 @@
 use Rattle.std.proofs.Common.{◌≡◌, ℕ, map, ◌++◌, ◌≤◌, ◌∙◌, ap, sym, subst, length}
 use Rattle.fixed_box.specs.declared.TheConstants.{SLOTS}
 use Rattle.fixed_box.specs.Bounds.{Bounds}
-use Rattle.tree_search.specs.Group.{touched_of}
+use Rattle.tree_search.specs.Crossed.{touched_of}
 use Rattle.tree_search.specs.Preorder.{listed, preorder_in}
 use Rattle.box_tree.proofs.SharedSlots.{along_is, list_there, shared_few}
 use Rattle.box_tree.proofs.touched.push_shared.Goals as goal

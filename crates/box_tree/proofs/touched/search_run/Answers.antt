@@ -1,8 +1,8 @@
 -- Searches for the boxes of slots are those for the slots.
 use Rattle.std.proofs.Common.{◌++◌, ◌∙◌, ap, sym, subst}
 use Rattle.tree_search.specs.Looked.{raised}
-use Rattle.tree_search.specs.Descent.{exact_in}
-use Rattle.tree_search.specs.Group.{crossed, all_visits_in, Adds, AreOf}
+use Rattle.tree_search.specs.Exact.{exact_in}
+use Rattle.tree_search.specs.Crossed.{crossed, all_visits_in, Adds, AreOf}
 use Rattle.box_tree.specs.Searches.{boxed}
 use Rattle.tree_search.specs.Preorder.{preorder_in}
 use Rattle.box_tree.proofs.SharedSlots.{list_there}

@@ -3,7 +3,7 @@ use Rattle.std.proofs.Common.{◌++◌, ◌∙◌, ap}
 use Rattle.broad_index.specs.Members.{has_pair}
 use Rattle.broad_index.specs.Touched.{gathered_with}
 use Rattle.tree_search.specs.Looked.{raised}
-use Rattle.tree_search.specs.Group.{touched_of, all_visits_in}
+use Rattle.tree_search.specs.Crossed.{touched_of, all_visits_in}
 use Rattle.tree_search.specs.Preorder.{listed}
 use Rattle.box_tree.specs.Searches.{searches, sought_from}
 use Rattle.box_tree.proofs.TouchedPairs.{has_append}

@@ -1,9 +1,11 @@
 -- What a group finds beside slots that are done was found before, so each group adds its pairs.
 use Rattle.std.proofs.Common.{◌+◌, ◌∙◌, ◌++◌, length, ap, sym, refl}
 use Rattle.tree_search.specs.Looked.{raised}
-use Rattle.tree_search.specs.Descent.{exact_in}
-use Rattle.tree_search.specs.Group.{crossed, undone, all_below}
-use Rattle.tree_search.specs.Preorder.{IsListed, preorder_in}
+use Rattle.tree_search.specs.Exact.{exact_in}
+use Rattle.tree_search.specs.Crossed.{crossed}
+use Rattle.tree_search.specs.Group.{undone, all_below}
+use Rattle.tree_search.specs.Reading.{IsListed}
+use Rattle.tree_search.specs.Preorder.{preorder_in}
 use Rattle.tree_search.proofs.Counts.{raised_none, raised_fits}
 use Rattle.tree_search.proofs.Groups.{root_below, adds_none, visits_none, group_on, visits_on, group_visits}
 use Rattle.tree_search.proofs.GroupsDone.{group_adds, group_done, none_marked, nothing_owed, own_front, own_back}

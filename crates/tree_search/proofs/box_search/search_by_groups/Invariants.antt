@@ -2,8 +2,8 @@ use Rattle.std.proofs.Common.{◌≡◌, ◌<◌, ◌^◌, length, ◌||◌, tru
 use Rattle.broad_index.specs.declared.pair.Pair.{Pair}
 use Rattle.broad_index.specs.Members.{has_pair}
 use Rattle.tree_search.specs.Looked.{raised}
-use Rattle.tree_search.specs.Descent.{exact_in}
-use Rattle.tree_search.specs.Group.{crossed, all_visits_in, touched_of, AreOf}
+use Rattle.tree_search.specs.Exact.{exact_in}
+use Rattle.tree_search.specs.Crossed.{crossed, all_visits_in, touched_of, AreOf}
 use Rattle.tree_search.proofs.box_search.search_by_groups.Given as goal
 
 abbrev pub invariant-groups : goal.invariant-groups

@@ -1,7 +1,7 @@
 use Rattle.std.proofs.Common.{◌≡◌, ◌<◌, ◌^◌, ◌++◌, length}
 use Rattle.tree_search.specs.Looked.{raised}
-use Rattle.tree_search.specs.Descent.{exact_in}
-use Rattle.tree_search.specs.Group.{crossed, all_visits_in}
+use Rattle.tree_search.specs.Exact.{exact_in}
+use Rattle.tree_search.specs.Crossed.{crossed, all_visits_in}
 use Rattle.tree_search.proofs.box_search.search_each.Given as goal
 
 abbrev pub invariant-touched : goal.invariant-touched

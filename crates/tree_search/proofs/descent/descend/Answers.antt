@@ -2,7 +2,7 @@
 use Rattle.std.proofs.Common.{◌≡◌, sym, subst, ◌∙◌, Some, Option, ℕ, List, None, option_map}
 use Rattle.fixed_box.specs.Bounds.{Bounds}
 use Rattle.tree_nodes.specs.Tree.{Tree, IsTree, IsTreeIn, top}
-use Rattle.tree_search.specs.Descent.{IsInside, IsInsideIn}
+use Rattle.tree_search.specs.Exact.{IsInside, IsInsideIn}
 use Rattle.tree_search.proofs.descent.descend.Goals as goal
 
 tree_there : (bodies : List (Option Bounds)) (o : Option Tree) (n : ℕ) → option_map top o ≡ Some n → IsTreeIn o → IsInsideIn bodies o

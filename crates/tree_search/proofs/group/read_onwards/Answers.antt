@@ -4,7 +4,7 @@ use Rattle.std.specs.Prelude.{count_ones, drop}
 use Rattle.tree_search.specs.declared.preorder.ListedNode.{ListedNode}
 use Rattle.tree_search.specs.declared.preorder.NodeKind.TheVariants.{Leaf as LeafKind, Inner as InnerKind}
 use Rattle.tree_search.specs.Looked.{raised}
-use Rattle.tree_search.specs.Preorder.{Reads}
+use Rattle.tree_search.specs.Reading.{Reads}
 use Rattle.tree_search.proofs.Groups.{group_bits}
 use Rattle.tree_search.proofs.Counts.{raised_none, raised_fits}
 use Rattle.tree_search.proofs.Preorders.{first_node, reads_first, reads_last, reads_leaf, reads_over, reads_in}

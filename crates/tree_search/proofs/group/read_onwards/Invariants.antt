@@ -1,7 +1,7 @@
 use Rattle.std.proofs.Common.{◌<◌, ◌^◌, length, List, Option}
 use Rattle.fixed_box.specs.Bounds.{Bounds}
 use Rattle.tree_nodes.specs.Tree.{Tree}
-use Rattle.tree_search.specs.Preorder.{IsListed, Reads}
+use Rattle.tree_search.specs.Reading.{IsListed, Reads}
 use Rattle.tree_search.proofs.group.read_onwards.Given as goal
 
 abbrev pub invariant-nodes : goal.invariant-nodes

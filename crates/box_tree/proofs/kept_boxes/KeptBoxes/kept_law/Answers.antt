@@ -2,7 +2,7 @@
 use Rattle.std.proofs.Common.{subst}
 use Rattle.broad_index.specs.Held.{Holds}
 use Rattle.slot_lists.specs.SlotMap.{map_of}
-use Rattle.tree_search.specs.Descent.{exact_in, IsInsideIn}
+use Rattle.tree_search.specs.Exact.{exact_in, IsInsideIn}
 use Rattle.box_tree.proofs.Searching.{all_inside, exact_held}
 use Rattle.box_tree.proofs.kept_boxes.KeptBoxes.kept_law.Goals as goal
 

@@ -1,7 +1,7 @@
 -- What the descent finds is what the map has.
 use Rattle.std.proofs.Common.{◌++◌, ◌∙◌, ap}
 use Rattle.broad_index.specs.Found.{found_of}
-use Rattle.tree_search.specs.Descent.{exact_in}
+use Rattle.tree_search.specs.Exact.{exact_in}
 use Rattle.box_tree.proofs.Searching.{found_viewed}
 use Rattle.box_tree.proofs.tree.BoxTreeBroadPhase.hits.Goals as goal
 
