@@ -16,6 +16,7 @@ use Rattle.tree_nodes.specs.Moved.{leaf_moved}
 use Rattle.tree_nodes.specs.Tree.{Tree, Leaf, leaves, leaves_in, one, count_of, view_at, view_in, IsTreeIn}
 use Rattle.box_tree.specs.Ties.{Ties}
 use Rattle.box_tree.proofs.Fats.{none_counted, within}
+use Rattle.tree_nodes.proofs.Frames.{one_same}
 
 abbrev flag : {X : Type 0} → Option X → ℕ
 flag o = cond (is_some o) 1 0
@@ -51,9 +52,6 @@ count_below v xs k lt e =
 only_one : (y x : Leaf) → Contains (x ∷ []) y → y ≡ x
 only_one y x (zero, lt, e) = sym e
 only_one y x (suc k, lt, e) = absurd (omega arith)
-
-one_same : (k : ℕ) → one k k ≡ 1
-one_same k = let e : eqb k k ≡ true = grind (arith, nat_tests) in ap (λ b. cond b 1 0) e
 
 in_sum : (f : Leaf → ℕ) (xs : List Leaf) (y : Leaf) (k : ℕ) → k < length xs → get_or xs k y ≡ y → f y ≤ sum_by f xs
 in_sum f [] y k lt e = absurd (omega arith)

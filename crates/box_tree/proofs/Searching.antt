@@ -28,6 +28,7 @@ use Rattle.box_tree.specs.Ties.{IsKept}
 use Rattle.slot_lists.specs.SlotMapLaws.{get_map, entries_of_map, tie_same, tie_other}
 use Rattle.box_tree.proofs.LeafTies.{some_there}
 use Rattle.box_tree.proofs.Fats.{within}
+use Rattle.fixed_box.proofs.Numbers.{eqb_other}
 
 abbrev pub ReachLaw : Type 0
 ReachLaw = (m : FinMap nat_cmp Bounds) (es : List (ℕ × Bounds)) → Holds m es → (slot : ℕ) (body : Bounds) → get m slot ≡ Some body
@@ -149,9 +150,6 @@ module _ (o : Option Tree) (bodies fats : List (Option Bounds)) (s : IsKept o bo
 pub searched_slots : (bodies : List (Option Bounds)) (o : Option Tree) (slots : List ℕ) → map (λ (r : ℕ × List ℕ). r.0) (searches bodies o slots) ≡ slots
 searched_slots bodies o [] = refl
 searched_slots bodies o (x ∷ xs) = ap (λ ys. x ∷ ys) (searched_slots bodies o xs)
-
-eqb_other : (a b : ℕ) → a ≢ b → (a == b) ≡ false
-eqb_other a b ne = grind (arith, nat_tests)
 
 pub has_marked : (mark : ℕ → Bool) (es : List (ℕ × Bounds)) (k : ℕ)
     → has_slot (map (λ (e : ℕ × Bounds). e.0) (filter (λ (e : ℕ × Bounds). mark e.0) es)) k ≡ (mark k && has_slot (map (λ (e : ℕ × Bounds). e.0) es) k)

@@ -30,11 +30,10 @@ use Rattle.box_tree.specs.Searches.{looked_for, searches, sought_from}
 use Rattle.box_tree.specs.Ties.{IsKept}
 use Rattle.box_tree.proofs.LeafTies.{some_there}
 use Rattle.box_tree.proofs.Searching.{ReachLaw, RenewingLaw, seen, exact_in_is, all_reached, searched_slots, marked_is, are_marked, same_costs}
-use Rattle.box_tree.proofs.TouchedPairs.{exact_in_own, touched_own, touched_marked, renewed_of, own_boxed, crossed_boxed, has_append}
+use Rattle.box_tree.proofs.TouchedPairs.{exact_in_own, touched_own, touched_marked, renewed_of, own_boxed, crossed_boxed}
+use Rattle.tree_search.proofs.CrossedPairs.{has_append}
 use Rattle.box_tree.proofs.TouchedSums.{touched_total}
-
-raised_again : (a c s : ℕ) → raised (raised a c) s ≡ raised a (c + s)
-raised_again a c s = grind (arith)
+use Rattle.tree_search.proofs.Counts.{raised_again}
 
 abbrev pub TouchedLaw : Type 0
 TouchedLaw = (m : FinMap nat_cmp Bounds) (rs : List (ℕ × List ℕ)) → AreReached m rs → (p : Pair) → has_pair (gathered_with rs) p

@@ -18,6 +18,7 @@ use Rattle.box_tree.specs.Boxes.{Boxes, untouched, no_boxes}
 use Rattle.slot_lists.specs.SlotMap.{map_of}
 use Rattle.box_tree.specs.Ties.{BoxLists}
 use Rattle.box_tree.specs.Whole.{Sound, Whole}
+use Rattle.fixed_box.proofs.Numbers.{eqb_other}
 
 abbrev pub Inserted : Type 0
 Inserted = (bodies : FinMap nat_cmp Bounds) (k : ℕ) (v : Bounds) (p : Pair) → (p.a == k) ≡ false → (p.b == k) ≡ false
@@ -26,9 +27,6 @@ Inserted = (bodies : FinMap nat_cmp Bounds) (k : ℕ) (v : Bounds) (p : Pair) �
 abbrev pub Removed : Type 0
 Removed = (bodies : FinMap nat_cmp Bounds) (k : ℕ) (p : Pair) → (p.a == k) ≡ false → (p.b == k) ≡ false
     → is_near (remove bodies k) p ≡ is_near bodies p
-
-eqb_no : (a b : ℕ) → a ≢ b → (a == b) ≡ false
-eqb_no a b ne = grind (arith, nat_tests)
 
 unmarked : (b : Bool) → not b ≡ true → b ≡ false
 unmarked true e = absurd (false≢true e)
@@ -51,7 +49,7 @@ kept_on old new marks kept slot lt same are p h =
     let a = unmarked_before marks slot p.a lt parts.0 in
     let b = unmarked_before marks slot p.b lt parts.1 in
     are p (and_from (not (get_or marks p.a false)) (not (get_or marks p.b false)) a.1 b.1)
-    ∙ sym (same p (eqb_no p.a slot a.0) (eqb_no p.b slot b.0))
+    ∙ sym (same p (eqb_other p.a slot a.0) (eqb_other p.b slot b.0))
 
 module _ (bodies : List (Option Bounds)) (marks : List Bool) (kept : List Pair) (s : Sound bodies marks kept) where
   module _ (slot : ℕ) (small : slot < SLOTS) (len : length marks ≡ SLOTS) (bodies' : List (Option Bounds)) where

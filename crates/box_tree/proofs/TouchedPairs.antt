@@ -18,14 +18,7 @@ use Rattle.box_tree.specs.Searches.{boxed, reached_by, reached_in, searches}
 use Rattle.box_tree.specs.Ties.{IsKept}
 use Rattle.box_tree.proofs.LeafTies.{some_there}
 use Rattle.box_tree.proofs.Searching.{ReachLaw, RenewingLaw, has_marked, all_reached, searched_slots, exact_held}
-
-or_assoc : (a b c : Bool) → (a || (b || c)) ≡ ((a || b) || c)
-or_assoc true b c = refl
-or_assoc false b c = refl
-
-pub has_append : (xs ys : List Pair) (p : Pair) → has_pair (xs ++ ys) p ≡ (has_pair xs p || has_pair ys p)
-has_append [] ys p = refl
-has_append (x ∷ xs) ys p = ap (λ b. same_pair p x || b) (has_append xs ys p) ∙ or_assoc (same_pair p x) (has_pair xs p) (has_pair ys p)
+use Rattle.tree_search.proofs.CrossedPairs.{or_assoc, has_append}
 
 module _ (bodies : List (Option Bounds)) where
   entry_own : (s : ℕ) (p : Option Bounds) (es : List (ℕ × Bounds)) → get_or bodies s None ≡ p → AreOf bodies es → AreOf bodies (entry_of s p ++ es)

@@ -15,6 +15,7 @@ use Rattle.box_tree.specs.Searches.{sought_from}
 use Rattle.box_tree.specs.Ties.{IsKept}
 use Rattle.box_tree.proofs.LeafTies.{some_there}
 use Rattle.box_tree.proofs.Fats.{within}
+use Rattle.fixed_box.proofs.Numbers.{eqb_other}
 
 -- the values of a function at m numbers from n on
 abbrev span : (ℕ → ℕ) → ℕ → ℕ → ℕ
@@ -36,9 +37,6 @@ span_same f g e n (suc m) = let here = e n in let rest = span_same f g e (n + 1)
 no_due : (m : Bool) → ◌≡◌ {A = ℕ} (cond m 0 0) 0
 no_due true = refl
 no_due false = refl
-
-eqb_other : (a b : ℕ) → a ≢ b → (a == b) ≡ false
-eqb_other a b ne = grind (arith, nat_tests)
 
 module _ (f : ℕ → ℕ) (s : ℕ) where
   abbrev at_one : ℕ → ℕ

@@ -14,6 +14,7 @@ use Rattle.broad_index.specs.Members.{has_pair, same_pair}
 use Rattle.broad_index.specs.Near.{precedes, rises}
 use Rattle.broad_index.specs.PairOrder.{pair_cmp}
 use Rattle.engine_tick.specs.Colliding.{without}
+use Rattle.broad_index.proofs.Settled.{less_precedes, greater_precedes}
 
 by_first : (p q : Pair) → p.a < q.a → precedes p q ≡ true
 by_first p q h = grind (arith, nat_tests)
@@ -23,21 +24,6 @@ by_second p q e h = grind (arith, nat_tests)
 
 by_both : (p q : Pair) → p.a ≡ q.a → p.b ≡ q.b → same_pair p q ≡ true
 by_both p q e f = grind (arith, nat_tests)
-
--- what the comparison of two pairs says
-pub less : (p q : Pair) → Less ≡ pair_cmp p q → precedes p q ≡ true
-less p q h = elim (nat_cmp p.a q.a) as (λ r. r ≡ nat_cmp p.a q.a → Less ≡ ordering_then r (nat_cmp p.b q.b) → precedes p q ≡ true) [
-  | Less ↦ λ e _. by_first p q (ranked p.a q.a Less e)
-  | Equal ↦ λ e g. by_second p q (ranked p.a q.a Equal e) (ranked p.b q.b Less g)
-  | Greater ↦ λ _ g. cc
-] refl h
-
-pub greater : (p q : Pair) → Greater ≡ pair_cmp p q → precedes q p ≡ true
-greater p q h = elim (nat_cmp p.a q.a) as (λ r. r ≡ nat_cmp p.a q.a → Greater ≡ ordering_then r (nat_cmp p.b q.b) → precedes q p ≡ true) [
-  | Less ↦ λ _ g. cc
-  | Equal ↦ λ e g. by_second q p (sym (ranked p.a q.a Equal e)) (ranked p.b q.b Greater g)
-  | Greater ↦ λ e _. by_first q p (ranked p.a q.a Greater e)
-] refl h
 
 pub equal : (p q : Pair) → Equal ≡ pair_cmp p q → same_pair p q ≡ true
 equal p q h = elim (nat_cmp p.a q.a) as (λ r. r ≡ nat_cmp p.a q.a → Equal ≡ ordering_then r (nat_cmp p.b q.b) → same_pair p q ≡ true) [

@@ -12,15 +12,11 @@ use Rattle.broad_index.specs.declared.pair.Pair.{Pair}
 use Rattle.broad_index.specs.Members.{both_meet, has_pair, is_near, same_pair}
 use Rattle.broad_index.specs.Near.{near}
 use Rattle.engine_tick.specs.Touching.{AreTouching, DoTouch}
+use Rattle.broad_index.proofs.OneRising.{is_same}
 
 -- a pair is in a list, said by a test and by its place
 had : (pairs : List Pair) (p : Pair) → Contains pairs p → has_pair pairs p ≡ true
 had pairs p c = list_any-from_Contains (and_equiv (on_equiv (λ q. q.a) nat_eq_equiv) (on_equiv (λ q. q.b) nat_eq_equiv)) p pairs c
-
-is_same : (p q : Pair) → same_pair p q ≡ true → p ≡ q
-is_same p q h =
-    let parts = and_parts (p.a == q.a) (p.b == q.b) h in
-    ap₂ (λ a b. record { a = a; b = b }) (eqb-true p.a q.a parts.0) (eqb-true p.b q.b parts.1)
 
 contained : (pairs : List Pair) (p : Pair) → has_pair pairs p ≡ true → Contains pairs p
 contained pairs p h = Contains-from_any is_same p pairs h

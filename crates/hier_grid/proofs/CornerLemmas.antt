@@ -8,6 +8,8 @@ use Rattle.fixed_box.specs.declared.point.Point.{Point}
 use Rattle.fixed_box.specs.Point.{is_at_most}
 use Rattle.fixed_box.specs.Space.{space}
 use Rattle.hier_grid.specs.Grid.{is_held, is_met}
+use Rattle.fixed_box.proofs.Corners.{all_three, at_most_chain}
+use Rattle.fixed_box.proofs.Numbers.{test_of_le, le_of_test}
 
 pub record Axes (p q : Point) : Type 0 where
   pub x : int_le p.x q.x ≡ true
@@ -20,25 +22,6 @@ axes p q h =
     let firsts = and_parts (int_le p.x q.x) (int_le p.y q.y) parts.0 in
     record { x = firsts.0; y = firsts.1; z = parts.1 }
 
-pub all_of : (p q : Point) → int_le p.x q.x ≡ true → int_le p.y q.y ≡ true → int_le p.z q.z ≡ true → is_at_most p q ≡ true
-all_of p q x y z = and_from (int_le p.x q.x && int_le p.y q.y) (int_le p.z q.z) (and_from (int_le p.x q.x) (int_le p.y q.y) x y) z
-
--- an order as its test says it
-pub as_test : (x y : ℤ) → x ≤ℤ y → int_le x y ≡ true
-as_test x y h = grind (arith, ints)
-
-pub as_order : (x y : ℤ) → int_le x y ≡ true → x ≤ℤ y
-as_order x y h = grind (arith, ints)
-
-pub chain : (p q r : Point) → is_at_most p q ≡ true → is_at_most q r ≡ true → is_at_most p r ≡ true
-chain p q r a b =
-    let f = axes p q a in
-    let s = axes q r b in
-    all_of p r (step p.x q.x r.x f.x s.x) (step p.y q.y r.y f.y s.y) (step p.z q.z r.z f.z s.z)
-  where
-    step : (x y z : ℤ) → int_le x y ≡ true → int_le y z ≡ true → int_le x z ≡ true
-    step x y z a b = grind (arith, ints)
-
 -- a box whose corners have coordinates of 32 bits lies in space
 pub inside_space : (lo hi : Point) (b : Bounds) → lo ≡ b.lo → hi ≡ b.hi
     → negsuc 2147483647 ≤ℤ lo.x → negsuc 2147483647 ≤ℤ lo.y → negsuc 2147483647 ≤ℤ lo.z
@@ -46,14 +29,14 @@ pub inside_space : (lo hi : Point) (b : Bounds) → lo ≡ b.lo → hi ≡ b.hi
 inside_space lo hi b is_lo is_hi lx ly lz hx hy hz =
     and_from (is_at_most space.lo b.lo) (is_at_most b.hi space.hi)
     (subst (λ (p : Point). is_at_most space.lo p ≡ true) is_lo
-    (all_of space.lo lo (as_test (negsuc 2147483647) lo.x lx) (as_test (negsuc 2147483647) lo.y ly) (as_test (negsuc 2147483647) lo.z lz)))
+    (all_three space.lo lo (test_of_le (negsuc 2147483647) lo.x lx) (test_of_le (negsuc 2147483647) lo.y ly) (test_of_le (negsuc 2147483647) lo.z lz)))
     (subst (λ (p : Point). is_at_most p space.hi ≡ true) is_hi
-    (all_of hi space.hi (as_test hi.x (pos 2147483647) hx) (as_test hi.y (pos 2147483647) hy) (as_test hi.z (pos 2147483647) hz)))
+    (all_three hi space.hi (test_of_le hi.x (pos 2147483647) hx) (test_of_le hi.y (pos 2147483647) hy) (test_of_le hi.z (pos 2147483647) hz)))
 
 -- a box between two corners is there, and lies in the box that they make
 pub held_between : (lo hi : Point) (b : Bounds) (o : Option Bounds) → SomeIff o (IsTrue (is_at_most lo hi)) (record { lo = lo; hi = hi })
     → is_at_most b.lo b.hi ≡ true → is_at_most lo b.lo ≡ true → is_at_most b.hi hi ≡ true → is_held o b ≡ true
-held_between lo hi b None made o l h = absurd (made (chain lo b.lo hi l (chain b.lo b.hi hi o h)))
+held_between lo hi b None made o l h = absurd (made (at_most_chain lo b.lo hi l (at_most_chain b.lo b.hi hi o h)))
 held_between lo hi b (Some x) made o l h =
     ap (λ (a : Bounds). encloses a b) made.1 ∙ and_from (is_at_most lo b.lo) (is_at_most b.hi hi) l h
 

@@ -18,7 +18,7 @@ use Rattle.hier_grid.specs.Cells.{cell_of, IsBeside}
 use Rattle.hier_grid.specs.Grid.{AreKeyed, IsGrid, IsSized, is_held}
 use Rattle.hier_grid.specs.Search.{IsAbove, IsBare}
 use Rattle.hier_grid.proofs.CellLemmas.{beside}
-use Rattle.hier_grid.proofs.SlotLemmas.{nat_next}
+use Rattle.fixed_box.proofs.Numbers.{nat_next}
 
 low_find : (p : ℕ → Bool) (n m : ℕ) → n + m ≤ 11 → unwrap_or (find p (range_with_len n m)) 10 < 11
 low_find p n zero h = omega arith

@@ -14,23 +14,8 @@ use Rattle.broad_index.specs.Touched.{ordered, ordered_pairs}
 use Rattle.hier_grid.specs.Cells.{cell_of}
 use Rattle.hier_grid.specs.Search.{meets_at, is_partner, AreReached, IsDue, IsSound, HasPairs, FindsFor}
 use Rattle.hier_grid.proofs.CellLemmas.{cell_order}
-
-same_means : (p q : Pair) → same_pair p q ≡ true → p ≡ q
-same_means p q h =
-    let parts = and_parts (p.a == q.a) (p.b == q.b) h in
-    let a : p.a ≡ q.a = (let e = parts.0 in grind (arith, nat_tests)) in
-    let b : p.b ≡ q.b = (let e = parts.1 in grind (arith, nat_tests)) in
-    ap (λ x. record { a = x; b = p.b }) a ∙ ap (λ x. record { a = q.a; b = x }) b
-
-self_same : (p : Pair) → same_pair p p ≡ true
-self_same p =
-    let a : (p.a == p.a) ≡ true = grind (arith, nat_tests) in
-    let b : (p.b == p.b) ≡ true = grind (arith, nat_tests) in
-    and_from (p.a == p.a) (p.b == p.b) a b
-
-or_true : (b : Bool) → (b || true) ≡ true
-or_true true = refl
-or_true false = refl
+use Rattle.broad_index.proofs.OneRising.{is_same, self_same}
+use Rattle.fixed_box.proofs.Bools.{or_true, same_bool}
 
 meets_turned : (a b : Bounds) → meets a b ≡ meets b a
 meets_turned a b = turned (is_at_most a.lo b.hi) (is_at_most b.lo a.hi)
@@ -72,7 +57,7 @@ sound_each bodies slot (x ∷ xs) h p i = elim (or_cases (same_pair p (ordered s
     (λ _. is_near bodies p ≡ true) [
       | inl e ↦
           let here : (x == x) ≡ true = grind (arith, nat_tests) in
-          ap (is_near bodies) (same_means p (ordered slot x) e) ∙ h x (or_left (x == x) (has_slot xs x) here)
+          ap (is_near bodies) (is_same p (ordered slot x) e) ∙ h x (or_left (x == x) (has_slot xs x) here)
       | inr e ↦ sound_each bodies slot xs (λ q j. h q (ap (λ b. (q == x) || b) j ∙ or_true (q == x))) p e
     ]
 
@@ -99,12 +84,6 @@ pub found_more : (slot q : ℕ) (slots : List ℕ) (old : List Pair) → has_slo
 found_more slot q slots old h =
     list_any-append (same_pair (ordered slot q)) old (ordered_pairs slot slots) ∙ ap (λ b. has_pair old (ordered slot q) || b) (found_each slot q slots h)
     ∙ or_true (has_pair old (ordered slot q))
-
--- ---- the whole
-same_bool : (a b : Bool) → (a ≡ true → b ≡ true) → (b ≡ true → a ≡ true) → a ≡ b
-same_bool true b f g = sym (f refl)
-same_bool false true f g = g refl
-same_bool false false f g = refl
 
 record Two (bodies : FinMap nat_cmp Bounds) (p : Pair) : Type 0 where
   pub first : Bounds

@@ -12,6 +12,7 @@ use Rattle.broad_index.specs.Members.{has_slot}
 use Rattle.cell_table.specs.declared.cell_key.CellKey.{CellKey}
 use Rattle.cell_table.specs.Cells.{has, VisitsRow}
 use Rattle.hier_grid.specs.Search.{HasMore, HasCell}
+use Rattle.fixed_box.proofs.Numbers.{nat_next, int_next}
 
 pub more_left : (old more : List ℕ) → HasMore old (old ++ more)
 more_left old more q h = list_any-append (λ x. q == x) old more ∙ ap (λ b. b || has_slot more q) h
@@ -67,10 +68,3 @@ row_visited cells key end old new v z lo lt q h =
 
 pub row_more : (cells : FinMap nat_cmp CellKey) (key : CellKey) (end : ℤ) (old new : List ℕ) → VisitsRow cells key end old new → HasMore old new
 row_more cells key end old new v q h = ap (λ l. has_slot l q) v.appended ∙ more_left old v.slots q h
-
--- a number below the next one is below this one or is it
-pub below_next : (z y n : ℤ) → n ≡ (y +ℤ pos 1) → z <ℤ n → (z <ℤ y) ⊎ (z ≡ y)
-below_next z y n e lt = grind (arith, ints)
-
-pub nat_next : (x y : ℕ) → x < y + 1 → (x < y) ⊎ (x ≡ y)
-nat_next x y h = grind arith

@@ -5,9 +5,8 @@ use Rattle.std.specs.Int.{int_min, int_max, saturate_signed, w32}
 use Rattle.ray_slabs.specs.Mirrored.{Axis, mirrored, is_ahead, is_on_way}
 use Rattle.ray_slabs.specs.FirstLaws.{test_of_lt}
 use Rattle.ray_slabs.specs.ProductLaws.{same_le}
-use Rattle.fixed_box.proofs.Bools.{same_bool}
+use Rattle.fixed_box.proofs.Bools.{same_bool, and_comm}
 use Rattle.fixed_box.proofs.Numbers.{le_of_test, test_of_le}
-use Rattle.prepared_query.proofs.Passes.{and_comm}
 use Rattle.prepared_query.specs.Prepared.{end_on}
 
 -- The line comes to the slab by its end, if it has one.

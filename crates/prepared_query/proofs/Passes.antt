@@ -7,12 +7,7 @@ use Rattle.ray_slabs.specs.ProductLaws.{sub_mul, same_le}
 use Rattle.fixed_box.proofs.Numbers.{test_of_le}
 use Rattle.ray_slabs.proofs.Order.{mul_neg}
 use Rattle.prepared_query.specs.Slope.{Side, course, side, passes}
-
-pub and_comm : (x y : Bool) → (x && y) ≡ (y && x)
-and_comm true true = refl
-and_comm true false = refl
-and_comm false true = refl
-and_comm false false = refl
+use Rattle.fixed_box.proofs.Bools.{and_comm}
 
 -- a slab's side, from the line's start on
 abbrev side_of : Slab → Side

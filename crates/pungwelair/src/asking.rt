@@ -22,7 +22,7 @@ pub extern "C" fn pw_hits(
 ) -> u32
     ensures { let reply : Reply = record { status = result; count = count.new } in
         Calls (λ was now. Asked ARGUMENT (λ entries. option_map (λ asked. hits_of entries asked query.now.mask) (query_in query.now))
-            reply out.old out.new was.world now.world)
+        reply out.old out.new was.world now.world)
         (IsClosed reply out.old out.new) world.old.held.inner world.new.held.inner }
 {
     let Some(mut held) = world.take(alloc) else {
@@ -46,7 +46,7 @@ pub extern "C" fn pw_ray_hits(
 ) -> u32
     ensures { let reply : Reply = record { status = result; count = count.new } in
         Calls (λ was now. Asked ARGUMENT (λ entries. Some (entered_of entries (ray_in ray.now) ray.now.mask))
-            reply out.old out.new was.world now.world)
+        reply out.old out.new was.world now.world)
         (IsClosed reply out.old out.new) world.old.held.inner world.new.held.inner }
 {
     let Some(mut held) = world.take(alloc) else {
@@ -70,7 +70,7 @@ pub extern "C" fn pw_cast_hits(
 ) -> u32
     ensures { let reply : Reply = record { status = result; count = count.new } in
         Calls (λ was now. Asked INVERTED (λ entries. option_map (λ asked. cast_of entries asked cast.now.mask) (cast_in cast.now))
-            reply out.old out.new was.world now.world)
+        reply out.old out.new was.world now.world)
         (IsClosed reply out.old out.new) world.old.held.inner world.new.held.inner }
 {
     let Some(mut held) = world.take(alloc) else {
@@ -94,7 +94,7 @@ pub extern "C" fn pw_nearest(
 ) -> u32
     ensures { let reply : Reply = record { status = result; count = count.new } in
         Calls (λ was now. Asked ARGUMENT (λ entries. Some (nearest_to entries (near_in near.now).at (min near.now.want SLOTS) near.now.mask))
-            reply out.old out.new was.world now.world)
+        reply out.old out.new was.world now.world)
         (IsClosed reply out.old out.new) world.old.held.inner world.new.held.inner }
 {
     let Some(mut held) = world.take(alloc) else {

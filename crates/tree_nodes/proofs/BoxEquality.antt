@@ -1,13 +1,11 @@
--- Boxes whose six numbers are equal are the same, as the two unions of two boxes are.
+-- Boxes whose six numbers are same_int are the same, as the two unions of two boxes are.
 use Rattle.std.proofs.Common.{◌≡◌, Bool, true, false, not, ◌&&◌, ℤ, int_eq, refl, arith}
 use Rattle.std.proofs.lemmas.Bool.{and_parts}
 use Rattle.std.proofs.lemmas.Int.{ints}
 use Rattle.fixed_box.specs.declared.point.Point.{Point}
 use Rattle.std.specs.Int.{int_min, int_max}
 use Rattle.fixed_box.specs.Bounds.{Bounds, hull as union}
-
-equal : (x y : ℤ) → int_eq x y ≡ true → x ≡ y
-equal x y h = grind (arith, ints)
+use Rattle.fixed_box.proofs.Numbers.{same_int}
 
 not_false : (b : Bool) → not b ≡ false → b ≡ true
 not_false true h = refl
@@ -17,9 +15,9 @@ same_point : (p q : Point) → (int_eq p.x q.x && (int_eq p.y q.y && int_eq p.z 
 same_point p q h =
     let first = and_parts (int_eq p.x q.x) (int_eq p.y q.y && int_eq p.z q.z) h in
     let rest = and_parts (int_eq p.y q.y) (int_eq p.z q.z) first.1 in
-    let x = equal p.x q.x first.0 in
-    let y = equal p.y q.y rest.0 in
-    let z = equal p.z q.z rest.1 in
+    let x = same_int p.x q.x first.0 in
+    let y = same_int p.y q.y rest.0 in
+    let z = same_int p.z q.z rest.1 in
     let all : ◌≡◌ {A = Point} (record { x = p.x; y = p.y; z = p.z }) (record { x = q.x; y = q.y; z = q.z }) = cc in
     all
 

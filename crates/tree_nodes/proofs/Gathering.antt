@@ -17,16 +17,10 @@ use Rattle.tree_nodes.specs.Tree.{Tree, tip, fork, height, leaves, count_of, one
 use Rattle.tree_nodes.proofs.BuiltTrees.{many, uses_cons, uses_append, uses_parted}
 use Rattle.tree_nodes.proofs.Halving.{least_of_all}
 use Rattle.tree_nodes.proofs.Inserting.{one_cases, size_leaves}
+use Rattle.tree_nodes.proofs.Heights.{some_leaf}
 
 abbrev pub leaf_numbers : Tree → List ℕ
 leaf_numbers t = map (λ (x : LeafOf). x.node) (leaves t)
-
-pub leaf_some : (t : Tree) → 1 ≤ length (leaves t)
-leaf_some (tip n s b) = omega arith
-leaf_some (fork n hu k l r) =
-    let a = leaf_some l in
-    let d : length (leaves l ++ leaves r) ≡ length (leaves l) + length (leaves r) = length-append (leaves l) (leaves r) in
-    omega (arith, a, d)
 
 pub inner_count : (t : Tree) → length (inner_numbers t) + 1 ≡ length (leaves t)
 inner_count (tip n s b) = refl
@@ -44,7 +38,7 @@ pub first_room : (at k len capacity more wider : ℕ) (hu : Bounds) (t f g : Tre
 first_room at k len capacity more wider hu t f g is room le wide =
     let r : HasRoom len capacity (fork at hu k f g) = subst (HasRoom len capacity) is room in
     let a : length (leaves f ++ leaves g) ≡ length (leaves f) + length (leaves g) = length-append (leaves f) (leaves g) in
-    let b = leaf_some g in
+    let b = some_leaf g in
     omega (arith, r, a, b, le, wide)
 
 -- and for the second

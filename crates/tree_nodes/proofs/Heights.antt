@@ -73,7 +73,7 @@ is_tree_in slab (Some n) (Some t) s =
 pub seen_tree : (slab : Slab NodeView) (root : Option ℕ) (o p : Option Tree) → SoundIn slab root o → o ≡ p → IsTreeIn p
 seen_tree slab root o p s e = subst IsTreeIn e (is_tree_in slab root o s)
 
-some_leaf : (t : Tree) → 1 ≤ length (leaves t)
+pub some_leaf : (t : Tree) → 1 ≤ length (leaves t)
 some_leaf (tip n s b) = omega arith
 some_leaf (fork n h k l r) = let a = some_leaf l in rw length-append (omega arith)
 

@@ -3,10 +3,10 @@ mod Balance
 mod BoxEquality
 mod BuiltTrees
 mod Detaching
-mod Frames
+pub mod Frames
 mod Gathering
 mod Halving
-mod Heights
+pub mod Heights
 mod Inserting
 mod InsertingBelow
 mod LeafMoves

@@ -17,9 +17,7 @@ use Rattle.tree_nodes.proofs.MovedTrees.{unmoved}
 use Rattle.tree_nodes.proofs.Opened.{top_counted}
 use Rattle.tree_nodes.proofs.TreeLaws.{balanced_within}
 use Rattle.tree_nodes.proofs.Views.{or_cases}
-
-same_number : (n : ℕ) → eqb n n ≡ true
-same_number n = grind (arith, nat_tests)
+use Rattle.fixed_box.proofs.Numbers.{eqb_same}
 
 resized_top : (key : ℕ) (b : Bounds) (t : Tree) → top (resized key b t) ≡ top t
 resized_top key b (tip n s c) = refl
@@ -66,10 +64,10 @@ on_right key b n k h l r bal z y = passed key b n k h l r z ∙ ap (λ x. refitt
 
 -- the node itself
 top_inner : (b : Bounds) (n k : ℕ) (h : Bounds) (l r : Tree) → resized n b (fork n h k l r) ≡ fork n b k l r
-top_inner b n k h l r = ap (λ x. cond x (fork n b k l r) (refitted n (resized n b l) (resized n b r))) (same_number n)
+top_inner b n k h l r = ap (λ x. cond x (fork n b k l r) (refitted n (resized n b l) (resized n b r))) (eqb_same n)
 
 top_leaf : (b : Bounds) (n s : ℕ) (c : Bounds) → resized n b (tip n s c) ≡ tip n s b
-top_leaf b n s c = ap (λ x. tip n s (cond x b c)) (same_number n)
+top_leaf b n s c = ap (λ x. tip n s (cond x b c)) (eqb_same n)
 
 top_bounds : (key : ℕ) (b : Bounds) (t : Tree) → top t ≡ key → bounds (resized key b t) ≡ b
 top_bounds key b (tip n s c) e = subst (λ m. bounds (resized m b (tip n s c)) ≡ b) e (ap bounds (top_leaf b n s c))

@@ -9,6 +9,7 @@ use Rattle.broad_index.specs.declared.pair.Pair.{Pair}
 use Rattle.broad_index.specs.Members.{has_pair, same_pair}
 use Rattle.broad_index.specs.Touched.{ordered, ordered_pairs}
 use Rattle.tree_search.specs.Crossed.{others_met, crossed}
+use Rattle.fixed_box.proofs.Numbers.{eqb_other}
 
 pub crossed_append : (es xs ys : List (ℕ × Bounds)) → crossed es (xs ++ ys) ≡ crossed es xs ++ crossed es ys
 crossed_append es [] ys = refl
@@ -16,7 +17,7 @@ crossed_append es (x ∷ xs) ys =
     ap (λ l. ordered_pairs x.0 (others_met es x) ++ l) (crossed_append es xs ys)
     ∙ sym (append_assoc (ordered_pairs x.0 (others_met es x)) (crossed es xs) (crossed es ys))
 
-or_assoc : (a b c : Bool) → (a || (b || c)) ≡ ((a || b) || c)
+pub or_assoc : (a b c : Bool) → (a || (b || c)) ≡ ((a || b) || c)
 or_assoc true b c = refl
 or_assoc false b c = refl
 
@@ -41,9 +42,6 @@ any_row p x (e ∷ es) = hit p x e || any_row p x es
 abbrev pub any_cross : Pair → List (ℕ × Bounds) → List (ℕ × Bounds) → Bool
 any_cross p [] es = false
 any_cross p (x ∷ xs) es = any_row p x es || any_cross p xs es
-
-eqb_other : (a b : ℕ) → a ≢ b → (a == b) ≡ false
-eqb_other a b ne = grind (arith, nat_tests)
 
 ordered_either : (a b : ℕ) → a ≢ b → ordered a b ≡ ordered b a
 ordered_either a b ne = grind (arith, nat_tests)

@@ -28,6 +28,7 @@ use Rattle.tree_search.specs.Group.{below, all_below, picked, IsShown, IsBelow, 
 use Rattle.tree_search.proofs.Descents.{exact_append}
 use Rattle.tree_search.proofs.Counts.{raised_again}
 use Rattle.tree_search.proofs.CrossedPairs.{crossed_append, has_append}
+use Rattle.fixed_box.proofs.Bools.{or_false, or_assoc}
 
 shown_top : (o : Option Tree) (t : Tree) → IsShown o t → view_in o (top t) ≡ Some (view_of t)
 shown_top o (tip n s f) s1 = s1
@@ -321,10 +322,6 @@ crossed_none : (es : List (ℕ × Bounds)) → crossed [] es ≡ []
 crossed_none [] = refl
 crossed_none (e ∷ es) = crossed_none es
 
-or_false : (b : Bool) → (b || false) ≡ b
-or_false true = refl
-or_false false = refl
-
 -- without a tree nothing is found
 pub adds_none : (o : Option Tree) (bodies : List (Option Bounds)) (es : List (ℕ × Bounds)) (old : List Pair) → option_map top o ≡ None
     → Adds old old (crossed (exact_in bodies o) es)
@@ -351,10 +348,6 @@ pub group_visits : (w : BoxLaws) (o : Option Tree) (t : Tree) (es : List (ℕ ×
 group_visits w o t es e = ap (λ u. all_visits_in u es) e ∙ tops_and_below w t es
 
 -- One group more is searched for.
-
-or_assoc : (a b c : Bool) → ((a || b) || c) ≡ (a || (b || c))
-or_assoc true b c = refl
-or_assoc false b c = refl
 
 pub group_on : (xs group more rest : List (ℕ × Bounds)) (old new : List Pair) → group ++ more ≡ rest → Adds old new (crossed xs group)
     → (p : Pair) → (has_pair new p || has_pair (crossed xs more) p) ≡ (has_pair old p || has_pair (crossed xs rest) p)

@@ -13,19 +13,8 @@ use Rattle.tree_search.specs.Looked.{unmarked}
 use Rattle.tree_search.specs.Crossed.{crossed, touched_of, Adds, AreOf}
 use Rattle.tree_search.specs.Group.{undone}
 use Rattle.tree_search.proofs.CrossedPairs.{hit, any_row, any_cross, crossed_has, crossed_either, has_append}
-
-or_true : (b : Bool) → (b || true) ≡ true
-or_true true = refl
-or_true false = refl
-
-or_assoc : (a b c : Bool) → (a || (b || c)) ≡ ((a || b) || c)
-or_assoc true b c = refl
-or_assoc false b c = refl
-
-or_swap : (a b c : Bool) → (a || (b || c)) ≡ (b || (a || c))
-or_swap true true c = refl
-or_swap true false c = refl
-or_swap false b c = refl
+use Rattle.tree_search.proofs.CrossedPairs.{or_assoc}
+use Rattle.fixed_box.proofs.Bools.{or_true, or_swap}
 
 or_late : (a b c : Bool) → (b || c) ≡ true → ((a || b) || c) ≡ true
 or_late true b c e = refl

@@ -1,5 +1,5 @@
-mod Counts
-mod CrossedPairs
+pub mod Counts
+pub mod CrossedPairs
 mod Descents
 mod Groups
 mod GroupsDone

@@ -23,13 +23,7 @@ use Rattle.tree_search.proofs.Counts.{raised_again, raised_none}
 use Rattle.tree_search.proofs.CrossedPairs.{crossed_append}
 use Rattle.tree_search.proofs.Descents.{exact_append}
 use Rattle.tree_search.proofs.Groups.{bits_of, none_below, picked_crossed, picked_none, quiet_from, quiet_none, looks_on, take_all}
-
-pub leaves_some : (t : Tree) → 1 ≤ length (leaves t)
-leaves_some (tip n s f) = omega arith
-leaves_some (fork n h k l r) =
-    let a = leaves_some l in
-    let b = length-append (leaves l) (leaves r) in
-    omega arith
+use Rattle.tree_nodes.proofs.Heights.{some_leaf}
 
 -- the first node of a list, and those behind it
 pub first_node : (rest : List ListedNode) (node : ListedNode) (kind : NodeKind) → 1 ≤ length rest → node ≡ get_or rest 0 node → node.kind ≡ kind

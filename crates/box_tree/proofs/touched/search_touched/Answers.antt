@@ -6,7 +6,7 @@ use Rattle.tree_search.specs.Looked.{raised}
 use Rattle.tree_search.specs.Crossed.{touched_of, all_visits_in}
 use Rattle.tree_search.specs.Preorder.{listed}
 use Rattle.box_tree.specs.Searches.{searches, sought_from}
-use Rattle.box_tree.proofs.TouchedPairs.{has_append}
+use Rattle.tree_search.proofs.CrossedPairs.{has_append}
 use Rattle.box_tree.proofs.SharedSlots.{renewed_run, renewed_along, along_own, sought_marked}
 use Rattle.box_tree.proofs.TouchedSums.{touched_total}
 use Rattle.box_tree.proofs.touched.search_touched.Goals as goal

@@ -1,6 +1,7 @@
 -- the lesser of two first pairs is passed: of the one list it is told, and of the other it is not sought any more
 use Rattle.std.proofs.Common.{sym, ◌∙◌, arith}
-use Rattle.engine_tick.proofs.Differences.{head, less, greater, equal, step_less, step_greater, step_equal, left_ended, right_ended}
+use Rattle.engine_tick.proofs.Differences.{head, equal, step_less, step_greater, step_equal, left_ended, right_ended}
+use Rattle.broad_index.proofs.Settled.{less_precedes, greater_precedes}
 use Rattle.engine_tick.proofs.contacts.push_without.Goals as goal
 use Rattle.engine_tick.proofs.contacts.push_without.Goals.{in_default, in-len1-up+in_default-right}
 
@@ -8,12 +9,12 @@ pub left-preserved-in-Less : goal.left-preserved-in-Less
 left-preserved-in-Less c =
     rw c.in_ok-push-in-Less.ensures.items
     (step_less c.left.out.items c.left.left.now c.left.right.now _ c.in-len1-up.len_at_least c.in-len1-up-right.len_at_least
-    (less (head c.left.left.now) (head c.left.right.now) (sym c.in-Less.is ∙ c.cmp.ensures)) c.left.invariant)
+    (less_precedes (head c.left.left.now) (head c.left.right.now) (sym c.in-Less.is ∙ c.cmp.ensures)) c.left.invariant)
 
 pub left-preserved-in-Greater : goal.left-preserved-in-Greater
 left-preserved-in-Greater c =
     step_greater c.left.out.items c.left.left.now c.left.right.now _ c.in-len1-up.len_at_least c.in-len1-up-right.len_at_least
-    (greater (head c.left.left.now) (head c.left.right.now) (sym c.in-Greater.is ∙ c.cmp.ensures)) c.left.invariant
+    (greater_precedes (head c.left.left.now) (head c.left.right.now) (sym c.in-Greater.is ∙ c.cmp.ensures)) c.left.invariant
 
 pub left-preserved : goal.left-preserved
 left-preserved c =

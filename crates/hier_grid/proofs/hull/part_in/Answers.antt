@@ -3,7 +3,8 @@ use Rattle.std.proofs.Common.{◌≡◌, true, sym, subst}
 use Rattle.std.proofs.lemmas.Bool.{and_parts}
 use Rattle.fixed_box.specs.declared.point.Point.{Point}
 use Rattle.fixed_box.specs.Point.{is_at_most}
-use Rattle.hier_grid.proofs.CornerLemmas.{chain, met_between}
+use Rattle.hier_grid.proofs.CornerLemmas.{met_between}
+use Rattle.fixed_box.proofs.Corners.{at_most_chain}
 use Rattle.hier_grid.proofs.hull.part_in.Goals as goal
 
 pub returns : goal.returns
@@ -21,7 +22,7 @@ returns c b o e m =
     (subst (λ (s : Point). is_at_most r s ≡ true) (sym c.hi-2.ensures.hi) q) in
     met_between _ _ b c.new.result c.new.ensures
     (above c.lesser.result
-    (below hull.lo (chain hull.lo b.lo hull.hi held.0 (chain b.lo b.hi hull.hi o held.1)) (chain hull.lo b.lo region.hi held.0 met.1))
-    (below region.lo (chain region.lo b.hi hull.hi met.0 held.1) ordered))
-    (above b.hi (chain hull.lo b.lo b.hi held.0 o) met.0)
-    (below b.lo (chain b.lo b.hi hull.hi o held.1) met.1)
+    (below hull.lo (at_most_chain hull.lo b.lo hull.hi held.0 (at_most_chain b.lo b.hi hull.hi o held.1)) (at_most_chain hull.lo b.lo region.hi held.0 met.1))
+    (below region.lo (at_most_chain region.lo b.hi hull.hi met.0 held.1) ordered))
+    (above b.hi (at_most_chain hull.lo b.lo b.hi held.0 o) met.0)
+    (below b.lo (at_most_chain b.lo b.hi hull.hi o held.1) met.1)

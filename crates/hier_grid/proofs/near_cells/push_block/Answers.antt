@@ -4,7 +4,7 @@ use Rattle.std.proofs.lemmas.Int.{ints}
 use Rattle.std.specs.Prelude.{◌≤ℤ◌}
 use Rattle.cell_table.specs.declared.cell_key.CellKey.{CellKey}
 use Rattle.hier_grid.specs.Cells.{IsInRows}
-use Rattle.hier_grid.proofs.SlotLemmas.{below_next}
+use Rattle.fixed_box.proofs.Numbers.{int_next}
 use Rattle.hier_grid.proofs.near_cells.push_block.Goals as goal
 
 pub block-preserved : goal.block-preserved
@@ -13,7 +13,7 @@ block-preserved c =
     record {
       more = λ k h. c.in_ok-push_plane.ensures.more k (c.block.invariant.more k h);
       found = λ x y z lo lt ly uy lz uz. elim
-          (below_next x (to_z w32 c.block.x-bits) _ (omega (arith, ints, c.block-test.true, c.block.auto.x-fits)) lt) as
+          (int_next x (to_z w32 c.block.x-bits) _ (omega (arith, ints, c.block-test.true, c.block.auto.x-fits)) lt) as
           (λ _. IsInRows new (record c.args.from.now { x = x; y = y; z = z })) [
             | inl below ↦
                 c.in_ok-push_plane.ensures.more (record c.args.from.now { x = x; y = y; z = z }) (c.block.invariant.found x y z lo below ly uy lz uz)

@@ -5,7 +5,7 @@ use Rattle.std.specs.Ordering.{nat_cmp}
 use Rattle.std.specs.FinMap.{get, get-empty}
 use Rattle.fixed_box.specs.declared.TheConstants.{SLOTS}
 use Rattle.hier_grid.specs.Standing.{standing_cell}
-use Rattle.hier_grid.proofs.SlotLemmas.{nat_next}
+use Rattle.fixed_box.proofs.Numbers.{nat_next}
 use Rattle.hier_grid.proofs.StandingLemmas.{absent}
 use Rattle.hier_grid.proofs.standing_cells.standing_cells.Goals as goal
 

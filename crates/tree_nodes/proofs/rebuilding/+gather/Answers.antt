@@ -3,13 +3,14 @@ use Rattle.std.proofs.Common.{◌≡◌, ◌<◌, ◌+◌, cond, [], ◌∷◌, 
 use Rattle.slab.specs.Slab.{get}
 use Rattle.tree_nodes.specs.Parts.{height_shown}
 use Rattle.tree_nodes.specs.Tree.{height}
-use Rattle.tree_nodes.proofs.Gathering.{leaf_some, first_room, second_room, more_keys, more_inner}
+use Rattle.tree_nodes.proofs.Gathering.{first_room, second_room, more_keys, more_inner}
+use Rattle.tree_nodes.proofs.Heights.{some_leaf}
 use Rattle.tree_nodes.proofs.Paths.{both_below, falls}
 use Rattle.tree_nodes.proofs.rebuilding.+gather.Goals as goal
 
 pub unwrap-requires-in-Inner : goal.unwrap-requires-in-Inner
 unwrap-requires-in-Inner t c =
-    let q = c.requires in c.push-in-Inner.ensures.succeeds (let r = q.3 in let s = leaf_some q.0 in omega (arith, r, s))
+    let q = c.requires in c.push-in-Inner.ensures.succeeds (let r = q.3 in let s = some_leaf q.0 in omega (arith, r, s))
 
 pub gather-requires : goal.gather-requires
 gather-requires t c =
@@ -18,7 +19,7 @@ gather-requires t c =
     (c.index.ensures ∙ ap Some c.in-Inner.is) in
     let pushed : c.push-in-Inner.new.self.items ≡ c.args.inner.now.items ++ c.args.at ∷ [] = c.push-in-Inner.ensures.items ∙ ap
     (λ b. cond b (c.args.inner.now.items ++ c.args.at ∷ []) c.args.inner.now.items)
-    (c.push-in-Inner.ensures.succeeds (let r = q.3 in let s = leaf_some q.0 in omega (arith, r, s))) in
+    (c.push-in-Inner.ensures.succeeds (let r = q.3 in let s = some_leaf q.0 in omega (arith, r, s))) in
     let longer : length c.push-in-Inner.new.self.items ≡ length c.args.inner.now.items + 1 = ap length pushed ∙ length-append c.args.inner.now.items
     (c.args.at ∷ []) in (
       subst (λ m. height_shown (get c.args.slab.now c.in-Inner.left) < m) c.decreases
@@ -40,7 +41,7 @@ gather-requires-in-Inner t c =
     (c.index.ensures ∙ ap Some c.in-Inner.is) in
     let pushed : c.push-in-Inner.new.self.items ≡ c.args.inner.now.items ++ c.args.at ∷ [] = c.push-in-Inner.ensures.items ∙ ap
     (λ b. cond b (c.args.inner.now.items ++ c.args.at ∷ []) c.args.inner.now.items)
-    (c.push-in-Inner.ensures.succeeds (let r = q.3 in let s = leaf_some q.0 in omega (arith, r, s))) in
+    (c.push-in-Inner.ensures.succeeds (let r = q.3 in let s = some_leaf q.0 in omega (arith, r, s))) in
     let a = c.push-in-Inner.ensures.capacity in
     let b = c.gather.ensures.inner_room in (
       subst (λ m. height_shown (get c.args.slab.now c.in-Inner.right) < m) c.decreases

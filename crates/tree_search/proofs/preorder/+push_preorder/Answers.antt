@@ -7,7 +7,8 @@ use Rattle.tree_nodes.specs.Tree.{Tree, fork, view_in, leaves}
 use Rattle.tree_search.specs.declared.preorder.ListedNode.{ListedNode}
 use Rattle.tree_search.specs.Preorder.{preorder}
 use Rattle.tree_search.proofs.Groups.{opened_inner, lower, left_lower, right_lower}
-use Rattle.tree_search.proofs.Preorders.{leaves_some, preorder_few, inner_listed}
+use Rattle.tree_search.proofs.Preorders.{preorder_few, inner_listed}
+use Rattle.tree_nodes.proofs.Heights.{some_leaf}
 use Rattle.tree_search.proofs.preorder.+push_preorder.Goals as goal
 
 module _ (bodies : List (Option Bounds)) (n k : ℕ) (h : Bounds) (l r t : Tree) (is : t ≡ fork n h k l r) (out pushed one two : List ListedNode)
@@ -18,7 +19,7 @@ module _ (bodies : List (Option Bounds)) (n k : ℕ) (h : Bounds) (l r t : Tree)
   left_fits : length pushed + 2 * length (leaves l) < 2 ^ 32
   left_fits =
       let a = both in
-      let b = leaves_some r in
+      let b = some_leaf r in
       let c = ap length ep ∙ length-append out (node ∷ []) in
       omega arith
 

@@ -8,7 +8,9 @@ use Rattle.fixed_box.specs.declared.point.Point.{Point}
 use Rattle.fixed_box.specs.Point.{is_at_most}
 use Rattle.fixed_box.specs.Space.{space}
 use Rattle.hier_grid.specs.Cells.{cell_at}
-use Rattle.hier_grid.proofs.CornerLemmas.{all_of, as_test, as_order, axes, held_between}
+use Rattle.hier_grid.proofs.CornerLemmas.{axes, held_between}
+use Rattle.fixed_box.proofs.Corners.{all_three}
+use Rattle.fixed_box.proofs.Numbers.{test_of_le, le_of_test}
 use Rattle.hier_grid.proofs.cell_block.CellBlock.extent.Goals as goal
 
 short : (lo hi : ℤ) (k : ℕ) → unsigned_abs (hi -ℤ lo) < k → lo ≤ℤ hi → hi <ℤ (lo +ℤ pos k)
@@ -24,44 +26,44 @@ returns c b sized there =
     let lo : Point = record { x = z c.low_face.result; y = z c.low_face-2.result; z = z c.low_face-3.result } in
     let hi : Point = record { x = z c.high_face.result; y = z c.high_face-2.result; z = z c.high_face-3.result } in
     held_between lo hi b c.new.result c.new.ensures sized.ordered
-    (all_of lo b.lo
-    (as_test lo.x b.lo.x (omega (
+    (all_three lo b.lo
+    (test_of_le lo.x b.lo.x (omega (
       arith,
       ints,
-      c.low_face.ensures b.lo.x (as_order (negsuc 2147483647) b.lo.x lows.x)
+      c.low_face.ensures b.lo.x (le_of_test (negsuc 2147483647) b.lo.x lows.x)
           (omega (arith, ints, subst (λ n. c.args.self.now.from.x ≤ℤ cell_at n b.lo.x) there.level there.low_x)),
     )))
-    (as_test lo.y b.lo.y (omega (
+    (test_of_le lo.y b.lo.y (omega (
       arith,
       ints,
-      c.low_face-2.ensures b.lo.y (as_order (negsuc 2147483647) b.lo.y lows.y)
+      c.low_face-2.ensures b.lo.y (le_of_test (negsuc 2147483647) b.lo.y lows.y)
           (omega (arith, ints, subst (λ n. c.args.self.now.from.y ≤ℤ cell_at n b.lo.y) there.level there.low_y)),
     )))
-    (as_test lo.z b.lo.z (omega (
+    (test_of_le lo.z b.lo.z (omega (
       arith,
       ints,
-      c.low_face-3.ensures b.lo.z (as_order (negsuc 2147483647) b.lo.z lows.z)
+      c.low_face-3.ensures b.lo.z (le_of_test (negsuc 2147483647) b.lo.z lows.z)
           (omega (arith, ints, subst (λ n. c.args.self.now.from.z ≤ℤ cell_at n b.lo.z) there.level there.low_z)),
     ))))
-    (all_of b.hi hi
-    (as_test b.hi.x hi.x (omega (
+    (all_three b.hi hi
+    (test_of_le b.hi.x hi.x (omega (
       arith,
       ints,
-      c.high_face.ensures b.lo.x b.hi.x (as_order b.hi.x (pos 2147483647) highs.x)
+      c.high_face.ensures b.lo.x b.hi.x (le_of_test b.hi.x (pos 2147483647) highs.x)
           (omega (arith, ints, subst (λ n. cell_at n b.lo.x <ℤ c.args.self.now.end.x) there.level there.high_x))
-          (subst (λ n. b.hi.x <ℤ (b.lo.x +ℤ pos (cell_side n))) there.level (short b.lo.x b.hi.x (cell_side (level_of b)) (omega arith) (as_order b.lo.x b.hi.x order.x))),
+          (subst (λ n. b.hi.x <ℤ (b.lo.x +ℤ pos (cell_side n))) there.level (short b.lo.x b.hi.x (cell_side (level_of b)) (omega arith) (le_of_test b.lo.x b.hi.x order.x))),
     )))
-    (as_test b.hi.y hi.y (omega (
+    (test_of_le b.hi.y hi.y (omega (
       arith,
       ints,
-      c.high_face-2.ensures b.lo.y b.hi.y (as_order b.hi.y (pos 2147483647) highs.y)
+      c.high_face-2.ensures b.lo.y b.hi.y (le_of_test b.hi.y (pos 2147483647) highs.y)
           (omega (arith, ints, subst (λ n. cell_at n b.lo.y <ℤ c.args.self.now.end.y) there.level there.high_y))
-          (subst (λ n. b.hi.y <ℤ (b.lo.y +ℤ pos (cell_side n))) there.level (short b.lo.y b.hi.y (cell_side (level_of b)) (omega arith) (as_order b.lo.y b.hi.y order.y))),
+          (subst (λ n. b.hi.y <ℤ (b.lo.y +ℤ pos (cell_side n))) there.level (short b.lo.y b.hi.y (cell_side (level_of b)) (omega arith) (le_of_test b.lo.y b.hi.y order.y))),
     )))
-    (as_test b.hi.z hi.z (omega (
+    (test_of_le b.hi.z hi.z (omega (
       arith,
       ints,
-      c.high_face-3.ensures b.lo.z b.hi.z (as_order b.hi.z (pos 2147483647) highs.z)
+      c.high_face-3.ensures b.lo.z b.hi.z (le_of_test b.hi.z (pos 2147483647) highs.z)
           (omega (arith, ints, subst (λ n. cell_at n b.lo.z <ℤ c.args.self.now.end.z) there.level there.high_z))
-          (subst (λ n. b.hi.z <ℤ (b.lo.z +ℤ pos (cell_side n))) there.level (short b.lo.z b.hi.z (cell_side (level_of b)) (omega arith) (as_order b.lo.z b.hi.z order.z))),
+          (subst (λ n. b.hi.z <ℤ (b.lo.z +ℤ pos (cell_side n))) there.level (short b.lo.z b.hi.z (cell_side (level_of b)) (omega arith) (le_of_test b.lo.z b.hi.z order.z))),
     ))))

@@ -2,7 +2,7 @@
 use Rattle.std.proofs.Common.{◌≡◌, true, inl, inr, arith}
 use Rattle.fixed_box.specs.Bounds.{level_of}
 use Rattle.broad_index.specs.Members.{has_slot}
-use Rattle.hier_grid.proofs.SlotLemmas.{nat_next}
+use Rattle.fixed_box.proofs.Numbers.{nat_next}
 use Rattle.hier_grid.proofs.kept_boxes.KeptBoxes.push_crossed_in.Goals as goal
 
 pub levels-init : goal.levels-init

@@ -2,7 +2,7 @@
 use Rattle.std.proofs.Common.{inl, inr, arith}
 use Rattle.fixed_box.specs.Bounds.{level_of}
 use Rattle.hier_grid.specs.Search.{IsNearby}
-use Rattle.hier_grid.proofs.SlotLemmas.{nat_next}
+use Rattle.fixed_box.proofs.Numbers.{nat_next}
 use Rattle.hier_grid.proofs.kept_boxes.KeptBoxes.push_from.Goals as goal
 
 pub levels-init : goal.levels-init
