@@ -27,7 +27,9 @@ use std::marker::Model;
 use tree_nodes::{MOST_HEIGHT, Nodes};
 use tree_search::{Findings, Marks, SearchRoom, push_hits};
 
-/// Moving boxes under slots, in a balanced tree of fat boxes that keeps the pairs it found.
+/// Moving boxes under slots, in a balanced tree of fat boxes that keeps the pairs it found. Other engines call it a dynamic
+/// AABB tree: its leaves are proxies, a fat box is an enlarged AABB, the touched slots are a move buffer, and the kept pairs
+/// a pair cache.
 ///
 /// A leaf's fat box is the box with a margin of [`MARGIN`] around it. A box that moves inside it changes nothing of the
 /// tree. Each slot that comes, moves or goes is touched, and `pairs` seeks for touched slots alone, by one descent each:
