@@ -1,4 +1,4 @@
-ghost use Rattle.std.specs.Prelude.{◌≤◌};
+ghost use Rattle.std.specs.Prelude.{◌≡◌, ◌≤◌};
 ghost use Rattle.broad_index.specs.Fresh.{IsFresh};
 ghost use Rattle.scene_lines.specs.declared.TheConstants.{MOST_LINES};
 ghost use Rattle.work_pieces.specs.declared.TheConstants.{MOST_WORKERS};
@@ -83,34 +83,17 @@ fn written_by_threads<R: Threads + Sync + Abort>(
     report: &[u8],
     status: Status,
 ) -> Result<(), Fail> {
+    let play_of = Played {
+        workers: 4,
+        lines: MOST_LINES,
+        scene,
+        report,
+        status,
+    };
     let tree = BoxTree::new(alloc)?;
-    played_over(
-        rt,
-        alloc,
-        tree,
-        &Threaded,
-        Played {
-            workers: 4,
-            lines: MOST_LINES,
-            scene,
-            report,
-            status,
-        },
-    )?;
+    played_over(rt, alloc, tree, &Threaded, play_of)?;
     let grid = HierGrid::new(alloc)?;
-    played_over(
-        rt,
-        alloc,
-        grid,
-        &Threaded,
-        Played {
-            workers: 4,
-            lines: MOST_LINES,
-            scene,
-            report,
-            status,
-        },
-    )
+    played_over(rt, alloc, grid, &Threaded, play_of)
 }
 
 // What a structure writes for a scene, with so many workers each.
@@ -801,34 +784,18 @@ fn played_within<R: Threads + Sync + Abort>(
     report: &[u8],
     status: Status,
 ) -> Result<(), Fail> {
+    let one = Played {
+        workers: 1,
+        lines: 3,
+        scene,
+        report,
+        status,
+    };
     let plain = PlainIndex::new(alloc)?;
-    played_over(
-        rt,
-        alloc,
-        plain,
-        &NoGate,
-        Played {
-            workers: 1,
-            lines: 3,
-            scene,
-            report,
-            status,
-        },
-    )?;
+    played_over(rt, alloc, plain, &NoGate, one)?;
+    let four = Played { workers: 4, ..one };
     let tree = BoxTree::new(alloc)?;
-    played_over(
-        rt,
-        alloc,
-        tree,
-        &Threaded,
-        Played {
-            workers: 4,
-            lines: 3,
-            scene,
-            report,
-            status,
-        },
-    )
+    played_over(rt, alloc, tree, &Threaded, four)
 }
 
 #[test]
@@ -1222,6 +1189,20 @@ fn a_long_run_of_queries_is_answered_whole(rt: HostRuntime) -> Result<(), Fail> 
     done
 }
 
+// A play by two workers that is done.
+fn by_two<'a>(scene: &'a [u8], report: &'a [u8]) -> Played<'a>
+    ensures workers { result.workers ≡ 2 }
+    ensures lines { result.lines ≡ 9 }
+{
+    Played {
+        workers: 2,
+        lines: 9,
+        scene,
+        report,
+        status: Status::Done,
+    }
+}
+
 // Blank lines and comments end no run of queries.
 #[test]
 fn two_threads_answer_two_queries(rt: HostRuntime) -> Result<(), Fail> {
@@ -1229,20 +1210,7 @@ fn two_threads_answer_two_queries(rt: HostRuntime) -> Result<(), Fail> {
     let index = PlainIndex::new(rt.alloc())?;
     let scene = b"scene 1\nadd 0 0 0 1 1 1\npoint 0 0 0\n\n# next\npoint 9 9 9\n";
     let report = b"add 0:0\npoint 1 0:0\npoint 0\nend 6 0 1\n";
-    let done = Status::Done;
-    played_over(
-        &rt,
-        rt.alloc(),
-        index,
-        &gate,
-        Played {
-            workers: 2,
-            lines: 9,
-            scene,
-            report,
-            status: done,
-        },
-    )?;
+    played_over(&rt, rt.alloc(), index, &gate, by_two(scene, report))?;
     assert_eq!(rt; gate.met(), 2);
     Ok(())
 }
@@ -1253,20 +1221,7 @@ fn two_threads_seek_the_pairs_of_a_frame(rt: HostRuntime) -> Result<(), Fail> {
     let index = BoxTree::new(rt.alloc())?;
     let scene = b"scene 1\nadd 0 0 0 1 1 1\nadd 1 0 0 2 1 1\nframe\n";
     let report = b"add 0:0\nadd 1:0\nframe 1 1\nbegin 0:0 1:0\nend 4 1 2\n";
-    let done = Status::Done;
-    played_over(
-        &rt,
-        rt.alloc(),
-        index,
-        &gate,
-        Played {
-            workers: 2,
-            lines: 9,
-            scene,
-            report,
-            status: done,
-        },
-    )?;
+    played_over(&rt, rt.alloc(), index, &gate, by_two(scene, report))?;
     assert_eq!(rt; gate.met(), 2);
     Ok(())
 }

@@ -136,49 +136,19 @@ fn played_by_threads<R: Threads + Sync + Abort>(
 ) -> Result<(), Fail>
     requires { (1 ≤ workers) × (workers ≤ MOST_WORKERS) }
 {
-    let done = Status::Done;
+    let play_of = Played {
+        workers,
+        lines: MOST_LINES,
+        scene,
+        report,
+        status: Status::Done,
+    };
     let tree = BoxTree::new(alloc)?;
-    played_over(
-        rt,
-        alloc,
-        tree,
-        &Threaded,
-        Played {
-            workers: workers,
-            lines: MOST_LINES,
-            scene,
-            report,
-            status: done,
-        },
-    )?;
+    played_over(rt, alloc, tree, &Threaded, play_of)?;
     let grid = HierGrid::new(alloc)?;
-    played_over(
-        rt,
-        alloc,
-        grid,
-        &Threaded,
-        Played {
-            workers: workers,
-            lines: MOST_LINES,
-            scene,
-            report,
-            status: done,
-        },
-    )?;
+    played_over(rt, alloc, grid, &Threaded, play_of)?;
     let plain = PlainIndex::new(alloc)?;
-    played_over(
-        rt,
-        alloc,
-        plain,
-        &Threaded,
-        Played {
-            workers: workers,
-            lines: MOST_LINES,
-            scene,
-            report,
-            status: done,
-        },
-    )
+    played_over(rt, alloc, plain, &Threaded, play_of)
 }
 
 // What threads write of a scene is what one writes.
