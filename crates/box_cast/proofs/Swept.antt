@@ -8,7 +8,7 @@ use Rattle.fixed_box.specs.Bounds.{Bounds, meets}
 use Rattle.fixed_box.specs.Point.{is_at_most}
 use Rattle.fixed_box.specs.declared.point.Point.{Point}
 use Rattle.ray_slabs.specs.ProductLaws.{scaled, add_mul, sub_mul, sub_mul_sub}
-use Rattle.fixed_box.proofs.Numbers.{le_of_test, test_of_le}
+use Rattle.fixed_box.proofs.Numbers.{le_of_test, test_of_le, stopped_low, stopped_high}
 use Rattle.fixed_box.specs.Space.{space}
 use Rattle.box_cast.specs.Hull.{cast_hull}
 use Rattle.box_cast.specs.Law.{CastMeets}
@@ -39,15 +39,6 @@ high_end p q a v m some one h =
     absurd (omega (arith, ints, rest, gone, sub_mul_sub m a (pos q) (pos p), sub_mul m (a +ℤ v) (pos p), add_mul a v (pos p))))
     (λ le. inr le))
     (λ le. inl le)
-
--- what is stopped at the ends of 32 bits is bounded by what bounds it there
-stopped_low : (z m : ℤ) → z ≤ℤ m → negsuc 2147483647 ≤ℤ m → saturate_signed w32 z ≤ℤ m
-stopped_low (pos n) m h low = omega (arith, ints)
-stopped_low (negsuc n) m h low = omega (arith, ints)
-
-stopped_high : (z m : ℤ) → m ≤ℤ z → m ≤ℤ pos 2147483647 → m ≤ℤ saturate_signed w32 z
-stopped_high (pos n) m h high = omega (arith, ints)
-stopped_high (negsuc n) m h high = omega (arith, ints)
 
 lesser : (x y m : ℤ) → (x ≤ℤ m) ⊎ (y ≤ℤ m) → int_min x y ≤ℤ m
 lesser x y m (inl h) = omega (arith, ints, clamps)

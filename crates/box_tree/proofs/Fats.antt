@@ -87,11 +87,6 @@ module _ (fats bodies : List (Option Bounds)) (fat : AreFat fats bodies) (slot :
           (sym (get_or-set_other bodies slot k None None ne) ∙ ec)) (fat_cases k);
     }
 
-pub past : (xs : List (Option Bounds)) (k : ℕ) → length xs ≤ k → get_or xs k None ≡ None
-past [] k h = refl
-past (x ∷ xs) zero h = absurd (omega arith)
-past (x ∷ xs) (suc k) h = past xs k (omega arith)
-
 module _ (fats bodies : List (Option Bounds)) (fat : AreFat fats bodies) (slot : ℕ) where
   pub has_map : (xs : List (Option Bounds)) → contains_key (map_of xs) slot ≡ is_some (get_or xs slot None)
   has_map xs = ap is_some (get_map xs slot)

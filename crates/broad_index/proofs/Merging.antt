@@ -43,10 +43,10 @@ rises_without (z ∷ zs) ys y u = both_true (behind zs (first_so _ _ u)) (rises_
 abbrev pub head : List Pair → Pair
 head ps = get_or ps 0 (record { a = 0; b = 0 })
 
-abbrev rest_of : List Pair → List Pair
+abbrev pub rest_of : List Pair → List Pair
 rest_of ps = take (length ps - 1) (drop 1 ps)
 
-rest_is : (x : Pair) (xs : List Pair) → take (length (x ∷ xs) - 1) (drop 1 (x ∷ xs)) ≡ xs
+pub rest_is : (x : Pair) (xs : List Pair) → take (length (x ∷ xs) - 1) (drop 1 (x ∷ xs)) ≡ xs
 rest_is x xs = let n : length (x ∷ xs) - 1 ≡ length xs = omega arith in ap (λ k. take k xs) n ∙ take-length xs
 
 or_moves : (a b c d : Bool) → ((a || (b || false)) || (c || d)) ≡ (a || ((b || c) || d))

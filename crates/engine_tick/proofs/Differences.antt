@@ -14,6 +14,7 @@ use Rattle.broad_index.specs.Members.{has_pair, same_pair}
 use Rattle.broad_index.specs.Near.{precedes, rises}
 use Rattle.broad_index.specs.PairOrder.{pair_cmp}
 use Rattle.engine_tick.specs.Colliding.{without}
+use Rattle.broad_index.proofs.Merging.{head, rest_of, rest_is}
 use Rattle.broad_index.proofs.Settled.{less_precedes, greater_precedes}
 
 by_first : (p q : Pair) → p.a < q.a → precedes p q ≡ true
@@ -54,16 +55,6 @@ not_missed q qs [] h = refl
 not_missed q qs (p ∷ ps) h =
     ap (λ t. cond (not (t || has_pair qs p)) (p ∷ without (q ∷ qs) ps) (without (q ∷ qs) ps)) (apart_back p q (first_so _ _ h))
     ∙ ap (λ w. cond (not (has_pair qs p)) (p ∷ w) w) (not_missed q qs ps (second_so _ _ h))
-
--- a list's first pair, and what a pattern leaves of it
-abbrev pub head : List Pair → Pair
-head ps = get_or ps 0 (record { a = 0; b = 0 })
-
-abbrev rest_of : List Pair → List Pair
-rest_of ps = take (length ps - 1) (drop 1 ps)
-
-rest_is : (x : Pair) (xs : List Pair) → take (length (x ∷ xs) - 1) (drop 1 (x ∷ xs)) ≡ xs
-rest_is x xs = let n : length (x ∷ xs) - 1 ≡ length xs = omega arith in ap (λ k. take k xs) n ∙ take-length xs
 
 -- what stands while two lists are passed
 pub record Passes (out left right all : List Pair) : Type 0 where

@@ -1,9 +1,11 @@
 -- Lesser and greater corners, and corners moved outwards.
-use Rattle.std.proofs.Common.{◌≡◌, true, ◌&&◌, ℤ, int_le, SFits, to_z, of_z, ap, ◌∙◌, arith}
+use Rattle.std.proofs.Common.{◌≡◌, true, ◌&&◌, Option, None, Some, IsSome, ℤ, int_le, SFits, to_z, of_z, refl, ap, ◌∙◌, arith}
 use Rattle.std.specs.Int.{int_min, int_max, w32}
+use Rattle.std.specs.Option.{SomeIff}
 use Rattle.std.proofs.lemmas.Int.{ints, to_z-of_z}
 use Rattle.std.proofs.lemmas.Bool.{and_parts, and_from}
 use Rattle.fixed_box.specs.declared.point.Point.{Point}
+use Rattle.fixed_box.specs.Bounds.{Bounds}
 use Rattle.fixed_box.specs.Point.{is_at_most, lower_corner, upper_corner}
 
 min_left : (x y : ℤ) → int_le (int_min x y) x ≡ true
@@ -35,7 +37,7 @@ pub record Axes (p q : Point) : Type 0 where
   pub y : int_le p.y q.y ≡ true
   pub z : int_le p.z q.z ≡ true
 
-axes : (p q : Point) → is_at_most p q ≡ true → Axes p q
+pub axes : (p q : Point) → is_at_most p q ≡ true → Axes p q
 axes p q h =
     let parts = and_parts (int_le p.x q.x && int_le p.y q.y) (int_le p.z q.z) h in
     let firsts = and_parts (int_le p.x q.x) (int_le p.y q.y) parts.0 in
@@ -85,3 +87,8 @@ max_read m x y fits left right e = to_z-of_z w32 m fits ∙ e ∙ ap (λ a. int_
 
 pub same_point : (a b c x y z : ℤ) → a ≡ x → b ≡ y → c ≡ z → ◌≡◌ {A = Point} (record { x = a; y = b; z = c }) (record { x = x; y = y; z = z })
 same_point a b c x y z d e f = cc
+
+-- a box is made of corners for which that is said
+pub made : (o : Option Bounds) (P : Type 0) (v : Bounds) → SomeIff o P v → P → IsSome o
+made None P v h p = absurd (h p)
+made (Some x) P v h p = refl

@@ -1,5 +1,5 @@
 pub mod Bools
-mod BoxLaws
+pub mod BoxLaws
 pub mod Corners
 mod DigitRuns
 mod Levels

@@ -1,5 +1,5 @@
 -- What several crates' proofs rest on of lists.
-use Rattle.std.proofs.Common.{◌≡◌, ℕ, ◌≤◌, Bool, true, false, cond, List, [], ◌∷◌, ◌++◌, filter, length, drop, Option, Some, None, refl, ap, arith}
+use Rattle.std.proofs.Common.{◌≡◌, ℕ, zero, suc, ◌≤◌, Bool, true, false, cond, List, [], ◌∷◌, ◌++◌, filter, length, drop, get_or, Option, Some, None, refl, ap, arith}
 use Rattle.std.specs.Io.KnownBytes.{prepend_known}
 use Rattle.std.proofs.lemmas.List.{append_assoc}
 
@@ -17,3 +17,9 @@ drop_none (x ∷ xs) = refl
 pub prepend_known-append : (xs ys : List ℕ) (left : Option (List ℕ)) → prepend_known (xs ++ ys) left ≡ prepend_known xs (prepend_known ys left)
 prepend_known-append xs ys None = refl
 prepend_known-append xs ys (Some zs) = ap Some (append_assoc xs ys zs)
+
+-- nothing stands past a list's end
+pub past : {A : Type 0} (xs : List (Option A)) (k : ℕ) → length xs ≤ k → get_or xs k None ≡ None
+past [] k h = refl
+past (x ∷ xs) zero h = absurd (omega arith)
+past (x ∷ xs) (suc k) h = past xs k (omega arith)

@@ -4,6 +4,7 @@ use Rattle.std.proofs.Common.{eqb, refl, sym, arith}
 use Rattle.std.proofs.lemmas.Int.{ints}
 use Rattle.std.proofs.lemmas.Bool.{eq-eqb}
 use Rattle.std.proofs.lemmas.Bool.Decides.{nat_tests}
+use Rattle.std.specs.Int.{saturate_signed, w32}
 use Rattle.std.specs.Ordering.{nat_cmp, is_lt, is_eq, eq_by_cmp}
 use Rattle.std.specs.declared.cmp.Ordering.TheVariants.{Less, Equal, Greater}
 use Rattle.std.specs.Cmp.{ranked, nat_cmp_is}
@@ -67,3 +68,12 @@ at_least x h = omega (arith, ints)
 
 pub at_most : (x : ℤ) → int_le x (pos 2147483647) ≡ true → x ≤ℤ pos 2147483647
 at_most x h = omega (arith, ints)
+
+-- what is stopped at the ends of 32 bits is bounded by what bounds it there
+pub stopped_low : (z m : ℤ) → z ≤ℤ m → negsuc 2147483647 ≤ℤ m → saturate_signed w32 z ≤ℤ m
+stopped_low (pos n) m h low = omega (arith, ints)
+stopped_low (negsuc n) m h low = omega (arith, ints)
+
+pub stopped_high : (z m : ℤ) → m ≤ℤ z → m ≤ℤ pos 2147483647 → m ≤ℤ saturate_signed w32 z
+stopped_high (pos n) m h high = omega (arith, ints)
+stopped_high (negsuc n) m h high = omega (arith, ints)

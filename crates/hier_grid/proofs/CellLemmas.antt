@@ -9,7 +9,7 @@ use Rattle.std.specs.Prelude.{ℤ, pos, negsuc, ◌+ℤ◌, ◌-ℤ◌, ◌*ℤ�
 use Rattle.fixed_box.specs.Bounds.{Bounds, cell_side, longest_side, meets}
 use Rattle.fixed_box.specs.Point.{is_at_most}
 use Rattle.cell_table.specs.declared.cell_key.CellKey.{CellKey}
-use Rattle.hier_grid.proofs.CornerLemmas.{axes}
+use Rattle.fixed_box.proofs.Corners.{axes}
 use Rattle.hier_grid.specs.Cells.{cell_at, cell_on, IsFrom, IsBeside, IsAfter}
 use Rattle.std.specs.Int.{int_div_euclid}
 use Rattle.std.proofs.lemmas.Nat.{div_below}

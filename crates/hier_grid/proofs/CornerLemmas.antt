@@ -8,19 +8,8 @@ use Rattle.fixed_box.specs.declared.point.Point.{Point}
 use Rattle.fixed_box.specs.Point.{is_at_most}
 use Rattle.fixed_box.specs.Space.{space}
 use Rattle.hier_grid.specs.Grid.{is_held, is_met}
-use Rattle.fixed_box.proofs.Corners.{all_three, at_most_chain}
+use Rattle.fixed_box.proofs.Corners.{all_three, at_most_chain, Axes, axes}
 use Rattle.fixed_box.proofs.Numbers.{test_of_le, le_of_test}
-
-pub record Axes (p q : Point) : Type 0 where
-  pub x : int_le p.x q.x ≡ true
-  pub y : int_le p.y q.y ≡ true
-  pub z : int_le p.z q.z ≡ true
-
-pub axes : (p q : Point) → is_at_most p q ≡ true → Axes p q
-axes p q h =
-    let parts = and_parts (int_le p.x q.x && int_le p.y q.y) (int_le p.z q.z) h in
-    let firsts = and_parts (int_le p.x q.x) (int_le p.y q.y) parts.0 in
-    record { x = firsts.0; y = firsts.1; z = parts.1 }
 
 -- a box whose corners have coordinates of 32 bits lies in space
 pub inside_space : (lo hi : Point) (b : Bounds) → lo ≡ b.lo → hi ≡ b.hi

@@ -16,19 +16,11 @@ use Rattle.hier_grid.specs.Search.{meets_at, is_partner, AreReached, IsDue, IsSo
 use Rattle.hier_grid.proofs.CellLemmas.{cell_order}
 use Rattle.broad_index.proofs.OneRising.{is_same, self_same}
 use Rattle.fixed_box.proofs.Bools.{or_true, same_bool}
-
-meets_turned : (a b : Bounds) → meets a b ≡ meets b a
-meets_turned a b = turned (is_at_most a.lo b.hi) (is_at_most b.lo a.hi)
-  where
-    turned : (x y : Bool) → (x && y) ≡ (y && x)
-    turned true true = refl
-    turned true false = refl
-    turned false true = refl
-    turned false false = refl
+use Rattle.fixed_box.proofs.BoxLaws.{meets_either_way}
 
 both_turned : (o : Option Bounds) (body : Bounds) → both_meet (Some body) o ≡ both_meet o (Some body)
 both_turned None body = refl
-both_turned (Some b) body = meets_turned body b
+both_turned (Some b) body = meets_either_way body b
 
 -- ---- what is added
 pub more_pairs : (old more : List Pair) → HasPairs old (old ++ more)
@@ -128,7 +120,7 @@ all_found bodies found s c p = same_bool (has_pair found p) (is_near bodies p) (
       | inr due ↦
           let at : ordered p.b p.a ≡ p = ap (λ b. cond b (other p) p) (not_back p.a p.b r.0) in
           ap (has_pair found) (sym at)
-          ∙ c p.b t.second t.at_second p.a t.first t.at_first (meets_turned t.second t.first ∙ t.met) (not_same p.a p.b r.0) due
+          ∙ c p.b t.second t.at_second p.a t.first t.at_first (meets_either_way t.second t.first ∙ t.met) (not_same p.a p.b r.0) due
     ])
   where
     other : Pair → Pair

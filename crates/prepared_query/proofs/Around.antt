@@ -6,22 +6,13 @@ use Rattle.ray_slabs.specs.Mirrored.{Axis, mirrored, is_ahead, is_on_way}
 use Rattle.ray_slabs.specs.FirstLaws.{test_of_lt}
 use Rattle.ray_slabs.specs.ProductLaws.{same_le}
 use Rattle.fixed_box.proofs.Bools.{same_bool, and_comm}
-use Rattle.fixed_box.proofs.Numbers.{le_of_test, test_of_le}
+use Rattle.fixed_box.proofs.Numbers.{le_of_test, test_of_le, stopped_low, stopped_high}
 use Rattle.prepared_query.specs.Prepared.{end_on}
 
 -- The line comes to the slab by its end, if it has one.
 abbrev pub is_met : Bool → Axis → Bool
 is_met true a = is_on_way a
 is_met false a = is_ahead a
-
--- a sum that is stopped at the ends of 32 bits
-stopped_low : (z m : ℤ) → z ≤ℤ m → negsuc 2147483647 ≤ℤ m → saturate_signed w32 z ≤ℤ m
-stopped_low (pos n) m h low = omega (arith, ints)
-stopped_low (negsuc n) m h low = omega (arith, ints)
-
-stopped_high : (z m : ℤ) → m ≤ℤ z → m ≤ℤ pos 2147483647 → m ≤ℤ saturate_signed w32 z
-stopped_high (pos n) m h high = omega (arith, ints)
-stopped_high (negsuc n) m h high = omega (arith, ints)
 
 -- the interval between the start and the end meets that between the faces
 abbrev pub is_by : ℤ → ℤ → ℤ → ℤ → Bool

@@ -6,10 +6,6 @@ use Rattle.std.proofs.Math.Seq.{take-suc}
 use Rattle.std.proofs.lemmas.List.{reverse-append, length-reverse, take_all}
 use Rattle.scene_words.specs.Tails.{off_flag, off_owner}
 
-pub drop_none : {X : Type 0} (xs : List X) → drop 0 xs ≡ xs
-drop_none [] = refl
-drop_none (x ∷ xs) = refl
-
 pub drop_less : {X : Type 0} (n : ℕ) (x : X) (xs : List X) → 0 < n → drop n (x ∷ xs) ≡ drop (n - 1) xs
 drop_less zero x xs h = absurd (omega arith)
 drop_less (suc n) x xs h = ap (λ k. drop k xs) (let same : n ≡ suc n - 1 = omega arith in same)

@@ -6,13 +6,9 @@ use Rattle.std.specs.Ordering.{nat_cmp}
 use Rattle.std.specs.FinMap.{FinMap, get, contains_key, empty_of_len, get-empty, insert, len, len-entries, len-insert, len-remove, remove}
 use Rattle.std.proofs.lemmas.Cmp.{nat_cmp_total}
 use Rattle.fixed_box.specs.Bounds.{Bounds}
+use Rattle.fixed_box.proofs.Lists.{past}
 use Rattle.slot_lists.specs.SlotMap.{entries_from, map_of}
 use Rattle.slot_lists.specs.SlotMapLaws.{entries_of_map, get_map}
-
-pub past : (boxes : List (Option Bounds)) (k : ℕ) → length boxes ≤ k → get_or boxes k None ≡ None
-past [] k h = refl
-past (x ∷ xs) zero h = absurd (omega arith)
-past (x ∷ xs) (suc k) h = past xs k (omega arith)
 
 below_or : (n s : ℕ) → (n ≤ s) ⊎ (s < n)
 below_or n s = grind arith

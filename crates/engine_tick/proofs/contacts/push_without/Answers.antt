@@ -1,6 +1,7 @@
 -- the lesser of two first pairs is passed: of the one list it is told, and of the other it is not sought any more
 use Rattle.std.proofs.Common.{sym, ◌∙◌, arith}
-use Rattle.engine_tick.proofs.Differences.{head, equal, step_less, step_greater, step_equal, left_ended, right_ended}
+use Rattle.broad_index.proofs.Merging.{head}
+use Rattle.engine_tick.proofs.Differences.{equal, step_less, step_greater, step_equal, left_ended, right_ended}
 use Rattle.broad_index.proofs.Settled.{less_precedes, greater_precedes}
 use Rattle.engine_tick.proofs.contacts.push_without.Goals as goal
 use Rattle.engine_tick.proofs.contacts.push_without.Goals.{in_default, in-len1-up+in_default-right}

@@ -1,7 +1,7 @@
 -- On each axis the lesser coordinate is one of the two.
 use Rattle.std.proofs.Common.{arith}
 use Rattle.std.proofs.lemmas.Int.{ints, clamps}
-use Rattle.hier_grid.proofs.CornerLemmas.{axes}
+use Rattle.fixed_box.proofs.Corners.{axes}
 use Rattle.fixed_box.proofs.Corners.{all_three}
 use Rattle.fixed_box.proofs.Numbers.{test_of_le, le_of_test}
 use Rattle.hier_grid.proofs.hull.lesser.Goals as goal

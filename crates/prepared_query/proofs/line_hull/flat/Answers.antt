@@ -1,14 +1,8 @@
 -- A point is at most itself.
-use Rattle.std.proofs.Common.{Option, Some, None, IsSome, refl}
 use Rattle.std.specs.Cmp.{first_so}
-use Rattle.std.specs.Option.{SomeIff}
-use Rattle.fixed_box.specs.Bounds.{Bounds}
 use Rattle.fixed_box.specs.Point.{is_at_most}
+use Rattle.fixed_box.proofs.Corners.{made}
 use Rattle.prepared_query.proofs.line_hull.flat.Goals as goal
-
-made : (o : Option Bounds) (P : Type 0) (v : Bounds) → SomeIff o P v → P → IsSome o
-made None P v h p = absurd (h p)
-made (Some x) P v h p = refl
 
 pub unwrap-requires : goal.unwrap-requires
 unwrap-requires c =

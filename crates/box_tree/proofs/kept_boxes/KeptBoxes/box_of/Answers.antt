@@ -4,7 +4,7 @@ use Rattle.std.proofs.lemmas.List.{get_or_read}
 use Rattle.std.specs.FinMap.{get}
 use Rattle.slot_lists.specs.SlotMap.{map_of}
 use Rattle.slot_lists.specs.SlotMapLaws.{get_map}
-use Rattle.box_tree.proofs.Fats.{past}
+use Rattle.fixed_box.proofs.Lists.{past}
 use Rattle.box_tree.proofs.kept_boxes.KeptBoxes.box_of.Goals as goal
 
 pub returns-then-slot-len-clause-value : goal.returns-then-slot-len-clause-value

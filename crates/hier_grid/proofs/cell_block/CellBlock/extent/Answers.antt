@@ -8,7 +8,8 @@ use Rattle.fixed_box.specs.declared.point.Point.{Point}
 use Rattle.fixed_box.specs.Point.{is_at_most}
 use Rattle.fixed_box.specs.Space.{space}
 use Rattle.hier_grid.specs.Cells.{cell_at}
-use Rattle.hier_grid.proofs.CornerLemmas.{axes, held_between}
+use Rattle.fixed_box.proofs.Corners.{axes}
+use Rattle.hier_grid.proofs.CornerLemmas.{held_between}
 use Rattle.fixed_box.proofs.Corners.{all_three}
 use Rattle.fixed_box.proofs.Numbers.{test_of_le, le_of_test}
 use Rattle.hier_grid.proofs.cell_block.CellBlock.extent.Goals as goal

@@ -1,19 +1,15 @@
 -- The flat box at a point is one, and it overlaps the boxes that hold the point.
-use Rattle.std.proofs.Common.{◌≡◌, ◌++◌, Option, Some, None, IsSome, IsTrue, Bool, OnOk, subst, refl}
+use Rattle.std.proofs.Common.{◌≡◌, ◌++◌, IsTrue, Bool, OnOk, subst}
 use Rattle.std.specs.Cmp.{first_so}
-use Rattle.std.specs.Option.{SomeIff}
 use Rattle.fixed_box.specs.declared.point.Point.{Point}
 use Rattle.fixed_box.specs.Point.{is_at_most}
 use Rattle.fixed_box.specs.Bounds.{Bounds, meets, holds}
 use Rattle.lane_boxes.specs.Places.{places}
+use Rattle.fixed_box.proofs.Corners.{made}
 use Rattle.lane_boxes.proofs.columns.Columns.scan_point.Goals as goal
 
 abbrev flat : Point → Bounds
 flat at = record { lo = at; hi = at }
-
-made : (o : Option Bounds) (P : Type 0) (v : Bounds) → SomeIff o P v → P → IsSome o
-made None P v h p = absurd (h p)
-made (Some x) P v h p = refl
 
 pub unwrap-spot-requires : goal.unwrap-spot-requires
 unwrap-spot-requires c =

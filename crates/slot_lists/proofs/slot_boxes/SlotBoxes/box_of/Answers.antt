@@ -3,7 +3,7 @@ use Rattle.std.proofs.Common.{arith, sym, ◌∙◌, None, ap}
 use Rattle.std.proofs.lemmas.List.{get_or_read}
 use Rattle.std.specs.FinMap.{get}
 use Rattle.slot_lists.specs.SlotMapLaws.{get_map}
-use Rattle.slot_lists.proofs.SlotCounts.{past}
+use Rattle.fixed_box.proofs.Lists.{past}
 use Rattle.slot_lists.proofs.slot_boxes.SlotBoxes.box_of.Goals as goal
 
 pub returns-then-slot-len : goal.returns-then-slot-len
