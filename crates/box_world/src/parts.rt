@@ -196,7 +196,9 @@ impl<B: BroadPhase + Drop> Parts<B> {
             × IsSound B.bodies B.spent B.exchanges self.new) }
     {
         pairs_law();
-        let mut now = Vec::new(self.alloc);
+        // as many as the last frame had are asked for at once
+        let few = self.pairs.len().min(self.pair_table.last().len());
+        let mut now = Vec::with_capacity(self.alloc, few)?;
         push_pairs(&self.table, &self.pairs, &mut now)?;
         let count = now.len() as u32;
         self.next_events.clear();

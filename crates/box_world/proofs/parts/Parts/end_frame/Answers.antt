@@ -19,7 +19,7 @@ returns-clause-time g c =
     let marks : c.keep.new.self.marks ≡ with_newest (keeping old.pair_table) old.marks.marks = c.keep.ensures.kept
     ∙ ap (λ last. with_newest (keeping last) old.marks.marks) former in
     let last : c.turn_keep.new.self ≡ pairs_of old.table.entries = c.in_ok-former.ensures.kept ∙ c.in_ok-push_pairs.ensures.ok
-    ∙ ap (λ xs. xs ++ pairs_of old.table.entries) c.new-now.ensures.items in
+    ∙ ap (λ xs. xs ++ pairs_of old.table.entries) c.in_ok-now.ensures.items in
     let now = record w { last = c.turn_keep.new.self; frames = old.frames + 1; exchanges = 0 + exchanges c.clear_exchanges.new.self } in
     same_time now (framed w) (worlds_back now (reverse c.keep.new.self.marks)) (worlds_back w (reverse old.marks.marks))
     (same_world old.table old.table c.turn_keep.new.self (pairs_of old.table.entries) (old.frames + 1) (old.frames + 1)
