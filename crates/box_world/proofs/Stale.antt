@@ -17,7 +17,8 @@ change_one : (handle : Handle) (change : Live → Live) (entry : Live) (later : 
 change_one handle change entry later true is rest h = absurd (cc)
 change_one handle change entry later false is rest h = ap (λ l. entry ∷ l) (rest h)
 
-pub unchanged : (handle : Handle) (change : Live → Live) (entries : List Live) → is_some (entry_at handle entries) ≡ false → changed handle change entries ≡ entries
+pub unchanged : (handle : Handle) (change : Live → Live) (entries : List Live) → is_some (entry_at handle entries) ≡ false
+    → changed handle change entries ≡ entries
 unchanged handle change [] h = refl
 unchanged handle change (entry ∷ later) h = change_one handle change entry later (has handle entry) refl (unchanged handle change later) h
 

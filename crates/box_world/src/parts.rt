@@ -93,7 +93,8 @@ impl<B: BroadPhase + Drop> Parts<B> {
         requires countable { self.old.earlier + B.exchanges self.old.index ≤ MOST_EXCHANGES }
         requires room { 0 < self.old.marks.spare }
         ensures handle { IfOk result (λ handle. handle ≡ next_handle self.old.table) }
-        ensures added { OnOk result (IsChanged B.bodies B.spent B.exchanges (added B.COUNTS (world_in B.exchanges self.old) body masks group) self.old self.new) }
+        ensures added { OnOk result (IsChanged B.bodies B.spent B.exchanges (added B.COUNTS (world_in B.exchanges self.old) body masks group) self.old
+            self.new) }
     {
         undo_laws();
         undone_laws();
@@ -189,7 +190,8 @@ impl<B: BroadPhase + Drop> Parts<B> {
         requires pairs { self.old.pairs.items ≡ near (bodies_of self.old.table.entries) }
         requires frames { self.old.frames < MOST_COUNTED }
         ensures count { IfOk result (λ count. count ≡ length (pairs_of self.old.table.entries)) }
-        ensures time { OnOk result (timeline_in B.exchanges self.new ≡ record (timeline_in B.exchanges self.old) { now = framed (world_in B.exchanges self.old) }) }
+        ensures time { OnOk result (timeline_in B.exchanges self.new
+            ≡ record (timeline_in B.exchanges self.old) { now = framed (world_in B.exchanges self.old) }) }
         ensures events { OnOk result (self.new.events.items ≡ events self.old.pair_table (pairs_of self.old.table.entries)) }
         ensures sound { OnOk result (IsSound B.bodies B.spent B.exchanges self.new) }
         ensures err { OnErr result ((timeline_in B.exchanges self.new ≡ timeline_in B.exchanges self.old) × (self.new.events ≡ self.old.events)

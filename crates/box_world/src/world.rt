@@ -77,7 +77,8 @@ impl<B: BroadPhase + Drop> BoxWorld<B> {
     /// where `MOST_COUNTED` were given or more than `MOST_EXCHANGES` exchanges counted.
     #[tactic(auto, using(crate::proofs::Refused::may_add))]
     pub fn add(&mut self, body: FBox, masks: Masks, group: Group) -> Result<Handle, Refusal>
-        ensures answer { Answers (add_refusal self.old.time.now) (with_world self.old (added B.COUNTS self.old.time.now body masks group)) result self.old self.new }
+        ensures answer { Answers (add_refusal self.old.time.now) (with_world self.old (added B.COUNTS self.old.time.now body masks group)) result
+            self.old self.new }
         ensures handle { IfOk result (λ handle. handle ≡ next_handle self.old.time.now.table) }
     {
         if self.spent {
@@ -102,7 +103,8 @@ impl<B: BroadPhase + Drop> BoxWorld<B> {
     /// The handle's box gets another body. `Stale` comes where no live box has the handle, and `Exhausted` where more than
     /// `MOST_EXCHANGES` exchanges were counted.
     pub fn shift(&mut self, handle: Handle, body: FBox) -> Result<(), Refusal>
-        ensures answer { Answers (shift_refusal self.old.time.now handle) (with_world self.old (moved B.COUNTS self.old.time.now handle body)) result self.old self.new }
+        ensures answer { Answers (shift_refusal self.old.time.now handle) (with_world self.old (moved B.COUNTS self.old.time.now handle body)) result
+            self.old self.new }
     {
         if self.spent {
             return Err(Refusal::NoMemory);
@@ -127,7 +129,8 @@ impl<B: BroadPhase + Drop> BoxWorld<B> {
     /// The handle's box gets other masks. `Stale` comes where no live box has the handle. It takes memory only where a mark is
     /// held, and never spends the world.
     pub fn mask(&mut self, handle: Handle, masks: Masks) -> Result<(), Refusal>
-        ensures answer { Answers (change_refusal self.old.time.now handle) (with_world self.old (masked self.old.time.now handle masks)) result self.old self.new }
+        ensures answer { Answers (change_refusal self.old.time.now handle) (with_world self.old (masked self.old.time.now handle masks)) result
+            self.old self.new }
         ensures same { OnErr result (self.new ≡ self.old) }
     {
         if self.spent {

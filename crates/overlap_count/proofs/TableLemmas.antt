@@ -83,7 +83,8 @@ counts_changed by_slot a b v of_slot lt in_rows h x y = elim (cases_eq y b) [
           ∙ ap (λ n. cond (eqb x a) v n) (sym (count_is by_slot x b lower))
           ∙ ap (λ t. cond t v (count_of by_slot x b)) (sym (ap (λ t. eqb x a && t) (eq-eqb b b refl) ∙ and_true (eqb x a)))
       | inr higher ↦ count_not (set by_slot b of_slot) x b higher
-          ∙ sym (ap (λ t. cond t v (count_of by_slot x b)) (and_left (eqb x a) (eqb b b) (ne_eqb x a (λ e. absurd (omega arith)))) ∙ count_not by_slot x b higher)
+          ∙ sym (ap (λ t. cond t v (count_of by_slot x b)) (and_left (eqb x a) (eqb b b) (ne_eqb x a (λ e. absurd (omega arith))))
+          ∙ count_not by_slot x b higher)
     ]
 
 pub marks_changed : (sets : List (List ℕ)) (a b m : ℕ) (bits : List ℕ) → a < length sets → Changed (get_or sets a []) bits b m
@@ -152,13 +153,15 @@ list_changes by_slot sets now a b v of_slot t same lt small few h m =
 
 -- ---- a list and a set that are read
 
-pub list_read : (by_slot sets : List (List ℕ)) (b : ℕ) (was : List ℕ) → IsTable by_slot sets → b < SLOTS → was ≡ get_or by_slot b was → was ≡ get_or by_slot b []
+pub list_read : (by_slot sets : List (List ℕ)) (b : ℕ) (was : List ℕ) → IsTable by_slot sets → b < SLOTS → was ≡ get_or by_slot b was
+    → was ≡ get_or by_slot b []
 list_read by_slot sets b was t small read = get_or_read by_slot b was (omega (arith, t.all)) read []
 
 pub set_read : (by_slot sets : List (List ℕ)) (a : ℕ) (was : List ℕ) → IsTable by_slot sets → a < SLOTS → was ≡ get_or sets a was → was ≡ get_or sets a []
 set_read by_slot sets a was t small read = get_or_read sets a was (omega (arith, t.all_sets)) read []
 
-pub read_count : (by_slot sets now : List (List ℕ)) (a b : ℕ) (was : List ℕ) → IsTable by_slot sets → by_slot ≡ now → a < b → b < SLOTS → was ≡ get_or by_slot b was
+pub read_count : (by_slot sets now : List (List ℕ)) (a b : ℕ) (was : List ℕ) → IsTable by_slot sets → by_slot ≡ now → a < b → b < SLOTS
+    → was ≡ get_or by_slot b was
     → count_of now a b ≡ get_or was a 0
 read_count by_slot sets now a b was t same lt small read =
     ap (λ l. count_of l a b) (sym same) ∙ count_is by_slot a b lt ∙ ap (λ l. get_or l a 0) (sym (list_read by_slot sets b was t small read))
@@ -171,7 +174,8 @@ read_mark by_slot sets now a b n was t same small read count =
 -- ---- a count rises or falls, or stays, and is not 3 before or after
 
 -- the list that a call looks at is that which the next one changes
-same_list : (by_slot sets : List (List ℕ)) (b : ℕ) (first was : List ℕ) → IsTable by_slot sets → b < SLOTS → first ≡ get_or by_slot b first → was ≡ get_or by_slot b was
+same_list : (by_slot sets : List (List ℕ)) (b : ℕ) (first was : List ℕ) → IsTable by_slot sets → b < SLOTS → first ≡ get_or by_slot b first
+    → was ≡ get_or by_slot b was
     → first ≡ was
 same_list by_slot sets b first was t small read_first read = list_read by_slot sets b first t small read_first ∙ sym (list_read by_slot sets b was t small read)
 
@@ -180,14 +184,16 @@ not_equal n m h e = true≢false (sym h ∙ ap not (eq-eqb n m e))
 
 -- one count changes where the list has its place, and the set stays
 in_place : (by_slot sets now : List (List ℕ)) (a b v w : ℕ) (was of_slot : List ℕ) → IsTable by_slot sets → by_slot ≡ now → a < b → b < SLOTS → v ≤ 3
-    → mark (count_of now a b) ≡ mark v → was ≡ get_or by_slot b was → a < length was → of_slot ≡ set was a w → w ≡ v → IsChanged (set by_slot b of_slot) sets now a b v
+    → mark (count_of now a b) ≡ mark v → was ≡ get_or by_slot b was → a < length was → of_slot ≡ set was a w → w ≡ v
+    → IsChanged (set by_slot b of_slot) sets now a b v
 in_place by_slot sets now a b v w was of_slot t same lt small few m read within is value =
     list_changes by_slot sets now a b v of_slot t same lt small few
     (subst (λ l. Changed l of_slot a v) (list_read by_slot sets b was t small read)
     (subst (λ l. Changed was l a v) (sym (is ∙ ap (set was a) value)) (set_changes was a v within)))
     (t.marked a b ∙ ap (λ l. mark (count_of l a b)) same ∙ m)
 
-pub raised_in_place : (rises : Bool) (by_slot sets now : List (List ℕ)) (a b : ℕ) (first was of_slot : List ℕ) → IsTable by_slot sets → by_slot ≡ now → a < b → b < SLOTS
+pub raised_in_place : (rises : Bool) (by_slot sets now : List (List ℕ)) (a b : ℕ) (first was of_slot : List ℕ) → IsTable by_slot sets → by_slot ≡ now
+    → a < b → b < SLOTS
     → (rises ≡ true → count_of now a b < 3) → first ≡ get_or by_slot b first → (ltb a (length first) && not (rises && eqb (get_or first a 0) 2)) ≡ true
     → was ≡ get_or by_slot b was → of_slot ≡ set was a (cond rises (get_or was a 0 + 1) (get_or was a 0))
     → IsChanged (set by_slot b of_slot) sets now a b (cond rises (count_of now a b + 1) (count_of now a b))
@@ -211,7 +217,8 @@ raised_in_place rises by_slot sets now a b first was of_slot t same lt small roo
         no_mark (count_of now a b) (λ e. absurd (omega (arith, e, room refl))) ∙ sym (no_mark (count_of now a b + 1) (λ e. other (omega (arith, e))))
     mark_is false room h = refl
 
-pub lowered_in_place : (lowers : Bool) (by_slot sets now : List (List ℕ)) (a b : ℕ) (first was of_slot : List ℕ) → IsTable by_slot sets → by_slot ≡ now → a < b → b < SLOTS
+pub lowered_in_place : (lowers : Bool) (by_slot sets now : List (List ℕ)) (a b : ℕ) (first was of_slot : List ℕ) → IsTable by_slot sets → by_slot ≡ now
+    → a < b → b < SLOTS
     → (lowers ≡ true → count_of now a b ≢ 0) → first ≡ get_or by_slot b first → (ltb a (length first) && not (lowers && eqb (get_or first a 0) 3)) ≡ true
     → was ≡ get_or by_slot b was → of_slot ≡ set was a (cond lowers (get_or was a 0 - 1) (get_or was a 0))
     → IsChanged (set by_slot b of_slot) sets now a b (cond lowers (count_of now a b - 1) (count_of now a b))
@@ -271,7 +278,8 @@ raised_full by_slot sets now a b first was of_slot has bits t same lt small read
 
 -- it doesn't
 pub raised : (by_slot sets now : List (List ℕ)) (a b n : ℕ) (first was of_slot : List ℕ) → IsTable by_slot sets → by_slot ≡ now → a < b → b < SLOTS
-    → count_of now a b < 3 → first ≡ get_or by_slot b first → n ≡ get_or first a 0 → n ≢ 2 → was ≡ get_or by_slot b was → Changed was of_slot a (get_or was a 0 + 1)
+    → count_of now a b < 3 → first ≡ get_or by_slot b first → n ≡ get_or first a 0 → n ≢ 2 → was ≡ get_or by_slot b was
+    → Changed was of_slot a (get_or was a 0 + 1)
     → IsChanged (set by_slot b of_slot) sets now a b (count_of now a b + 1)
 raised by_slot sets now a b n first was of_slot t same lt small room read_first first_is other read h =
     let slot : a < SLOTS = omega (arith, lt, small) in
@@ -286,7 +294,8 @@ raised by_slot sets now a b n first was of_slot t same lt small room read_first 
     list_changes by_slot sets now a b (count_of now a b + 1) of_slot t same lt small (omega (arith, room)) h' m
 
 -- after either answer it is a table
-pub raised_table : {T E : Type 0} (r : Result T E) (by_slot sets now : List (List ℕ)) (a b n : ℕ) (first was of_slot : List ℕ) → IsTable by_slot sets → by_slot ≡ now
+pub raised_table : {T E : Type 0} (r : Result T E) (by_slot sets now : List (List ℕ)) (a b n : ℕ) (first was of_slot : List ℕ) → IsTable by_slot sets
+    → by_slot ≡ now
     → a < b → b < SLOTS → count_of now a b < 3 → first ≡ get_or by_slot b first → n ≡ get_or first a 0 → n ≢ 2 → was ≡ get_or by_slot b was
     → OnOk r (Changed was of_slot a (get_or was a 0 + 1)) → OnErr r (of_slot ≡ was) → IsTable (set by_slot b of_slot) sets
 raised_table (Ok x) by_slot sets now a b n first was of_slot t same lt small room read_first first_is other read h e =
@@ -303,11 +312,14 @@ same_sets by_slot sets a was bits t small read is =
 -- ---- a count falls
 
 -- the list after it
-lower_changes : (of_slot : List ℕ) (place n : ℕ) → get_or of_slot place 0 ≡ n → n ≢ 0 → Changed of_slot (set of_slot place (get_or of_slot place 0 - 1)) place (n - 1)
+lower_changes : (of_slot : List ℕ) (place n : ℕ) → get_or of_slot place 0 ≡ n → n ≢ 0
+    → Changed of_slot (set of_slot place (get_or of_slot place 0 - 1)) place (n - 1)
 lower_changes of_slot place n is some =
-    subst (λ m. Changed of_slot (set of_slot place (m - 1)) place (n - 1)) (sym is) (set_changes of_slot place (n - 1) (within of_slot place (λ none. some (sym is ∙ none))))
+    subst (λ m. Changed of_slot (set of_slot place (m - 1)) place (n - 1)) (sym is)
+    (set_changes of_slot place (n - 1) (within of_slot place (λ none. some (sym is ∙ none))))
 
-list_lowered : (by_slot sets now : List (List ℕ)) (a b : ℕ) (was of_slot : List ℕ) → IsTable by_slot sets → by_slot ≡ now → a < b → b < SLOTS → count_of now a b ≢ 0
+list_lowered : (by_slot sets now : List (List ℕ)) (a b : ℕ) (was of_slot : List ℕ) → IsTable by_slot sets → by_slot ≡ now → a < b → b < SLOTS
+    → count_of now a b ≢ 0
     → was ≡ get_or by_slot b was → of_slot ≡ set was a (get_or was a 0 - 1) → Changed (get_or by_slot b []) of_slot a (count_of now a b - 1)
 list_lowered by_slot sets now a b was of_slot t same lt small some read is =
     subst (λ l. Changed l of_slot a (count_of now a b - 1)) (list_read by_slot sets b was t small read)
@@ -331,7 +343,8 @@ lowered_full by_slot sets now a b first was of_slot has bits t same lt small som
 
 -- it wasn't
 pub lowered : (by_slot sets now : List (List ℕ)) (a b n : ℕ) (first was of_slot : List ℕ) → IsTable by_slot sets → by_slot ≡ now → a < b → b < SLOTS
-    → count_of now a b ≢ 0 → first ≡ get_or by_slot b first → n ≡ get_or first a 0 → n ≢ 3 → was ≡ get_or by_slot b was → of_slot ≡ set was a (get_or was a 0 - 1)
+    → count_of now a b ≢ 0 → first ≡ get_or by_slot b first → n ≡ get_or first a 0 → n ≢ 3 → was ≡ get_or by_slot b was
+    → of_slot ≡ set was a (get_or was a 0 - 1)
     → IsChanged (set by_slot b of_slot) sets now a b (count_of now a b - 1)
 lowered by_slot sets now a b n first was of_slot t same lt small some read_first first_is other read is =
     let not_three : count_of now a b ≢ 3 = λ three. other (first_is ∙ sym (read_count by_slot sets now a b first t same lt small read_first) ∙ three) in
@@ -455,7 +468,8 @@ none_yet by_slot slot x y = elim (cases_Bool (eqb x slot && ltb y (slot + 1))) [
 ]
 
 -- one list more has nothing at the slot's place
-pub counts_lost : (by_slot now : List (List ℕ)) (slot b : ℕ) (was of_slot : List ℕ) → slot < b → b < length by_slot → was ≡ get_or by_slot b was → of_slot ≡ set was slot 0
+pub counts_lost : (by_slot now : List (List ℕ)) (slot b : ℕ) (was of_slot : List ℕ) → slot < b → b < length by_slot → was ≡ get_or by_slot b was
+    → of_slot ≡ set was slot 0
     → ((x y : ℕ) → count_of by_slot x y ≡ cond (eqb x slot && ltb y b) 0 (count_of now x y))
     → (x y : ℕ) → count_of (set by_slot b of_slot) x y ≡ cond (eqb x slot && ltb y (b + 1)) 0 (count_of now x y)
 counts_lost by_slot now slot b was of_slot lt within read is h x y =

@@ -148,7 +148,8 @@ impl Marks {
         requires newest { (older : List Mark) (mark : Mark) → self.old.marks ≡ older ++ mark ∷ [] → IsReturn mark table.old }
         ensures none { (result ≡ Ok None) ↔ (self.old.marks ≡ []) }
         ensures same { result ≡ Ok None → (self.new ≡ self.old) × (index.new ≡ index.old) × (table.new ≡ table.old) × (pairs.new ≡ pairs.old) }
-        ensures gone_back { (older : List Mark) (mark : Mark) → self.old.marks ≡ older ++ mark ∷ [] → IfOk result (λ restored. IsBack older mark restored self.new.marks table.old table.new pairs.old pairs.new) }
+        ensures gone_back { (older : List Mark) (mark : Mark) → self.old.marks ≡ older ++ mark ∷ [] →
+            IfOk result (λ restored. IsBack older mark restored self.new.marks table.old table.new pairs.old pairs.new) }
         ensures sound { OnOk result (B.spent index.new ≡ false) }
         ensures boxes { OnOk result (B.bodies index.new ≡ bodies_of table.new.entries) }
         ensures table { self.old.marks ≢ [] → IsTable table.new }
