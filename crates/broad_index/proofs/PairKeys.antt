@@ -7,10 +7,13 @@ use Rattle.std.specs.Cmp.{nat_cmp_is, ranked}
 
 pub key_cmp : (a b c d : ℕ) → b < 4294967296 → d < 4294967296
     → nat_cmp (a * 4294967296 + b) (c * 4294967296 + d) ≡ ordering_then (nat_cmp a c) (nat_cmp b d)
-key_cmp a b c d small other = sym (nat_cmp_is (a * 4294967296 + b) (c * 4294967296 + d) (ordering_then (nat_cmp a c) (nat_cmp b d)) (first (nat_cmp a c) (ranked a c (nat_cmp a c) refl)))
+key_cmp a b c d small other =
+    sym (nat_cmp_is (a * 4294967296 + b) (c * 4294967296 + d) (ordering_then (nat_cmp a c) (nat_cmp b d))
+    (first (nat_cmp a c) (ranked a c (nat_cmp a c) refl)))
   where
     second : (s : Ordering) → a ≡ c → MatchOrdering s (b < d) (b ≡ d) (d < b)
-        → MatchOrdering s (a * 4294967296 + b < c * 4294967296 + d) (a * 4294967296 + b ≡ c * 4294967296 + d) (c * 4294967296 + d < a * 4294967296 + b)
+        → MatchOrdering s (a * 4294967296 + b < c * 4294967296 + d) (a * 4294967296 + b ≡ c * 4294967296 + d)
+        (c * 4294967296 + d < a * 4294967296 + b)
     second Less same h = omega (arith, same, h)
     second Equal same h = omega (arith, same, h)
     second Greater same h = omega (arith, same, h)

@@ -64,6 +64,19 @@ nat_less x y e = let l : x < y = ranked x y Less (sym e) in grind (arith, nat_te
 pub slots_settled : (xs : List ℕ) → IsSorted nat_cmp xs → slots_rise (dedup eqb xs) ≡ true
 slots_settled xs sorted = rises_settled nat_cmp nat_lt nat_less nat_cmp_total eqb (λ x y. sym (eq_cmp x y)) xs sorted
 
+-- Pairs are compared field by field, as they are declared: first by `b`.
+abbrev pub declared_same : Pair → Pair → Bool
+declared_same p q = p.b == q.b && p.a == q.a
+
+and_turned : (s t : Bool) → (s && t) ≡ (t && s)
+and_turned true true = refl
+and_turned true false = refl
+and_turned false true = refl
+and_turned false false = refl
+
+pub same_either_way : declared_same ≡ same_pair
+same_either_way = λ i p q. and_turned (p.b == q.b) (p.a == q.a) i
+
 pair_ties : (p q : Pair) → same_pair p q ≡ eq_by_cmp pair_cmp p q
 pair_ties p q =
     ap (λ b. b && (p.b == q.b)) (sym (eq_cmp p.a q.a)) ∙ ap (λ b. eq_by_cmp nat_cmp p.a q.a && b) (sym (eq_cmp p.b q.b))

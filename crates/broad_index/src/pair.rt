@@ -10,8 +10,9 @@ use std::cmp::Ordering;
 /// Two slots whose boxes meet, `a` below `b`.
 #[derive(Clone, Copy, Debug, PartialEq, Eq)]
 pub struct Pair {
-    pub a: u32,
+    // before `a`, so that where the lowest byte of a number comes first, both are read as the key that they are sorted by
     pub b: u32,
+    pub a: u32,
 }
 
 impl Pair {

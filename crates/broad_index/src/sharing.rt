@@ -1,7 +1,7 @@
 ghost use Rattle.std.specs.Prelude.{◌≡◌, ◌↔◌, ◌≤◌, true, count_by};
 
-/// From how many sought slots on several threads are likely to find their pairs sooner than one. A thread takes some 100
-/// microseconds to start, and over a few thousand boxes four were slower than one.
+/// From how many sought slots on several threads are likely to find their pairs sooner than one. Starting four takes some
+/// 80 microseconds, one runs some 40 after it was asked for, and over a few thousand boxes four were slower than one.
 pub const FEWEST_SOUGHT: usize = 4_096;
 
 /// Whether so many slots are marked that several threads are likely to find their pairs sooner than one.

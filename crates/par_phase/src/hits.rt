@@ -9,7 +9,7 @@ use std::thread::Threads;
 use work_pieces::by_pieces;
 
 // From how many queries on they are worth several threads: a query over thousands of boxes takes some 2 to 5 microseconds,
-// and a thread takes some 100 to start.
+// starting four threads some 80, and one runs some 40 after it was asked for.
 const FEWEST_SHARED: usize = 128;
 
 /// The slots that each query finds, in the order of the queries: list `i` is what `hits` appends for query `i`.

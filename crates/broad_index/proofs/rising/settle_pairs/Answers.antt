@@ -5,11 +5,13 @@ use Rattle.std.proofs.lemmas.List.Filters.{dedup_is}
 use Rattle.broad_index.specs.Near.{rises}
 use Rattle.broad_index.specs.Members.{same_pair, has_pair}
 use Rattle.broad_index.proofs.OneRising.{is_same}
-use Rattle.broad_index.proofs.Settled.{any_settled, pairs_settled}
+use Rattle.broad_index.proofs.Settled.{declared_same, same_either_way, any_settled, pairs_settled}
 use Rattle.broad_index.proofs.rising.settle_pairs.Goals as goal
 
 left : (c : goal.After-dedup) → c.dedup.new.self.items ≡ dedup same_pair c.sort_unstable.new.self.items
-left c = dedup_is same_pair c.sort_unstable.new.self.items c.dedup.new.self.items c.dedup.ensures.filtered
+left c =
+    dedup_is declared_same c.sort_unstable.new.self.items c.dedup.new.self.items c.dedup.ensures.filtered
+    ∙ ap (λ same. dedup same c.sort_unstable.new.self.items) same_either_way
 
 pub returns-clause-members : goal.returns-clause-members
 returns-clause-members c p =
