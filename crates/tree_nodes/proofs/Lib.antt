@@ -20,5 +20,6 @@ mod Rebalanced
 mod Removing
 mod ResizedTrees
 mod Rotations
+mod ShownSlabs
 mod TreeLaws
 mod Views

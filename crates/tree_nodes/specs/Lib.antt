@@ -5,6 +5,7 @@ pub mod Path
 pub mod Rebuilt
 pub mod Resized
 pub mod Rotation
+pub mod Shown
 pub mod Stored
 pub mod Tree
 pub mod TreeCode

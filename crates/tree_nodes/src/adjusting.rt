@@ -6,16 +6,14 @@ ghost use Rattle.tree_nodes.specs.Rotation.{ToAdjust, ToRebalance, rebalanced};
 ghost use Rattle.tree_nodes.specs.Stored.{Holds, StandsAt, Apart, KeepsKeys};
 ghost use Rattle.tree_nodes.specs.Tree.{Tree, count_of};
 
-use crate::NodeView;
 use crate::kin::Kin;
-use crate::node_slab::height_at;
+use crate::node_slab::{NodeSlab, height_at};
 use crate::refitting::refit;
 use crate::rotation::rotate_up;
-use slab::Slab;
 
 // Puts two trees below a node and rebalances it, for a call that added or dropped a leaf in one of them.
 pub(crate) fn adjust(
-    slab: &mut Slab<NodeView>,
+    slab: &mut NodeSlab,
     kin: &mut [Kin],
     at: usize,
     left: usize,
@@ -33,13 +31,7 @@ pub(crate) fn adjust(
 }
 
 // Puts two trees below a node whose heights differ by at most two, and rotates where they differ by two.
-fn rebalance(
-    slab: &mut Slab<NodeView>,
-    kin: &mut [Kin],
-    at: usize,
-    left: usize,
-    right: usize,
-) -> usize
+fn rebalance(slab: &mut NodeSlab, kin: &mut [Kin], at: usize, left: usize, right: usize) -> usize
     requires { (l r : Tree) × ToRebalance slab.old at left right l r }
     ensures there { (l r : Tree) → ToRebalance slab.old at left right l r →
         StandsAt slab.new result (rebalanced at l r) }

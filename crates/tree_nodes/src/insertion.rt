@@ -9,15 +9,14 @@ ghost use Rattle.fixed_box.specs.Bounds.{Bounds};
 use crate::adjusting::adjust;
 use crate::kin::Kin;
 use crate::nearness::by_distance;
-use crate::node_slab::{bounds_at, height_at};
+use crate::node_slab::{NodeSlab, bounds_at, height_at};
 use crate::refitting::refit;
 use crate::{MOST_NODES, NodeView};
 use fixed_box::{FBox, SLOTS};
-use slab::Slab;
 
 // Puts a leaf into the slab and its tree. Answers the leaf and the new root.
 pub(crate) fn insert_leaf(
-    slab: &mut Slab<NodeView>,
+    slab: &mut NodeSlab,
     kin: &mut [Kin],
     root: Option<usize>,
     slot: u32,
@@ -33,11 +32,11 @@ pub(crate) fn insert_leaf(
         (leaves_in (tree_of slab.new (Some result.1))) }
     ensures capacity { slab.new.capacity ≡ slab.old.capacity }
 {
-    let leaf = slab.insert_reserved(NodeView::Leaf { slot, fat });
+    let leaf = slab.insert_reserved(slot, fat);
     match root {
         None => (leaf, leaf),
         Some(at) => {
-            let new_parent = slab.insert_reserved(NodeView::Leaf { slot, fat });
+            let new_parent = slab.insert_reserved(slot, fat);
             let (top, _changed) = insert_below(slab, kin, at, leaf, new_parent, &fat);
             (leaf, top)
         }
@@ -47,7 +46,7 @@ pub(crate) fn insert_leaf(
 // Puts a leaf into a tree, below the nearer child at each node, with the new parent over it. Answers the new top, and
 // whether its number, bounds or height may be others now: where they stay, all above it stays as it is.
 fn insert_below(
-    slab: &mut Slab<NodeView>,
+    slab: &mut NodeSlab,
     kin: &mut [Kin],
     at: usize,
     leaf: usize,
@@ -64,7 +63,7 @@ fn insert_below(
         count_of t k + (one leaf k + one new_parent k) ≡ 0 → get slab.new k ≡ get slab.old k }
     ensures keys { KeepsKeys slab.old slab.new }
 {
-    match slab[at] {
+    match slab.view(at) {
         NodeView::Leaf { slot: _, fat: _ } => {
             refit(slab, kin, new_parent, at, leaf);
             (new_parent, true)
@@ -87,7 +86,7 @@ fn insert_below(
 }
 
 // Whether the node under a number has another number, hull or height than these.
-fn is_other(slab: &Slab<NodeView>, top: usize, at: usize, hull: &FBox, height: u8) -> bool
+fn is_other(slab: &NodeSlab, top: usize, at: usize, hull: &FBox, height: u8) -> bool
     requires { (t : Tree) × StandsAt slab.now top t }
     ensures { (t : Tree) → StandsAt slab.now top t → result ≡ false → IsSame t at hull.now height }
 {

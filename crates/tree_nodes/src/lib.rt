@@ -11,6 +11,7 @@ mod leaf_key;
 mod median;
 mod moving;
 mod nearness;
+mod node;
 mod node_slab;
 mod node_view;
 mod nodes;
@@ -22,6 +23,7 @@ mod resizing;
 mod rotation;
 
 pub use laws::tree_laws;
+pub use node::{Node, Role};
 pub use node_view::NodeView;
 pub use nodes::Nodes;
 

@@ -6,19 +6,18 @@ ghost use Rattle.tree_nodes.specs.Stored.{Holds, SoundIn, tree_of, StandsAt, Apa
 ghost use Rattle.tree_nodes.specs.Tree.{Tree, bounds, count_of, IsLeafOf};
 
 use crate::kin::Kin;
-use crate::node_slab::{bounds_at, replace};
+use crate::node_slab::{NodeSlab, bounds_at};
 use crate::path::{Path, path_to};
 use crate::refitting::refit;
 use crate::resizing::resize;
 use crate::{MOST_HEIGHT, NodeView};
 use fixed_box::FBox;
-use slab::Slab;
 use smallvec::SmallVec;
 use std::alloc::Global;
 
 // Gives a leaf of the slab's tree another box, and refits the nodes above it.
 pub(crate) fn move_in_place(
-    slab: &mut Slab<NodeView>,
+    slab: &mut NodeSlab,
     kin: &mut [Kin],
     root: Option<usize>,
     node: usize,
@@ -44,7 +43,7 @@ pub(crate) fn move_in_place(
 #[cold]
 #[inline(never)]
 fn move_from_root(
-    slab: &mut Slab<NodeView>,
+    slab: &mut NodeSlab,
     kin: &mut [Kin],
     root: Option<usize>,
     node: usize,
@@ -67,13 +66,7 @@ fn move_from_root(
 
 // Gives the leaf at the end of a path another box, and refits the nodes above it, up to one whose hull stays. Answers
 // whether the bounds of the top may be others now.
-fn move_below(
-    slab: &mut Slab<NodeView>,
-    kin: &mut [Kin],
-    at: usize,
-    path: &[usize],
-    fat: &FBox,
-) -> bool
+fn move_below(slab: &mut NodeSlab, kin: &mut [Kin], at: usize, path: &[usize], fat: &FBox) -> bool
     requires { (node : ℕ) × (t : Tree) × ToMove slab.old at node path.now t }
     ensures there { (node : ℕ) (t : Tree) → ToMove slab.old at node path.now t →
         StandsAt slab.new at (moved node fat.now t) }
@@ -85,9 +78,9 @@ fn move_below(
         get slab.new k ≡ get slab.old k }
     ensures keys { KeepsKeys slab.old slab.new }
 {
-    match slab[at] {
-        NodeView::Leaf { slot, fat: _ } => {
-            replace(slab, at, NodeView::Leaf { slot, fat: *fat });
+    match slab.view(at) {
+        NodeView::Leaf { slot: _, fat: _ } => {
+            slab.write_bounds(at, fat);
             true
         }
         NodeView::Inner {

@@ -2,19 +2,12 @@ ghost use Rattle.std.specs.Prelude.{◌≡◌, ◌<◌, ◌^◌, ◌⊎◌};
 ghost use Rattle.tree_nodes.specs.Stored.{StandsAt};
 ghost use Rattle.tree_nodes.specs.Tree.{Tree};
 
-use crate::NodeView;
-use crate::node_slab::bounds_at;
+use crate::node_slab::{NodeSlab, bounds_at};
 use fixed_box::FBox;
-use slab::Slab;
 
 // Of two trees the one whose centre lies nearer to that of a box, and the other: the sum of the distances on the three axes
 // decides, as in the dynamic tree of the Bullet engine. It is cheaper to tell than growth.
-pub(crate) fn by_distance(
-    slab: &Slab<NodeView>,
-    left: usize,
-    right: usize,
-    fat: &FBox,
-) -> (usize, usize)
+pub(crate) fn by_distance(slab: &NodeSlab, left: usize, right: usize, fat: &FBox) -> (usize, usize)
     requires { (f g : Tree) × StandsAt slab.now left f × StandsAt slab.now right g }
     ensures { (result ≡ (left, right)) ⊎ (result ≡ (right, left)) }
 {

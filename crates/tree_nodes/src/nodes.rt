@@ -4,18 +4,18 @@ ghost use Rattle.std.specs.List.Sorted.{IsPermutation};
 ghost use Rattle.fixed_box.specs.Bounds.{Bounds};
 ghost use Rattle.tree_nodes.specs.Tree.{top, height_in, view_in, leaves_in, IsTreeIn, IsLeafOf, ChildrenShown};
 ghost use Rattle.tree_nodes.specs.Moved.{moved, leaf_moved};
+ghost use Rattle.tree_nodes.specs.Shown.{shown};
 ghost use Rattle.tree_nodes.specs.declared.node_view.NodeView.TheVariants.{Leaf as LeafNode};
 
 use crate::insertion::insert_leaf;
 use crate::kin::Kin;
 use crate::leaf_key::LeafKey;
 use crate::moving::move_in_place;
-use crate::node_slab::height_at;
+use crate::node_slab::{NodeSlab, height_at};
 use crate::rebuilding::rebuild_tree;
 use crate::removal::remove_leaf;
-use crate::{MOST_HEIGHT, MOST_NODES, NodeView};
+use crate::{MOST_HEIGHT, MOST_NODES, Node, NodeView};
 use fixed_box::{FBox, NoMemory, SLOTS};
-use slab::Slab;
 use std::alloc::Global;
 use std::marker::Model;
 
@@ -32,7 +32,7 @@ use std::marker::Model;
 #[derive(Drop)]
 pub struct Nodes {
     // Each node is a key of the slab.
-    slab: Slab<NodeView>,
+    slab: NodeSlab,
     root: Option<usize>,
     alloc: Global,
     // For each node where its parent and its sibling stand.
@@ -66,7 +66,7 @@ impl Nodes {
         ensures { IfOk result (λ nodes. nodes ≡ None) }
     {
         Ok(Nodes {
-            slab: Slab::with_capacity(alloc, MOST_NODES)?,
+            slab: NodeSlab::new(alloc)?,
             root: None,
             alloc,
             kin: vec![in alloc; Kin::new(0, 0); MOST_NODES]?,
@@ -189,16 +189,16 @@ impl Nodes {
         ensures children { ChildrenShown self.now result }
         ensures tree { IsTreeIn self.now }
     {
-        *self.node(node)
+        self.node(node).view()
     }
 
     /// The same in its place, for a search that looks at many nodes: it reads of each no more than it needs.
-    pub fn node(&self, node: usize) -> &NodeView
+    pub fn node(&self, node: usize) -> &Node
         requires { IsSome (view_in self.now node) }
-        ensures value { view_in self.now node ≡ Some result.now }
-        ensures children { ChildrenShown self.now result.now }
+        ensures value { view_in self.now node ≡ Some (shown result.now) }
+        ensures children { ChildrenShown self.now (shown result.now) }
         ensures tree { IsTreeIn self.now }
     {
-        &self.slab[node]
+        self.slab.node(node)
     }
 }

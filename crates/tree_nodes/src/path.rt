@@ -6,16 +6,16 @@ ghost use Rattle.tree_nodes.specs.declared.node_view.NodeView.TheVariants.{Leaf 
 
 use crate::kin::Kin;
 use crate::laws::tree_laws;
+use crate::node_slab::NodeSlab;
 use crate::{MOST_HEIGHT, NodeView};
 use fixed_box::FBox;
-use slab::Slab;
 use smallvec::SmallVec;
 
 // Node numbers on the way between the root and a leaf, kept in place: no tree is so high.
 pub(crate) type Path = SmallVec<usize, 32>;
 
 // The path from the root to a leaf: the noted one where it leads there, else the one that a search finds.
-pub(crate) fn path_to(slab: &Slab<NodeView>, kin: &[Kin], root: usize, node: usize, path: &mut Path)
+pub(crate) fn path_to(slab: &NodeSlab, kin: &[Kin], root: usize, node: usize, path: &mut Path)
     requires tree { (t : Tree) × ToSearch slab.now root t ×
         (s : ℕ) × (b : Bounds) × (view_at t node ≡ Some (LeafNode s b)) }
     requires empty { path.old.items ≡ [] }
@@ -28,7 +28,7 @@ pub(crate) fn path_to(slab: &Slab<NodeView>, kin: &[Kin], root: usize, node: usi
         return;
     }
     path.clear();
-    if let NodeView::Leaf { slot: _, fat } = slab[node] {
+    if let NodeView::Leaf { slot: _, fat } = slab.view(node) {
         find_path(slab, root, node, &fat, path);
         path.as_mut_slice().reverse();
     }
@@ -52,11 +52,11 @@ fn follow_parents(kin: &[Kin], root: usize, node: usize, path: &mut Path)
 }
 
 // Whether a path leads down to a leaf.
-fn leads_to(slab: &Slab<NodeView>, at: usize, node: usize, path: &[usize]) -> bool
+fn leads_to(slab: &NodeSlab, at: usize, node: usize, path: &[usize]) -> bool
     requires { (t : Tree) × ToSearch slab.now at t }
     ensures { (t : Tree) → ToSearch slab.now at t → result ≡ true → Leads t path.now node }
 {
-    match slab[at] {
+    match slab.view(at) {
         NodeView::Leaf { slot: _, fat: _ } => {
             if path.is_empty() {
                 return at == node;
@@ -84,14 +84,14 @@ fn leads_to(slab: &Slab<NodeView>, at: usize, node: usize, path: &[usize]) -> bo
 }
 
 // Searches a leaf by its box, only below hulls that hold the box. Pushes the path, the leaf first.
-fn find_path(slab: &Slab<NodeView>, at: usize, node: usize, fat: &FBox, path: &mut Path) -> bool
+fn find_path(slab: &NodeSlab, at: usize, node: usize, fat: &FBox, path: &mut Path) -> bool
     requires tree { (t : Tree) × ToSearch slab.now at t }
     requires empty { path.old.items ≡ [] }
     requires room { path.old.capacity ≡ 32 }
     ensures sought { (t : Tree) → ToSearch slab.now at t → PathFound node fat.now t result path.new.items }
     ensures capacity { path.new.capacity ≡ path.old.capacity }
 {
-    match slab[at] {
+    match slab.view(at) {
         NodeView::Leaf { slot: _, fat: _ } => at == node,
         NodeView::Inner {
             left,

@@ -11,13 +11,13 @@ use crate::NodeView;
 use crate::kin::Kin;
 use crate::leaf_key::{LeafKey, centre};
 use crate::median::divide;
+use crate::node_slab::NodeSlab;
 use crate::refitting::refit;
-use slab::Slab;
 
 // Links the inner nodes of the slab's tree anew. Answers the new root, and how many leaves there are. The two lists are
 // room.
 pub(crate) fn rebuild_tree(
-    slab: &mut Slab<NodeView>,
+    slab: &mut NodeSlab,
     kin: &mut [Kin],
     root: Option<usize>,
     keys: &mut Vec<LeafKey>,
@@ -47,7 +47,7 @@ pub(crate) fn rebuild_tree(
 }
 
 // Appends the leaves of a tree, and the numbers of its inner nodes.
-fn gather(slab: &Slab<NodeView>, at: usize, keys: &mut Vec<LeafKey>, inner: &mut Vec<usize>)
+fn gather(slab: &NodeSlab, at: usize, keys: &mut Vec<LeafKey>, inner: &mut Vec<usize>)
     requires { (t : Tree) × ToSearch slab.now at t × HasRoom (length keys.old.items) (vec_capacity keys.old) t ×
         HasRoom (length inner.old.items) (vec_capacity inner.old) t }
     ensures leaves { (t : Tree) → ToSearch slab.now at t →
@@ -56,7 +56,7 @@ fn gather(slab: &Slab<NodeView>, at: usize, keys: &mut Vec<LeafKey>, inner: &mut
     ensures keys_room { vec_capacity keys.old ≤ vec_capacity keys.new }
     ensures inner_room { vec_capacity inner.old ≤ vec_capacity inner.new }
 {
-    match slab[at] {
+    match slab.view(at) {
         NodeView::Leaf { slot: _, fat } => {
             keys.push(LeafKey {
                 centre: centre(&fat),
@@ -87,7 +87,7 @@ fn order(numbers: &mut Vec<usize>)
 
 // Builds a tree of some leaves from the top down, with half of them below each child, and answers its top. It writes to
 // the inner nodes alone, one fewer than there are leaves. As halves differ by at most one leaf, the tree is balanced.
-fn build(slab: &mut Slab<NodeView>, kin: &mut [Kin], keys: &mut [LeafKey], inner: &[usize]) -> usize
+fn build(slab: &mut NodeSlab, kin: &mut [Kin], keys: &mut [LeafKey], inner: &[usize]) -> usize
     requires { ToBuild slab.old (numbers keys.old) inner.now }
     ensures there { (t : Tree) × Built slab.old slab.new result (numbers keys.old) inner.now t }
     ensures others { (k : ℕ) → uses inner.now k ≡ 0 → get slab.new k ≡ get slab.old k }

@@ -9,14 +9,14 @@ ghost use Rattle.tree_nodes.specs.declared.node_view.NodeView.TheVariants.{Leaf 
 use crate::NodeView;
 use crate::adjusting::adjust;
 use crate::kin::Kin;
+use crate::node_slab::NodeSlab;
 use crate::path::{Path, path_to};
-use slab::Slab;
 use smallvec::SmallVec;
 use std::alloc::Global;
 
 // Takes a leaf out of the slab and its tree. Answers the new root.
 pub(crate) fn remove_leaf(
-    slab: &mut Slab<NodeView>,
+    slab: &mut NodeSlab,
     kin: &mut [Kin],
     root: Option<usize>,
     node: usize,
@@ -40,7 +40,7 @@ pub(crate) fn remove_leaf(
 
 // Takes the leaf at the end of a path out of the slab and its tree. Answers the new root.
 fn remove_at(
-    slab: &mut Slab<NodeView>,
+    slab: &mut NodeSlab,
     kin: &mut [Kin],
     root: usize,
     node: usize,
@@ -64,7 +64,7 @@ fn remove_at(
 
 // Takes the leaf at the end of a path out of a tree, and its parent with it. Answers the new top, and the parent.
 fn remove_below(
-    slab: &mut Slab<NodeView>,
+    slab: &mut NodeSlab,
     kin: &mut [Kin],
     at: usize,
     next: usize,
@@ -77,7 +77,7 @@ fn remove_below(
         Holds slab.old v → Holds slab.new v }
     ensures keys { KeepsKeys slab.old slab.new }
 {
-    match slab[at] {
+    match slab.view(at) {
         NodeView::Leaf { slot: _, fat: _ } => (at, at),
         NodeView::Inner {
             left,

@@ -1,16 +1,14 @@
-ghost use Rattle.std.specs.Prelude.{◌≡◌, ◌≢◌, ◌⊎◌, ℕ, ◌≤◌, true, false, option_map};
-ghost use Rattle.slab.specs.Slab.{get, ContainsKey};
+ghost use Rattle.std.specs.Prelude.{◌≡◌, ◌⊎◌, ℕ, ◌≤◌, true, false};
 ghost use Rattle.fixed_box.specs.Bounds.{Bounds};
-ghost use Rattle.tree_nodes.specs.Resized.{with_bounds, resized, Raises, Rebounded};
+ghost use Rattle.tree_nodes.specs.Resized.{resized, Raises};
 ghost use Rattle.tree_nodes.specs.Stored.{Holds, Sound, KeepsKeys};
 ghost use Rattle.tree_nodes.specs.Tree.{Tree, top, count_of};
 ghost use Rattle.tree_nodes.specs.declared.resizing.Above.TheVariants.{Stays, Changes};
 
-use crate::NodeView;
+use crate::Role;
 use crate::kin::Kin;
-use crate::node_slab::bounds_at;
+use crate::node_slab::{NodeSlab, bounds_at};
 use fixed_box::FBox;
-use slab::Slab;
 
 // What becomes of a node where one of its children gets other bounds.
 enum Above {
@@ -25,7 +23,7 @@ enum Above {
 // Gives a node other bounds, and refits the nodes above it, up to one whose hull stays. It follows the noted parents, and
 // writes nothing before it stands at such a node or at the root: where they don't lead there, it answers false.
 pub(crate) fn resize(
-    slab: &mut Slab<NodeView>,
+    slab: &mut NodeSlab,
     kin: &[Kin],
     root: usize,
     at: usize,
@@ -39,12 +37,12 @@ pub(crate) fn resize(
     ensures keys { KeepsKeys slab.old slab.new }
 {
     if at == root {
-        write_bounds(slab, at, bounds);
+        slab.write_bounds(at, bounds);
         return true;
     }
     match change_above(slab, kin, at, bounds) {
         Above::Stays => {
-            write_bounds(slab, at, bounds);
+            slab.write_bounds(at, bounds);
             true
         }
         Above::Changes { parent, hull } => {
@@ -54,7 +52,7 @@ pub(crate) fn resize(
             if !resize(slab, kin, root, parent, &hull, levels - 1) {
                 return false;
             }
-            write_bounds(slab, at, bounds);
+            slab.write_bounds(at, bounds);
             true
         }
         Above::Unknown => false,
@@ -62,7 +60,7 @@ pub(crate) fn resize(
 }
 
 // The noted parent of a node that gets other bounds, where it has this child and the noted sibling, and its hull then.
-fn change_above(slab: &Slab<NodeView>, kin: &[Kin], at: usize, bounds: &FBox) -> Above
+fn change_above(slab: &NodeSlab, kin: &[Kin], at: usize, bounds: &FBox) -> Above
     requires { (t : Tree) × Sound slab.now t }
     ensures stays { (t : Tree) → Sound slab.now t → result ≡ Stays →
         (parent : ℕ) × (hull : Bounds) × Raises t at parent bounds.now hull hull }
@@ -75,24 +73,23 @@ fn change_above(slab: &Slab<NodeView>, kin: &[Kin], at: usize, bounds: &FBox) ->
     // Both are read at once: the sibling needn't wait for the parent to tell its number.
     let parent = own.parent();
     let sibling = own.sibling();
-    match slab.get(parent) {
-        Some(
-            NodeView::Inner {
-                left,
-                right,
-                hull,
-                height: _,
-            },
-        ) => {
-            if are_children(*left, *right, at, sibling) {
-                // Either may stand left: a union is the same both ways.
-                let raised = bounds.union(&bounds_at(slab, sibling));
-                return change_of(parent, hull, &raised);
-            }
-            Above::Unknown
-        }
-        _ => Above::Unknown,
+    let Some(node) = slab.get(parent) else {
+        return Above::Unknown;
+    };
+    let Role::Inner {
+        left,
+        right,
+        height: _,
+    } = node.role
+    else {
+        return Above::Unknown;
+    };
+    if are_children(left as usize, right as usize, at, sibling) {
+        // Either may stand left: a union is the same both ways.
+        let raised = bounds.union(&bounds_at(slab, sibling));
+        return change_of(parent, &node.bounds, &raised);
     }
+    Above::Unknown
 }
 
 // Whether two nodes are the children of a node, in either order. As it is as likely to be either, both are asked without a
@@ -118,23 +115,5 @@ fn change_of(parent: usize, hull: &FBox, raised: &FBox) -> Above
     Above::Changes {
         parent,
         hull: *raised,
-    }
-}
-
-// Writes other bounds to a node.
-#[inline]
-fn write_bounds(slab: &mut Slab<NodeView>, at: usize, bounds: &FBox)
-    requires { ContainsKey slab.old at }
-    ensures written { Rebounded slab.old slab.new at bounds.now }
-    ensures keys { KeepsKeys slab.old slab.new }
-{
-    match &mut slab[at] {
-        NodeView::Leaf { slot: _, fat } => *fat = *bounds,
-        NodeView::Inner {
-            left: _,
-            right: _,
-            hull,
-            height: _,
-        } => *hull = *bounds,
     }
 }

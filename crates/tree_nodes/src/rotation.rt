@@ -6,14 +6,13 @@ ghost use Rattle.tree_nodes.specs.Tree.{Tree, Balanced, top, height, count_of};
 
 use crate::NodeView;
 use crate::kin::Kin;
-use crate::node_slab::height_at;
+use crate::node_slab::{NodeSlab, height_at};
 use crate::refitting::refit;
-use slab::Slab;
 
 // Brings the higher of two trees up over a node, and answers the new top. Its higher child stays with it, and the node
 // goes down to the two lower trees.
 pub(crate) fn rotate_up(
-    slab: &mut Slab<NodeView>,
+    slab: &mut NodeSlab,
     kin: &mut [Kin],
     at: usize,
     low: usize,
@@ -27,7 +26,7 @@ pub(crate) fn rotate_up(
     ensures others { (k : ℕ) → k ≢ at → k ≢ high → get slab.new k ≡ get slab.old k }
     ensures keys { KeepsKeys slab.old slab.new }
 {
-    match slab[high] {
+    match slab.view(high) {
         NodeView::Leaf { slot: _, fat: _ } => {
             refit(slab, kin, at, low, high);
             at
@@ -46,7 +45,7 @@ pub(crate) fn rotate_up(
 }
 
 // The lower of two trees, and the higher.
-fn by_height(slab: &Slab<NodeView>, left: usize, right: usize) -> (usize, usize)
+fn by_height(slab: &NodeSlab, left: usize, right: usize) -> (usize, usize)
     requires { (f g : Tree) × StandsAt slab.now left f × StandsAt slab.now right g }
     ensures { (f g : Tree) → StandsAt slab.now left f → StandsAt slab.now right g →
         result ≡ (top (lower f g), top (higher f g)) }
@@ -61,7 +60,7 @@ fn by_height(slab: &Slab<NodeView>, left: usize, right: usize) -> (usize, usize)
 // Puts three trees below two nodes: `low` and the first half below `at`, and this and the second half below `high`. Both
 // nodes are refitted, the lower one first.
 pub(crate) fn rotate(
-    slab: &mut Slab<NodeView>,
+    slab: &mut NodeSlab,
     kin: &mut [Kin],
     high: usize,
     at: usize,

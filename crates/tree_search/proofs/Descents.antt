@@ -1,6 +1,6 @@
 -- The steps of a descent with a query.
 use Rattle.std.proofs.Common.{◌≡◌, ℕ, ◌+◌, ◌≤◌, max, true, false, cond, Option, None, Some, List, [], ◌∷◌, ◌++◌}
-use Rattle.std.proofs.Common.{is_some, option_to_list, option_map, map, length, get_or, length-append, append_assoc, refl, sym, ap, ◌∙◌, subst, arith, ⊎_elim}
+use Rattle.std.proofs.Common.{is_some, map, length, get_or, length-append, append_assoc, refl, sym, ap, ◌∙◌, subst, arith, ⊎_elim}
 use Rattle.std.specs.List.{filter}
 use Rattle.std.proofs.lemmas.List.{same_from_push, append-nil, length_push, map-append}
 use Rattle.std.proofs.lemmas.List.Elements.{filter-append}
@@ -155,24 +155,28 @@ module _ (bodies : List (Option Bounds)) where
       length_views [] = refl
       length_views (u ∷ us) = length_push (views us) (view_of u) ∙ (let l = length_views us in omega arith)
 
-      pub fewer : (rest : List NodeView) (a b : Option NodeView) → length ((rest ++ met_in q a) ++ met_in q b) ≤ length rest + 2
-      fewer rest a b =
-          let both = length-append (rest ++ met_in q a) (met_in q b) in
-          let one = length-append rest (met_in q a) in
-          let la = short a in
-          let lb = short b in
+      pub one_more : (rest : List NodeView) (o : Option NodeView) → length (rest ++ met_in q o) ≤ length rest + 1
+      one_more rest o =
+          let all = length-append rest (met_in q o) in
+          let s = short o in
           omega arith
         where
           short : (o : Option NodeView) → length (met_in q o) ≤ 1
           short None = omega arith
           short (Some v) = elim (meets_node q v) as (λ x. length (cond x (v ∷ []) []) ≤ 1) [ true ↦ omega arith | false ↦ omega arith ]
 
+      pub two_more : (rest : List NodeView) (a b : Option NodeView) → length ((rest ++ met_in q a) ++ met_in q b) ≤ length rest + 2
+      two_more rest a b =
+          let x = one_more rest a in
+          let y = one_more (rest ++ met_in q a) b in
+          omega arith
+
       -- where a descent stands after a leaf, and after an inner node
       abbrev pub After : Option Tree → List NodeView → List ℕ → List ℕ → ℕ → NodeView → Type 0
       After o rest before now count (LeafNode slot fat) =
           IsLeafInside bodies slot fat × Stands o bodies q rest before (now ++ found_at bodies q slot) count
       After o rest before now count (Inner left right h k) =
-          (count + 2 ≤ visits_by_in o q) × (visits_by_in o q ≤ 16383) × (length rest ≤ 18)
+          (count + 2 ≤ visits_by_in o q) × (visits_by_in o q ≤ 16383) × (length rest ≤ 17)
           × (is_some (view_in o left) ≡ true) × (is_some (view_in o right) ≡ true)
           × Stands o bodies q ((rest ++ met_in q (view_in o right)) ++ met_in q (view_in o left)) before now (count + 2)
 
@@ -242,19 +246,17 @@ module _ (bodies : List (Option Bounds)) where
                 }),
               )
 
-      -- the same of the next node as the loop holds it
-      module _ {R : Type 0} (f : R → NodeView) (rest : List NodeView) {o : Option Tree} {before now : List ℕ} {next : Option R} {node : R} {count : ℕ}
-          (s : Stands o bodies q (rest ++ option_to_list (option_map f next)) before now count) (n : next ≡ Some node) where
-        after : After o rest before now count (f node)
-        after =
-            looked_on o rest (f node) before now count
-            (popped o rest (f node) before now count (subst (λ x. Stands o bodies q (rest ++ option_to_list (option_map f x)) before now count) n s))
+      -- the same of the node that comes off the stack
+      module _ (rest : List NodeView) (node : NodeView) {o : Option Tree} {stack : List NodeView} {before now : List ℕ} {count : ℕ}
+          (s : Stands o bodies q stack before now count) (is : stack ≡ rest ++ node ∷ []) where
+        after : After o rest before now count node
+        after = looked_on o rest node before now count (popped o rest node before now count (subst (λ xs. Stands o bodies q xs before now count) is s))
 
-        pub at_leaf : {slot : ℕ} {fat : Bounds} → f node ≡ LeafNode slot fat → After o rest before now count (LeafNode slot fat)
-        at_leaf is = subst (After o rest before now count) is after
+        pub at_leaf : {slot : ℕ} {fat : Bounds} → node ≡ LeafNode slot fat → After o rest before now count (LeafNode slot fat)
+        at_leaf e = subst (After o rest before now count) e after
 
-        pub at_inner : {left right k : ℕ} {h : Bounds} → f node ≡ Inner left right h k → After o rest before now count (Inner left right h k)
-        at_inner is = subst (After o rest before now count) is after
+        pub at_inner : {left right k : ℕ} {h : Bounds} → node ≡ Inner left right h k → After o rest before now count (Inner left right h k)
+        at_inner e = subst (After o rest before now count) e after
 
       -- the start
       pub begun : (o : Option Tree) (before : List ℕ) (root : ℕ) (t : Tree) → o ≡ Some t → root ≡ top t → IsTree t → IsInside bodies t

@@ -1,4 +1,4 @@
-ghost use Rattle.std.specs.Prelude.{◌≡◌, ◌<◌, ◌++◌, Some, None, [], OnOk, IfOk, IsSome, length, option_map, option_to_list};
+ghost use Rattle.std.specs.Prelude.{◌≡◌, ◌<◌, ◌++◌, Some, OnOk, IfOk, IsSome, length};
 ghost use Rattle.tree_nodes.specs.Tree.{Tree, IsTree, top, view_in, visits_in};
 ghost use Rattle.broad_index.specs.declared.query.Query.{Query};
 ghost use Rattle.broad_index.specs.declared.query.Query.TheVariants.{Region};
@@ -13,7 +13,7 @@ use crate::BoxedTree;
 use crate::waiting::Waiting;
 use fixed_box::{FBox, NoMemory, box_laws};
 use prepared_query::{BoxTest, enclosing_law};
-use tree_nodes::{NodeView, Nodes, tree_laws};
+use tree_nodes::{Nodes, Role, tree_laws};
 
 // Appends the slots of leaves whose exact boxes meet a query, and answers how many nodes it looked at. It passes by what
 // stands below a hull that the query misses. It is compiled for each kind of test, so that no kind is told apart on the way.
@@ -46,8 +46,8 @@ pub fn descend_with_box(
     descend(boxes, region, out)
 }
 
-// The same from the root on. The next node is held apart from those that wait. A node is asked, and counted, with its
-// sibling as their parent is opened: one that is missed never waits.
+// The same from the root on. A node is asked, and counted, with its sibling as their parent is opened: one that is missed
+// never waits.
 fn walk<T: BoxTest>(
     nodes: &Nodes,
     bodies: &[Option<FBox>],
@@ -61,22 +61,22 @@ fn walk<T: BoxTest>(
 {
     descent_law();
     let mut waiting = Waiting::none(nodes.node(root));
-    let mut next = met_node(nodes, root, test);
+    ask(nodes, root, test, &mut waiting);
     let mut count = 1u32;
-    'walk: while let Some(node) = next {
-        match node {
-            NodeView::Leaf { slot, fat: _ } => {
-                push_found(bodies, *slot, test, out)?;
-                next = waiting.pop();
+    'walk: while let Some(node) = waiting.pop() {
+        match node.role {
+            Role::Leaf { slot } => {
+                push_found(bodies, slot, test, out)?;
             }
-            NodeView::Inner {
+            Role::Inner {
                 left,
                 right,
-                hull: _,
                 height: _,
             } => {
                 count += 2;
-                next = open(nodes, *left, *right, test, &mut waiting);
+                // the left one comes first
+                ask(nodes, right as usize, test, &mut waiting);
+                ask(nodes, left as usize, test, &mut waiting);
             }
         }
     }
@@ -100,52 +100,16 @@ pub(crate) fn box_law()
     descent_law();
 }
 
-// Looks at the children of a node, and answers which node is next, if any. Where both are met, the left one comes first
-// and the right one waits. Where neither is, the last one that waits comes.
-fn open<'a, T: BoxTest>(
-    nodes: &'a Nodes,
-    left: usize,
-    right: usize,
-    test: &T,
-    waiting: &mut Waiting<'a>,
-) -> Option<&'a NodeView>
+// Lets a node wait if the query meets its hull, or its fat box. As it is as likely to be either, it is written in any case,
+// and no branch has to be guessed.
+#[inline]
+fn ask<'a, T: BoxTest>(nodes: &'a Nodes, at: usize, test: &T, waiting: &mut Waiting<'a>)
     requires room { length waiting.old < MOST_WAITING }
-    requires left { IsSome (view_in nodes.now left) }
-    requires right { IsSome (view_in nodes.now right) }
-    ensures next { waiting.new ++ option_to_list (option_map (λ node. node.now) result) ≡
-        (waiting.old ++ met_in (T.asks test.now) (view_in nodes.now right)) ++ met_in (T.asks test.now) (view_in nodes.now left) }
-    ensures ended { result ≡ None → waiting.new ≡ [] }
-{
-    let later = met_node(nodes, right, test);
-    let Some(first) = met_node(nodes, left, test) else {
-        return if later.is_some() {
-            later
-        } else {
-            waiting.pop()
-        };
-    };
-    if let Some(later) = later {
-        waiting.push(later);
-    }
-    Some(first)
-}
-
-// A node, if the query meets its hull, or its fat box.
-fn met_node<'a, T: BoxTest>(nodes: &'a Nodes, at: usize, test: &T) -> Option<&'a NodeView>
-    requires { IsSome (view_in nodes.now at) }
-    ensures { option_to_list (option_map (λ node. node.now) result) ≡ met_in (T.asks test.now) (view_in nodes.now at) }
+    requires shown { IsSome (view_in nodes.now at) }
+    ensures { waiting.new ≡ waiting.old ++ met_in (T.asks test.now) (view_in nodes.now at) }
 {
     let node = nodes.node(at);
-    let bounds = match node {
-        NodeView::Leaf { slot: _, fat } => fat,
-        NodeView::Inner {
-            left: _,
-            right: _,
-            hull,
-            height: _,
-        } => hull,
-    };
-    if test.meets(bounds) { Some(node) } else { None }
+    waiting.push_if(node, test.meets(&node.bounds));
 }
 
 // Appends a slot whose exact box is met. Its fat box was asked first.

@@ -50,9 +50,9 @@ fn push_preorder(
     requires { (t : Tree) × IsBelow nodes.now bodies.now at t × (length out.old.items + 2 * length (leaves t) < 2 ^ 32) }
     ensures { (t : Tree) → IsBelow nodes.now bodies.now at t → OnOk result (out.new.items ≡ out.old.items ++ preorder bodies.now t) }
 {
-    match nodes.node(at) {
+    match nodes.view(at) {
         NodeView::Leaf { slot, fat: _ } => {
-            push_leaf(bodies, *slot, out)?;
+            push_leaf(bodies, slot, out)?;
             Ok(())
         }
         NodeView::Inner {
@@ -62,12 +62,12 @@ fn push_preorder(
             height: _,
         } => {
             let place = out.len();
-            out.push(inner_node(hull, 0))?;
-            push_preorder(nodes, bodies, *left, out)?;
-            push_preorder(nodes, bodies, *right, out)?;
+            out.push(inner_node(&hull, 0))?;
+            push_preorder(nodes, bodies, left, out)?;
+            push_preorder(nodes, bodies, right, out)?;
             // known only now
             let below = out.len() - place - 1;
-            out[place] = inner_node(hull, below as u32);
+            out[place] = inner_node(&hull, below as u32);
             Ok(())
         }
     }

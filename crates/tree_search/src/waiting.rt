@@ -1,8 +1,9 @@
-ghost use Rattle.std.specs.Prelude.{◌≡◌, ◌<◌, ◌++◌, [], ◌∷◌, None, length, option_map, option_to_list};
+ghost use Rattle.std.specs.Prelude.{◌≡◌, ◌<◌, ◌++◌, [], ◌∷◌, None, length, option_map, option_to_list, if◌then◌else◌};
+ghost use Rattle.tree_nodes.specs.Shown.{shown};
 ghost use Rattle.tree_search.specs.declared.waiting.TheConstants.{MOST_WAITING};
 
 use std::marker::Model;
-use tree_nodes::{MOST_HEIGHT, NodeView};
+use tree_nodes::{MOST_HEIGHT, Node};
 
 // How many nodes may wait: one for each level, since the higher one stands, the fewer came before it.
 pub(crate) const MOST_WAITING: usize = MOST_HEIGHT as usize + 1;
@@ -12,25 +13,26 @@ pub(crate) const MOST_WAITING: usize = MOST_HEIGHT as usize + 1;
 #[derive(Drop)]
 pub(crate) struct Waiting<'a> {
     // Those from `len` on are of no account.
-    nodes: [&'a NodeView; MOST_WAITING],
+    nodes: [&'a Node; MOST_WAITING],
     len: usize,
 }
 
 impl<'a> Model for Waiting<'a> {
     ghost use Rattle.std.specs.Prelude.{◌≤◌, List, map, take};
+    ghost use Rattle.tree_nodes.specs.Shown.{shown};
     ghost use Rattle.tree_nodes.specs.declared.node_view.NodeView.{NodeView};
     ghost use Rattle.tree_search.specs.declared.waiting.TheConstants.{MOST_WAITING};
 
     ghost Value = { List NodeView };
 
-    ghost view = { λ w. map (λ node. node.now) (take w.len w.nodes) };
+    ghost view = { λ w. map (λ node. shown node.now) (take w.len w.nodes) };
 
     ghost invariant = { λ w. w.len ≤ MOST_WAITING };
 }
 
 impl<'a> Waiting<'a> {
     /// None waits. The node only fills the room.
-    pub(crate) fn none(filler: &'a NodeView) -> Waiting<'a>
+    pub(crate) fn none(filler: &'a Node) -> Waiting<'a>
         ensures { result ≡ [] }
     {
         Waiting {
@@ -39,20 +41,21 @@ impl<'a> Waiting<'a> {
         }
     }
 
-    /// The node waits, and is the first to go.
-    pub(crate) fn push(&mut self, node: &'a NodeView)
+    /// Where it is to wait, the node waits, and is the first to go.
+    #[inline]
+    pub(crate) fn push_if(&mut self, node: &'a Node, waits: bool)
         requires { length self.old < MOST_WAITING }
-        ensures { self.new ≡ self.old ++ node.now ∷ [] }
+        ensures { self.new ≡ self.old ++ (if waits then shown node.now ∷ [] else []) }
     {
         let at = self.len;
         let nodes = &mut self.nodes[..];
         nodes[at] = node;
-        self.len = at + 1;
+        self.len = at + usize::from(waits);
     }
 
     /// Takes the node that came last.
-    pub(crate) fn pop(&mut self) -> Option<&'a NodeView>
-        ensures rest { self.old ≡ self.new ++ option_to_list (option_map (λ node. node.now) result) }
+    pub(crate) fn pop(&mut self) -> Option<&'a Node>
+        ensures rest { self.old ≡ self.new ++ option_to_list (option_map (λ node. shown node.now) result) }
         ensures ended { result ≡ None → self.new ≡ [] }
     {
         if self.len == 0 {

@@ -25,7 +25,7 @@ pub by_distance-down-requires : goal.by_distance-down-requires
 by_distance-down-requires t c =
     let p = c.requires in
     let s = children c.args.slab.now c.args.at c.in-Inner.left c.in-Inner.right c.in-Inner.height c.in-Inner.hull p.2 p.3.kept
-    (c.index.ensures ∙ ap Some c.in-Inner.is) in
+    (c.view.ensures ∙ ap Some c.in-Inner.is) in
     (s.0, s.1, s.3, s.4)
 
 -- the two trees below the node, the one first that the leaf goes into
@@ -35,7 +35,7 @@ below : (n : ℕ) (c : After-by_distance-down n) (s : ℕ) (b : Bounds) (t : Tre
     × ((t ≡ fork c.args.at c.in-Inner.hull c.in-Inner.height d u) ⊎ (t ≡ fork c.args.at c.in-Inner.hull c.in-Inner.height u d))
 below n c s b t p =
     let o = opened c.args.slab.now c.args.at c.in-Inner.left c.in-Inner.right c.in-Inner.height c.in-Inner.hull t c.by_distance-down.result p.kept p.balanced
-    (c.index.ensures ∙ ap Some c.in-Inner.is) c.by_distance-down.ensures in (
+    (c.view.ensures ∙ ap Some c.in-Inner.is) c.by_distance-down.ensures in (
       o.0,
       o.1,
       o.2,
@@ -62,7 +62,7 @@ grown n c s b t d u p o r =
           c.args.leaf c.args.new_parent s b t d u g.0 o g.1
           (step_rebalance c.args.slab.now c.insert_below-below.new.slab c.args.at c.by_distance-down.result.0 c.by_distance-down.result.1
           c.insert_below-below.result.0 c.args.leaf c.args.new_parent s b t d u g.0 p o g.1
-          (c.insert_below-below.ensures.keys.here c.args.at (subst IsSome (sym c.index.ensures) refl)) held),
+          (c.insert_below-below.ensures.keys.here c.args.at (subst IsSome (sym c.view.ensures) refl)) held),
     )
 
 pub insert_below-below-requires : goal.insert_below-below-requires
@@ -84,7 +84,7 @@ pub returns-in-Leaf-clause-there : goal.returns-in-Leaf-clause-there
 returns-in-Leaf-clause-there t c s b u p = (
   refitted c.args.new_parent u (tip c.args.leaf s b),
   leaf_inserted c.args.slab.now c.refit.new.slab c.args.at c.args.leaf c.args.new_parent s b u c.in-Leaf.slot c.in-Leaf.fat p
-      (c.index.ensures ∙ ap Some c.in-Leaf.is)
+      (c.view.ensures ∙ ap Some c.in-Leaf.is)
       (c.refit.ensures.there u (tip c.args.leaf s b) (leaf_children c.args.slab.now c.args.at c.args.leaf c.args.new_parent s b u p)),
   λ still. cc,
 )

@@ -14,7 +14,7 @@ move_below-requires t c =
     let e = parted c.args.path.now c.in-len1-up.len_at_least in
     let d = down c.args.slab.now c.args.at c.in-Inner.left c.in-Inner.right
     (get_or c.args.path.now 0 0) c.in-Inner.height c.in-Inner.hull q.0 c.args.path.now
-    (take (length c.args.path.now - 1) (drop 1 c.args.path.now)) q.1 q.2 (c.index.ensures ∙ ap Some c.in-Inner.is) e in (
+    (take (length c.args.path.now - 1) (drop 1 c.args.path.now)) q.1 q.2 (c.view.ensures ∙ ap Some c.in-Inner.is) e in (
       subst (λ m. length (take (length c.args.path.now - 1) (drop 1 c.args.path.now)) < m) c.decreases (let l = ap length e in omega arith),
       ⊎_elim (λ on. (q.0, d.f, on)) (λ on. (q.0, d.g, on)) d.on,
     )
@@ -25,40 +25,40 @@ refit-requires t c =
     let e = parted c.args.path.now c.in-len1-up.len_at_least in
     let d = down c.args.slab.now c.args.at c.in-Inner.left c.in-Inner.right
     (get_or c.args.path.now 0 0) c.in-Inner.height c.in-Inner.hull q.0 c.args.path.now
-    (take (length c.args.path.now - 1) (drop 1 c.args.path.now)) q.1 q.2 (c.index.ensures ∙ ap Some c.in-Inner.is) e in (
+    (take (length c.args.path.now - 1) (drop 1 c.args.path.now)) q.1 q.2 (c.view.ensures ∙ ap Some c.in-Inner.is) e in (
       moved q.0 c.args.fat.now d.f,
       moved q.0 c.args.fat.now d.g,
       children_moved c.args.slab.now c.move_below.new.slab c.args.at c.in-Inner.left c.in-Inner.right
           (get_or c.args.path.now 0 0) c.in-Inner.height c.in-Inner.hull q.0
           (take (length c.args.path.now - 1) (drop 1 c.args.path.now)) q.1 c.args.fat.now c.move_below.ensures.there c.move_below.ensures.kept
-          (c.move_below.ensures.keys.here c.args.at (subst IsSome (sym c.index.ensures) refl)) d,
+          (c.move_below.ensures.keys.here c.args.at (subst IsSome (sym c.view.ensures) refl)) d,
     )
 
 pub returns-in-Leaf-clause-kept : goal.returns-in-Leaf-clause-kept
 returns-in-Leaf-clause-kept t c node u v w free held =
-    leaf_elsewhere c.args.slab.now c.replace.new.slab c.args.at node c.args.path.now u v w free c.replace.ensures.kept held
+    leaf_elsewhere c.args.slab.now c.write_bounds.new.self c.args.at node c.args.path.now u v w free c.write_bounds.ensures.written.others held
 
 pub returns-then-not-move_below-clause-there : goal.returns-then-not-move_below-clause-there
 returns-then-not-move_below-clause-there t c node u w =
     let e = parted c.args.path.now c.in-len1-up.len_at_least in
     let d = down c.args.slab.now c.args.at c.in-Inner.left c.in-Inner.right
     (get_or c.args.path.now 0 0) c.in-Inner.height c.in-Inner.hull node c.args.path.now (take (length c.args.path.now - 1) (drop 1 c.args.path.now))
-    u w (c.index.ensures ∙ ap Some c.in-Inner.is) e in
+    u w (c.view.ensures ∙ ap Some c.in-Inner.is) e in
     let p = children_moved c.args.slab.now c.move_below.new.slab c.args.at c.in-Inner.left c.in-Inner.right
     (get_or c.args.path.now 0 0) c.in-Inner.height c.in-Inner.hull node (take (length c.args.path.now - 1) (drop 1 c.args.path.now))
     u c.args.fat.now c.move_below.ensures.there c.move_below.ensures.kept
-    (c.move_below.ensures.keys.here c.args.at (subst IsSome (sym c.index.ensures) refl)) d in
+    (c.move_below.ensures.keys.here c.args.at (subst IsSome (sym c.view.ensures) refl)) d in
     node_stays c.args.slab.now c.move_below.new.slab c.args.at c.in-Inner.left c.in-Inner.right
     (get_or c.args.path.now 0 0) c.in-Inner.height c.in-Inner.hull node (take (length c.args.path.now - 1) (drop 1 c.args.path.now)) u c.args.fat.now
     (λ m x y. c.move_below.ensures.bounds m x y c.if-not-move_below.true) c.move_below.ensures.others
-    (c.index.ensures ∙ ap Some c.in-Inner.is) w.balanced d p
+    (c.view.ensures ∙ ap Some c.in-Inner.is) w.balanced d p
 
 pub returns-then-not-move_below-clause-bounds : goal.returns-then-not-move_below-clause-bounds
 returns-then-not-move_below-clause-bounds t c node u w _ =
     let e = parted c.args.path.now c.in-len1-up.len_at_least in
     let d = down c.args.slab.now c.args.at c.in-Inner.left c.in-Inner.right
     (get_or c.args.path.now 0 0) c.in-Inner.height c.in-Inner.hull node c.args.path.now (take (length c.args.path.now - 1) (drop 1 c.args.path.now))
-    u w (c.index.ensures ∙ ap Some c.in-Inner.is) e in
+    u w (c.view.ensures ∙ ap Some c.in-Inner.is) e in
     same_bounds c.args.slab.now c.args.at c.in-Inner.left c.in-Inner.right
     (get_or c.args.path.now 0 0) c.in-Inner.height c.in-Inner.hull node (take (length c.args.path.now - 1) (drop 1 c.args.path.now)) u c.args.fat.now
     (λ m x y. c.move_below.ensures.bounds m x y c.if-not-move_below.true) w.balanced d
@@ -68,7 +68,7 @@ returns-then-not-move_below-clause-kept t c node u v w free held =
     let e = parted c.args.path.now c.in-len1-up.len_at_least in
     let d = down c.args.slab.now c.args.at c.in-Inner.left c.in-Inner.right
     (get_or c.args.path.now 0 0) c.in-Inner.height c.in-Inner.hull node c.args.path.now (take (length c.args.path.now - 1) (drop 1 c.args.path.now))
-    u w (c.index.ensures ∙ ap Some c.in-Inner.is) e in
+    u w (c.view.ensures ∙ ap Some c.in-Inner.is) e in
     let m = moved_elsewhere c.args.slab.now c.move_below.new.slab c.args.at c.in-Inner.left c.in-Inner.right
     (get_or c.args.path.now 0 0) c.in-Inner.height c.in-Inner.hull node
     (take (length c.args.path.now - 1) (drop 1 c.args.path.now)) u v d c.move_below.ensures.kept free held in
@@ -79,7 +79,7 @@ returns-then-not-move_below-clause-others t c node k u w free =
     let e = parted c.args.path.now c.in-len1-up.len_at_least in
     let d = down c.args.slab.now c.args.at c.in-Inner.left c.in-Inner.right
     (get_or c.args.path.now 0 0) c.in-Inner.height c.in-Inner.hull node c.args.path.now (take (length c.args.path.now - 1) (drop 1 c.args.path.now))
-    u w (c.index.ensures ∙ ap Some c.in-Inner.is) e in
+    u w (c.view.ensures ∙ ap Some c.in-Inner.is) e in
     let m = others_stay c.args.slab.now c.move_below.new.slab c.args.at c.in-Inner.left c.in-Inner.right
     (get_or c.args.path.now 0 0) c.in-Inner.height k c.in-Inner.hull node
     (take (length c.args.path.now - 1) (drop 1 c.args.path.now)) u c.move_below.ensures.others d free in
@@ -91,11 +91,11 @@ bounds_at-requires t c =
     let e = parted c.args.path.now c.in-len1-up.len_at_least in
     let d = down c.args.slab.now c.args.at c.in-Inner.left c.in-Inner.right
     (get_or c.args.path.now 0 0) c.in-Inner.height c.in-Inner.hull q.0 c.args.path.now (take (length c.args.path.now - 1) (drop 1 c.args.path.now))
-    q.1 q.2 (c.index.ensures ∙ ap Some c.in-Inner.is) e in
+    q.1 q.2 (c.view.ensures ∙ ap Some c.in-Inner.is) e in
     let p = children_moved c.args.slab.now c.move_below.new.slab c.args.at c.in-Inner.left c.in-Inner.right
     (get_or c.args.path.now 0 0) c.in-Inner.height c.in-Inner.hull q.0 (take (length c.args.path.now - 1) (drop 1 c.args.path.now))
     q.1 c.args.fat.now c.move_below.ensures.there c.move_below.ensures.kept
-    (c.move_below.ensures.keys.here c.args.at (subst IsSome (sym c.index.ensures) refl)) d in
+    (c.move_below.ensures.keys.here c.args.at (subst IsSome (sym c.view.ensures) refl)) d in
     let f = moved q.0 c.args.fat.now d.f in
     let g = moved q.0 c.args.fat.now d.g in
     (refitted c.args.at f g, c.refit.ensures.there f g p, refl)
@@ -105,11 +105,11 @@ returns-else-not-move_below-clause-there t c node u w =
     let e = parted c.args.path.now c.in-len1-up.len_at_least in
     let d = down c.args.slab.now c.args.at c.in-Inner.left c.in-Inner.right
     (get_or c.args.path.now 0 0) c.in-Inner.height c.in-Inner.hull node c.args.path.now (take (length c.args.path.now - 1) (drop 1 c.args.path.now))
-    u w (c.index.ensures ∙ ap Some c.in-Inner.is) e in
+    u w (c.view.ensures ∙ ap Some c.in-Inner.is) e in
     let p = children_moved c.args.slab.now c.move_below.new.slab c.args.at c.in-Inner.left c.in-Inner.right
     (get_or c.args.path.now 0 0) c.in-Inner.height c.in-Inner.hull node (take (length c.args.path.now - 1) (drop 1 c.args.path.now))
     u c.args.fat.now c.move_below.ensures.there c.move_below.ensures.kept
-    (c.move_below.ensures.keys.here c.args.at (subst IsSome (sym c.index.ensures) refl)) d in
+    (c.move_below.ensures.keys.here c.args.at (subst IsSome (sym c.view.ensures) refl)) d in
     subst (λ x. StandsAt c.refit.new.slab c.args.at (moved node c.args.fat.now x)) (sym d.is)
     (record { holds = c.refit.ensures.there (moved node c.args.fat.now d.f) (moved node c.args.fat.now d.g) p; is_at = refl })
 
@@ -118,11 +118,11 @@ returns-else-not-move_below-clause-bounds t c node u w still =
     let e = parted c.args.path.now c.in-len1-up.len_at_least in
     let d = down c.args.slab.now c.args.at c.in-Inner.left c.in-Inner.right
     (get_or c.args.path.now 0 0) c.in-Inner.height c.in-Inner.hull node c.args.path.now (take (length c.args.path.now - 1) (drop 1 c.args.path.now))
-    u w (c.index.ensures ∙ ap Some c.in-Inner.is) e in
+    u w (c.view.ensures ∙ ap Some c.in-Inner.is) e in
     let p = children_moved c.args.slab.now c.move_below.new.slab c.args.at c.in-Inner.left c.in-Inner.right
     (get_or c.args.path.now 0 0) c.in-Inner.height c.in-Inner.hull node (take (length c.args.path.now - 1) (drop 1 c.args.path.now))
     u c.args.fat.now c.move_below.ensures.there c.move_below.ensures.kept
-    (c.move_below.ensures.keys.here c.args.at (subst IsSome (sym c.index.ensures) refl)) d in
+    (c.move_below.ensures.keys.here c.args.at (subst IsSome (sym c.view.ensures) refl)) d in
     let f = moved node c.args.fat.now d.f in
     let g = moved node c.args.fat.now d.g in
     let now = c.bounds_at.ensures (refitted c.args.at f g) (c.refit.ensures.there f g p) refl in
@@ -134,7 +134,7 @@ returns-else-not-move_below-clause-kept t c node u v w free held =
     let e = parted c.args.path.now c.in-len1-up.len_at_least in
     let d = down c.args.slab.now c.args.at c.in-Inner.left c.in-Inner.right
     (get_or c.args.path.now 0 0) c.in-Inner.height c.in-Inner.hull node c.args.path.now (take (length c.args.path.now - 1) (drop 1 c.args.path.now))
-    u w (c.index.ensures ∙ ap Some c.in-Inner.is) e in
+    u w (c.view.ensures ∙ ap Some c.in-Inner.is) e in
     let m = moved_elsewhere c.args.slab.now c.move_below.new.slab c.args.at c.in-Inner.left c.in-Inner.right
     (get_or c.args.path.now 0 0) c.in-Inner.height c.in-Inner.hull node
     (take (length c.args.path.now - 1) (drop 1 c.args.path.now)) u v d c.move_below.ensures.kept free held in
@@ -145,7 +145,7 @@ returns-else-not-move_below-clause-others t c node k u w free =
     let e = parted c.args.path.now c.in-len1-up.len_at_least in
     let d = down c.args.slab.now c.args.at c.in-Inner.left c.in-Inner.right
     (get_or c.args.path.now 0 0) c.in-Inner.height c.in-Inner.hull node c.args.path.now (take (length c.args.path.now - 1) (drop 1 c.args.path.now))
-    u w (c.index.ensures ∙ ap Some c.in-Inner.is) e in
+    u w (c.view.ensures ∙ ap Some c.in-Inner.is) e in
     let m = others_stay c.args.slab.now c.move_below.new.slab c.args.at c.in-Inner.left c.in-Inner.right
     (get_or c.args.path.now 0 0) c.in-Inner.height k c.in-Inner.hull node
     (take (length c.args.path.now - 1) (drop 1 c.args.path.now)) u c.move_below.ensures.others d free in

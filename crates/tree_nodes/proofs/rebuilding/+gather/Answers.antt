@@ -16,7 +16,7 @@ pub gather-requires : goal.gather-requires
 gather-requires t c =
     let q = c.requires in
     let o = both_below c.args.slab.now c.args.at c.in-Inner.left c.in-Inner.right c.in-Inner.height c.in-Inner.hull q.0 q.1
-    (c.index.ensures ∙ ap Some c.in-Inner.is) in
+    (c.view.ensures ∙ ap Some c.in-Inner.is) in
     let pushed : c.push-in-Inner.new.self.items ≡ c.args.inner.now.items ++ c.args.at ∷ [] = c.push-in-Inner.ensures.items ∙ ap
     (λ b. cond b (c.args.inner.now.items ++ c.args.at ∷ []) c.args.inner.now.items)
     (c.push-in-Inner.ensures.succeeds (let r = q.3 in let s = some_leaf q.0 in omega (arith, r, s))) in
@@ -38,7 +38,7 @@ pub gather-requires-in-Inner : goal.gather-requires-in-Inner
 gather-requires-in-Inner t c =
     let q = c.requires in
     let o = both_below c.args.slab.now c.args.at c.in-Inner.left c.in-Inner.right c.in-Inner.height c.in-Inner.hull q.0 q.1
-    (c.index.ensures ∙ ap Some c.in-Inner.is) in
+    (c.view.ensures ∙ ap Some c.in-Inner.is) in
     let pushed : c.push-in-Inner.new.self.items ≡ c.args.inner.now.items ++ c.args.at ∷ [] = c.push-in-Inner.ensures.items ∙ ap
     (λ b. cond b (c.args.inner.now.items ++ c.args.at ∷ []) c.args.inner.now.items)
     (c.push-in-Inner.ensures.succeeds (let r = q.3 in let s = some_leaf q.0 in omega (arith, r, s))) in

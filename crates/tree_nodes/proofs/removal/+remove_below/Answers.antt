@@ -11,7 +11,7 @@ no_items (x ∷ xs) h = absurd (omega arith)
 pub returns-in_default-clause-there : goal.returns-in_default-clause-there
 returns-in_default-clause-there t c node x p =
     let o = onward c.args.slab.now c.args.at c.in-Inner.left c.in-Inner.right c.in-Inner.height c.in-Inner.hull node c.args.next c.args.path.now x
-    c.toward-down.result p (c.index.ensures ∙ ap Some c.in-Inner.is) c.toward-down.ensures.either c.toward-down.ensures.left c.toward-down.ensures.right in (
+    c.toward-down.result p (c.view.ensures ∙ ap Some c.in-Inner.is) c.toward-down.ensures.either c.toward-down.ensures.left c.toward-down.ensures.right in (
       o.1,
       leaf_cut c.args.slab.now c.args.at c.toward-down.result.0 c.toward-down.result.1 node x o.0 o.1 o.2
           (subst (λ q. Leads o.0 q node) (no_items c.args.path.now c.in_default.len_below) o.3),
@@ -21,7 +21,7 @@ pub remove_below-below-requires : goal.remove_below-below-requires
 remove_below-below-requires t c =
     let q = c.requires in
     let o = onward c.args.slab.now c.args.at c.in-Inner.left c.in-Inner.right c.in-Inner.height c.in-Inner.hull q.0 c.args.next c.args.path.now q.1
-    c.toward-down.result q.2 (c.index.ensures ∙ ap Some c.in-Inner.is) c.toward-down.ensures.either c.toward-down.ensures.left
+    c.toward-down.result q.2 (c.view.ensures ∙ ap Some c.in-Inner.is) c.toward-down.ensures.either c.toward-down.ensures.left
     c.toward-down.ensures.right in
     let e = parted c.args.path.now c.in-len1-up.len_at_least in (
       subst (λ m. length (take (length c.args.path.now - 1) (drop 1 c.args.path.now)) < m) c.decreases (let l = ap length e in omega arith),
@@ -37,7 +37,7 @@ pub adjust-requires : goal.adjust-requires
 adjust-requires t c =
     let q = c.requires in
     let o = onward c.args.slab.now c.args.at c.in-Inner.left c.in-Inner.right c.in-Inner.height c.in-Inner.hull q.0 c.args.next c.args.path.now q.1
-    c.toward-down.result q.2 (c.index.ensures ∙ ap Some c.in-Inner.is) c.toward-down.ensures.either c.toward-down.ensures.left
+    c.toward-down.result q.2 (c.view.ensures ∙ ap Some c.in-Inner.is) c.toward-down.ensures.either c.toward-down.ensures.left
     c.toward-down.ensures.right in
     let e = parted c.args.path.now c.in-len1-up.len_at_least in
     let k = step_toward c.args.slab.now c.args.at c.toward-down.result.0 c.toward-down.result.1 q.0 c.args.next (get_or c.args.path.now 0 0) c.args.path.now
@@ -49,7 +49,7 @@ adjust-requires t c =
           c.remove_below-below.result.1 q.0 q.1 o.0 o.1 g.0 o.2 g.1 (removed_rebalance c.args.slab.now c.remove_below-below.new.slab c.args.at
           c.toward-down.result.0 c.toward-down.result.1 c.remove_below-below.result.0 c.remove_below-below.result.1 q.0 c.args.next c.args.path.now q.1 o.0
           o.1 g.0 q.2 o.2 g.1
-          (c.remove_below-below.ensures.keys.here c.args.at (subst IsSome (sym c.index.ensures) refl))
+          (c.remove_below-below.ensures.keys.here c.args.at (subst IsSome (sym c.view.ensures) refl))
           (c.remove_below-below.ensures.kept q.0 o.0 o.1 k (stay_apart c.args.slab.now c.args.at c.toward-down.result.0 c.toward-down.result.1 q.0
           c.args.next c.args.path.now q.1 o.0 o.1 q.2 o.2) o.2.stay_kept.holds)),
     )
@@ -57,14 +57,14 @@ adjust-requires t c =
 pub returns-in-len1-up-clause-there : goal.returns-in-len1-up-clause-there
 returns-in-len1-up-clause-there t c node x p =
     let o = onward c.args.slab.now c.args.at c.in-Inner.left c.in-Inner.right c.in-Inner.height c.in-Inner.hull node c.args.next c.args.path.now x
-    c.toward-down.result p (c.index.ensures ∙ ap Some c.in-Inner.is) c.toward-down.ensures.either c.toward-down.ensures.left c.toward-down.ensures.right in
+    c.toward-down.result p (c.view.ensures ∙ ap Some c.in-Inner.is) c.toward-down.ensures.either c.toward-down.ensures.left c.toward-down.ensures.right in
     let e = parted c.args.path.now c.in-len1-up.len_at_least in
     let k = step_toward c.args.slab.now c.args.at c.toward-down.result.0 c.toward-down.result.1 node c.args.next
     (get_or c.args.path.now 0 0) c.args.path.now (take (length c.args.path.now - 1) (drop 1 c.args.path.now)) x o.0 o.1 p o.2 o.3 e in
     let g = c.remove_below-below.ensures.there node o.0 k in
     let n = removed_rebalance c.args.slab.now c.remove_below-below.new.slab c.args.at c.toward-down.result.0 c.toward-down.result.1
     c.remove_below-below.result.0 c.remove_below-below.result.1 node c.args.next c.args.path.now x o.0 o.1 g.0 p o.2 g.1
-    (c.remove_below-below.ensures.keys.here c.args.at (subst IsSome (sym c.index.ensures) refl))
+    (c.remove_below-below.ensures.keys.here c.args.at (subst IsSome (sym c.view.ensures) refl))
     (c.remove_below-below.ensures.kept node o.0 o.1 k (stay_apart c.args.slab.now c.args.at c.toward-down.result.0 c.toward-down.result.1 node c.args.next
     c.args.path.now x o.0 o.1 p o.2) o.2.stay_kept.holds) in
     let w = c.adjust.ensures.there g.0 o.1 (removed_adjust c.remove_below-below.new.slab c.args.slab.now c.args.at c.toward-down.result.0
@@ -77,14 +77,14 @@ returns-in-len1-up-clause-there t c node x p =
 pub returns-in-len1-up-clause-kept : goal.returns-in-len1-up-clause-kept
 returns-in-len1-up-clause-kept t c node x v p free held =
     let o = onward c.args.slab.now c.args.at c.in-Inner.left c.in-Inner.right c.in-Inner.height c.in-Inner.hull node c.args.next c.args.path.now x
-    c.toward-down.result p (c.index.ensures ∙ ap Some c.in-Inner.is) c.toward-down.ensures.either c.toward-down.ensures.left c.toward-down.ensures.right in
+    c.toward-down.result p (c.view.ensures ∙ ap Some c.in-Inner.is) c.toward-down.ensures.either c.toward-down.ensures.left c.toward-down.ensures.right in
     let e = parted c.args.path.now c.in-len1-up.len_at_least in
     let k = step_toward c.args.slab.now c.args.at c.toward-down.result.0 c.toward-down.result.1 node c.args.next
     (get_or c.args.path.now 0 0) c.args.path.now (take (length c.args.path.now - 1) (drop 1 c.args.path.now)) x o.0 o.1 p o.2 o.3 e in
     let g = c.remove_below-below.ensures.there node o.0 k in
     let n = removed_rebalance c.args.slab.now c.remove_below-below.new.slab c.args.at c.toward-down.result.0 c.toward-down.result.1
     c.remove_below-below.result.0 c.remove_below-below.result.1 node c.args.next c.args.path.now x o.0 o.1 g.0 p o.2 g.1
-    (c.remove_below-below.ensures.keys.here c.args.at (subst IsSome (sym c.index.ensures) refl))
+    (c.remove_below-below.ensures.keys.here c.args.at (subst IsSome (sym c.view.ensures) refl))
     (c.remove_below-below.ensures.kept node o.0 o.1 k (stay_apart c.args.slab.now c.args.at c.toward-down.result.0 c.toward-down.result.1 node c.args.next
     c.args.path.now x o.0 o.1 p o.2) o.2.stay_kept.holds) in
     let f = removed_elsewhere c.args.slab.now c.remove_below-below.new.slab c.args.at c.toward-down.result.0 c.toward-down.result.1

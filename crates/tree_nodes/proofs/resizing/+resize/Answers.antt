@@ -6,7 +6,7 @@ use Rattle.tree_nodes.proofs.resizing.+resize.Goals as goal
 
 pub returns-then-at-root-clause-resized : goal.returns-then-at-root-clause-resized
 returns-then-at-root-clause-resized t c u s e used _ =
-    written_top c.args.slab.now c.write_bounds.new.slab c.args.at c.args.bounds.now u (e ∙ sym c.if-at-root.true) s.apart c.write_bounds.ensures.written s.holds
+    written_top c.args.slab.now c.write_bounds.new.self c.args.at c.args.bounds.now u (e ∙ sym c.if-at-root.true) s.apart c.write_bounds.ensures.written s.holds
 
 pub write_bounds-requires-in-Stays : goal.write_bounds-requires-in-Stays
 write_bounds-requires-in-Stays t c = let q = c.requires in held c.args.slab.now q.0 c.args.at q.1.holds q.3
@@ -26,11 +26,11 @@ write_bounds-requires-in-Changes t c =
 pub returns-in-Stays-clause-resized : goal.returns-in-Stays-clause-resized
 returns-in-Stays-clause-resized t c u s e used _ =
     let r = c.change_above.ensures.stays u s c.in-Stays.is in
-    written_inside c.args.slab.now c.write_bounds-in-Stays.new.slab c.args.at r.0 c.args.bounds.now r.1 u s c.write_bounds-in-Stays.ensures.written r.2
+    written_inside c.args.slab.now c.write_bounds-in-Stays.new.self c.args.at r.0 c.args.bounds.now r.1 u s c.write_bounds-in-Stays.ensures.written r.2
 
 pub returns-else-not-resize-clause-resized : goal.returns-else-not-resize-clause-resized
 returns-else-not-resize-clause-resized t c u s e used _ =
     let r = c.change_above.ensures.changes u c.in-Changes.parent c.in-Changes.hull s c.in-Changes.is in
     let up = parent_counted u c.args.at c.in-Changes.parent c.args.bounds.now r.0 c.in-Changes.hull r.1 in
-    written_below c.resize.new.slab c.write_bounds-in-Changes.new.slab c.args.at c.in-Changes.parent c.args.bounds.now r.0 c.in-Changes.hull u
+    written_below c.resize.new.slab c.write_bounds-in-Changes.new.self c.args.at c.in-Changes.parent c.args.bounds.now r.0 c.in-Changes.hull u
     s.balanced s.apart c.write_bounds-in-Changes.ensures.written r.1 (c.resize.ensures.resized u s e up c.if-not-resize.false)

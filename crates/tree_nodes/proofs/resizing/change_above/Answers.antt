@@ -1,21 +1,22 @@
 -- The noted parent is a key of the slab, so it stands in the tree, and the noted sibling is its other child.
-use Rattle.std.proofs.Common.{◌≡◌, ◌⊎◌, inl, inr, ℕ, ap, ◌∙◌, sym, subst, Some, option_copied}
+use Rattle.std.proofs.Common.{◌≡◌, ◌⊎◌, inl, inr, ℕ, ap, ◌∙◌, sym, subst, Some, option_map}
 use Rattle.slab.specs.Slab.{Slab, get}
 use Rattle.fixed_box.specs.Bounds.{Bounds, hull as union}
 use Rattle.tree_nodes.specs.declared.node_view.NodeView.{NodeView}
 use Rattle.tree_nodes.specs.declared.node_view.NodeView.TheVariants.{Inner}
 use Rattle.tree_nodes.specs.Resized.{Raises}
+use Rattle.tree_nodes.specs.Shown.{shown, shown_as}
 use Rattle.tree_nodes.specs.Stored.{Sound, Holds}
 use Rattle.tree_nodes.specs.Tree.{Tree, bounds, top}
 use Rattle.tree_nodes.proofs.BoxEquality.{either_way}
 use Rattle.tree_nodes.proofs.OccupiedKeys.{inner_standing, raises_left, raises_right}
-use Rattle.tree_nodes.proofs.resizing.change_above.Goals.{In-Some-Inner, After-union-raised}
+use Rattle.tree_nodes.proofs.resizing.change_above.Goals.{In-Inner, After-union-raised}
 use Rattle.tree_nodes.proofs.resizing.change_above.Goals as goal
 
 -- what stands under the noted parent
-noted : (c : In-Some-Inner) → get c.args.slab.now c.parent-parent.result
-    ≡ Some (Inner c.in-Some-Inner.left c.in-Some-Inner.right c.in-Some-Inner.hull c.in-Some-Inner.field-0-3)
-noted c = sym c.get-2.ensures ∙ ap option_copied c.in-Some-Inner.is ∙ ap Some c.in-Some-Inner.field-0-is
+noted : (c : In-Inner) → get c.args.slab.now c.parent-parent.result
+    ≡ Some (Inner c.in-Inner.left c.in-Inner.right c.in-Some-get.node.now.bounds c.in-Inner.height)
+noted c = sym c.get-2.ensures ∙ ap (option_map (λ n. shown n.now)) c.in-Some-get.is ∙ ap (λ r. Some (shown_as c.in-Some-get.node.now.bounds r)) c.in-Inner.is
 
 -- two nodes are the children, in either order
 abbrev AreChildren : ℕ → ℕ → ℕ → ℕ → Type 0
@@ -40,17 +41,17 @@ raises slab t parent left right k at sibling hu b other raised s e (inr o) shown
 
 pub bounds_at-requires : goal.bounds_at-requires
 bounds_at-requires c =
-    standing c.args.slab.now c.requires.0 c.parent-parent.result c.in-Some-Inner.left c.in-Some-Inner.right c.in-Some-Inner.field-0-3 c.args.at
-    c.sibling-sibling.result c.in-Some-Inner.hull c.requires.1 (noted (goal.at.bounds_at-requires c).In-Some-Inner)
+    standing c.args.slab.now c.requires.0 c.parent-parent.result c.in-Inner.left c.in-Inner.right c.in-Inner.height c.args.at
+    c.sibling-sibling.result c.in-Some-get.node.now.bounds c.requires.1 (noted (goal.at.bounds_at-requires c).In-Inner)
     (c.are_children.ensures c.if-are_children.true)
 
 above : (c : After-union-raised) (t : Tree) → Sound c.args.slab.now t
     → get c.args.slab.now c.parent-parent.result
-    ≡ Some (Inner c.in-Some-Inner.left c.in-Some-Inner.right c.in-Some-Inner.hull c.in-Some-Inner.field-0-3)
-    → Raises t c.args.at c.parent-parent.result c.args.bounds.now c.in-Some-Inner.hull c.union-raised.result
+    ≡ Some (Inner c.in-Inner.left c.in-Inner.right c.in-Some-get.node.now.bounds c.in-Inner.height)
+    → Raises t c.args.at c.parent-parent.result c.args.bounds.now c.in-Some-get.node.now.bounds c.union-raised.result
 above c t s e =
-    raises c.args.slab.now t c.parent-parent.result c.in-Some-Inner.left c.in-Some-Inner.right c.in-Some-Inner.field-0-3 c.args.at
-    c.sibling-sibling.result c.in-Some-Inner.hull c.args.bounds.now c.bounds_at.result c.union-raised.result s e
+    raises c.args.slab.now t c.parent-parent.result c.in-Inner.left c.in-Inner.right c.in-Inner.height c.args.at
+    c.sibling-sibling.result c.in-Some-get.node.now.bounds c.args.bounds.now c.bounds_at.result c.union-raised.result s e
     (c.are_children.ensures c.if-are_children.true) c.bounds_at.ensures c.union-raised.ensures.corners
 
 -- The parent and the hull that are answered are these.
@@ -58,11 +59,11 @@ pub returns-then-are_children-clause-changes : goal.returns-then-are_children-cl
 returns-then-are_children-clause-changes c t p h s is =
     let at = goal.at.returns-then-are_children-clause-changes c in
     let same = c.change_of.ensures.changes p h is in
-    let here = above at.After-union-raised t s (noted at.In-Some-Inner) in
+    let here = above at.After-union-raised t s (noted at.In-Inner) in
     let b = c.args.bounds.now in (
-      c.in-Some-Inner.hull,
-      subst (λ x. Raises t c.args.at x b c.in-Some-Inner.hull h) (sym same.0)
-          (subst (λ x. Raises t c.args.at c.parent-parent.result b c.in-Some-Inner.hull x) (sym same.1) here),
+      c.in-Some-get.node.now.bounds,
+      subst (λ x. Raises t c.args.at x b c.in-Some-get.node.now.bounds h) (sym same.0)
+          (subst (λ x. Raises t c.args.at c.parent-parent.result b c.in-Some-get.node.now.bounds x) (sym same.1) here),
     )
 
 -- The hull stays.
@@ -70,7 +71,7 @@ pub returns-then-are_children-clause-stays : goal.returns-then-are_children-clau
 returns-then-are_children-clause-stays c t s is =
     let at = goal.at.returns-then-are_children-clause-stays c in (
       c.parent-parent.result,
-      c.in-Some-Inner.hull,
-      subst (λ x. Raises t c.args.at c.parent-parent.result c.args.bounds.now c.in-Some-Inner.hull x) (c.change_of.ensures.stays is)
-          (above at.After-union-raised t s (noted at.In-Some-Inner)),
+      c.in-Some-get.node.now.bounds,
+      subst (λ x. Raises t c.args.at c.parent-parent.result c.args.bounds.now c.in-Some-get.node.now.bounds x) (c.change_of.ensures.stays is)
+          (above at.After-union-raised t s (noted at.In-Inner)),
     )

@@ -42,7 +42,7 @@ module _ (bodies : List (Option Bounds)) (n k : ℕ) (h : Bounds) (l r t : Tree)
 pub push_preorder-requires : goal.push_preorder-requires
 push_preorder-requires t c =
     let h = c.requires in
-    let e = c.node.ensures.value ∙ ap Some c.in-Inner.is in
+    let e = c.view.ensures.value ∙ ap Some c.in-Inner.is in
     let o = opened_inner c.args.nodes.now c.args.bodies.now c.args.at c.in-Inner.left c.in-Inner.right c.in-Inner.height c.in-Inner.hull h.0 h.1 e in (
       subst (λ m. height_shown (view_in c.args.nodes.now c.in-Inner.left) < m) c.decreases
           (lower c.args.nodes.now c.args.bodies.now c.args.at c.in-Inner.left c.in-Inner.left c.in-Inner.right c.in-Inner.height c.in-Inner.hull o.1 o.4 e
@@ -58,7 +58,7 @@ push_preorder-requires t c =
 pub push_preorder-requires-in-Inner : goal.push_preorder-requires-in-Inner
 push_preorder-requires-in-Inner t c =
     let h = c.requires in
-    let e = c.node.ensures.value ∙ ap Some c.in-Inner.is in
+    let e = c.view.ensures.value ∙ ap Some c.in-Inner.is in
     let o = opened_inner c.args.nodes.now c.args.bodies.now c.args.at c.in-Inner.left c.in-Inner.right c.in-Inner.height c.in-Inner.hull h.0 h.1 e in (
       subst (λ m. height_shown (view_in c.args.nodes.now c.in-Inner.right) < m) c.decreases
           (lower c.args.nodes.now c.args.bodies.now c.args.at c.in-Inner.right c.in-Inner.left c.in-Inner.right c.in-Inner.height c.in-Inner.hull o.2 o.5 e
@@ -75,7 +75,7 @@ push_preorder-requires-in-Inner t c =
 pub overflow_cast-below : goal.overflow_cast-below
 overflow_cast-below t c =
     let h = c.requires in
-    let e = c.node.ensures.value ∙ ap Some c.in-Inner.is in
+    let e = c.view.ensures.value ∙ ap Some c.in-Inner.is in
     let o = opened_inner c.args.nodes.now c.args.bodies.now c.args.at c.in-Inner.left c.in-Inner.right c.in-Inner.height c.in-Inner.hull h.0 h.1 e in
     let place : c.len-place.result ≡ length c.args.out.now.items = search rules in
     let len : c.len.result ≡ length c.push_preorder-in-Inner.new.out.items = search rules in
@@ -87,7 +87,7 @@ overflow_cast-below t c =
 
 pub returns-in_ok-push_preorder-in-Inner-2 : goal.returns-in_ok-push_preorder-in-Inner-2
 returns-in_ok-push_preorder-in-Inner-2 t c u b =
-    let e = c.node.ensures.value ∙ ap Some c.in-Inner.is in
+    let e = c.view.ensures.value ∙ ap Some c.in-Inner.is in
     let o = opened_inner c.args.nodes.now c.args.bodies.now c.args.at c.in-Inner.left c.in-Inner.right c.in-Inner.height c.in-Inner.hull u b e in
     let place : c.len-place.result ≡ length c.args.out.now.items = search rules in
     let len : c.len.result ≡ length c.push_preorder-in-Inner.new.out.items = search rules in

@@ -2,6 +2,7 @@
 use Rattle.std.proofs.Common.{◌≡◌, IsSome, Some, ℕ, Option, sym, subst, ap, ◌∙◌, refl}
 use Rattle.slab.specs.Slab.{Slab, get}
 use Rattle.tree_nodes.specs.declared.node_view.NodeView.{NodeView}
+use Rattle.tree_nodes.specs.Shown.{shown}
 use Rattle.tree_nodes.specs.Stored.{SoundIn}
 use Rattle.tree_nodes.specs.Tree.{Tree, view_in}
 use Rattle.tree_nodes.proofs.Heights.{seen_tree}
@@ -15,8 +16,8 @@ found slab root t u k h e some =
     let p = some_is (view_in u k) some in
     (p.0, sound_viewed slab root t k p.0 h (ap (λ t. view_in t k) e ∙ p.1), p.1)
 
-pub index-requires : goal.index-requires
-index-requires c =
+pub node-requires : goal.node-requires
+node-requires c =
     let p = found c.self.inside.slab c.self.inside.root _ c.args.self.now c.args.node c.self.invariant.1 c.self.view_is c.requires in
     subst IsSome (sym p.1) refl
 
@@ -29,4 +30,4 @@ pub returns-clause-tree : goal.returns-clause-tree
 returns-clause-tree c = seen_tree c.self.inside.slab c.self.inside.root _ _ c.self.invariant.1 c.self.view_is
 
 pub returns-clause-children : goal.returns-clause-children
-returns-clause-children c = children_shown c.args.self.now c.args.node c.index.result.now (returns-clause-value c)
+returns-clause-children c = children_shown c.args.self.now c.args.node (shown c.node.result.now) (returns-clause-value c)

@@ -1,0 +1,15 @@
+-- The slab's change is seen.
+use Rattle.std.proofs.Common.{Some, subst}
+use Rattle.slab.specs.Slab.{Updates}
+use Rattle.tree_nodes.specs.Shown.{shown_slab}
+use Rattle.tree_nodes.specs.declared.node.Role.TheVariants.{Leaf}
+use Rattle.tree_nodes.specs.declared.node_view.NodeView.TheVariants.{Leaf as LeafNode}
+use Rattle.tree_nodes.proofs.ShownSlabs.{shown_updates}
+use Rattle.tree_nodes.proofs.node_slab.NodeSlab.insert_reserved.Goals as goal
+
+pub returns-clause-updates : goal.returns-clause-updates
+returns-clause-updates c =
+    let new = c.insert_reserved.new.self in
+    subst (λ s. Updates s (shown_slab new) c.insert_reserved.result (Some (LeafNode c.args.slot c.args.fat))) c.self.view_is
+    (shown_updates c.self.inside.slab new c.insert_reserved.result (Some (record { bounds = c.args.fat; role = Leaf c.args.slot }))
+    c.insert_reserved.ensures.updates)
