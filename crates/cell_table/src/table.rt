@@ -1,5 +1,6 @@
-ghost use Rattle.std.specs.Prelude.{◌≡◌, ◌+◌, ◌<◌, ◌++◌, true, false, IfOk, OnOk, OnErr, length, take};
+ghost use Rattle.std.specs.Prelude.{◌≡◌, ℕ, ◌+◌, ◌<◌, ◌++◌, true, false, Some, IfOk, OnOk, OnErr, length, take};
 ghost use Rattle.std.specs.FinMap as map;
+ghost use Rattle.cell_table.specs.declared.cell_key.CellKey as key;
 ghost use Rattle.cell_table.specs.Cells.{slots_in, slots_at, VisitsRow};
 ghost use Rattle.cell_table.specs.Kept.{AreStarts};
 ghost use Rattle.cell_table.specs.Listed.{Lists};
@@ -54,6 +55,14 @@ impl CellTable {
             prev: nodes(alloc)?,
             levels: no_counts(alloc)?,
         })
+    }
+
+    /// A law for proofs, with nothing to run: each slot that has a key is one of those that there may be.
+    pub fn slots_law(&self)
+        ensures { (slot : ℕ) (k : key.CellKey) → map.get self.now slot ≡ Some k → slot < SLOTS }
+    {
+        // what a value keeps is known where it is read
+        let _keys = &self.keys;
     }
 
     /// The key of a slot.

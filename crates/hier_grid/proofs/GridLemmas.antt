@@ -9,7 +9,7 @@ use Rattle.std.proofs.lemmas.Bool.Decides.{nat_tests}
 use Rattle.std.specs.Ordering.{nat_cmp, eq_by_cmp, is_eq}
 use Rattle.std.specs.declared.cmp.Ordering.TheVariants.{Less, Equal, Greater}
 use Rattle.std.specs.Cmp.{ranked}
-use Rattle.std.specs.FinMap.{FinMap, get, get-insert, get-remove, insert, remove, contains_key, empty, get-empty, entries, get-entries}
+use Rattle.std.specs.FinMap.{FinMap, get, get-insert, get-remove, insert, remove, contains_key, empty, empty_of_len, get-empty, len, entries, get-entries}
 use Rattle.std.specs.FinMap as maps
 use Rattle.fixed_box.specs.Bounds.{Bounds, cell_side, encloses, level_of, longest_side, meets}
 use Rattle.cell_table.specs.declared.cell_key.CellKey.{CellKey}
@@ -76,6 +76,15 @@ grid_new bodies cells e f = record {
   sized = λ s b h. absurd (none_some b (sym (ap (λ m. get m s) e ∙ get-empty nat_cmp s) ∙ h));
 }
 
+-- another hull holds all boxes too
+pub grid_held : (bodies : FinMap nat_cmp Bounds) (cells : FinMap nat_cmp CellKey) (hull left : Option Bounds) → IsGrid bodies cells hull
+    → ((s : ℕ) (b : Bounds) → get bodies s ≡ Some b → is_held hull b ≡ true → is_held left b ≡ true) → IsGrid bodies cells left
+grid_held bodies cells hull left g more = record { held = λ s b h. more s b h (g.held s b h); keyed = g.keyed; sized = g.sized }
+
+-- where there are no boxes no slot has one
+pub no_box : (bodies : FinMap nat_cmp Bounds) (s : ℕ) (b : Bounds) → len bodies ≡ 0 → get bodies s ≡ Some b → ⊥
+no_box bodies s b none h = none_some b (sym (ap (λ m. get m s) (empty_of_len bodies none) ∙ get-empty nat_cmp s) ∙ h)
+
 some_map : (o : Option Bounds) → is_some (option_map cell_of o) ≡ is_some o
 some_map None = refl
 some_map (Some b) = refl
@@ -131,8 +140,8 @@ none_in [] q l h = false≢true h
 none_in (x ∷ xs) q l h = absurd (omega arith)
 
 -- A level with no slot has no box.
-pub bare : (bodies : FinMap nat_cmp Bounds) (cells : FinMap nat_cmp CellKey) (hull : Option Bounds) (level : ℕ) → IsGrid bodies cells hull → length (slots_at cells level) ≡ 0
-    → IsBare bodies level
+pub bare : (bodies : FinMap nat_cmp Bounds) (cells : FinMap nat_cmp CellKey) (hull : Option Bounds) (level : ℕ) → IsGrid bodies cells hull
+    → length (slots_at cells level) ≡ 0 → IsBare bodies level
 bare bodies cells hull level g none q b e l =
     none_in (slots_at cells level) q none (has_level cells q (cell_of b) level l (g.keyed q ∙ ap (option_map cell_of) e))
 

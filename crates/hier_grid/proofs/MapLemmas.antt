@@ -21,5 +21,12 @@ module _ {X : Type 0} where
         | inr ne ↦ sym (ap (λ b. cond b (Some k) (get m q)) (tie_other q s ne))
       ] ∙ sym (get-insert nat_cmp_total m s k q))
 
+  pub remove_absent : (m : FinMap nat_cmp X) (s : ℕ) → get m s ≡ None → m ≡ remove m s
+  remove_absent m s h = same_map nat_cmp_total nat_cmp-IsAntisymmetric m (remove m s) (λ q.
+      elim (cases_eq q s) as (λ _. get m q ≡ cond (eq_by_cmp nat_cmp q s) None (get m q)) [
+        | inl e ↦ ap (get m) e ∙ h ∙ sym (ap (λ b. cond b None (get m q)) (tie_same q s e))
+        | inr ne ↦ sym (ap (λ b. cond b None (get m q)) (tie_other q s ne))
+      ] ∙ sym (get-remove nat_cmp_total m s q))
+
   pub gone : (m : FinMap nat_cmp X) (s : ℕ) → contains_key (remove m s) s ≡ false
   gone m s = ap is_some (get-remove nat_cmp_total m s s ∙ ap (λ b. cond b None (get m s)) (tie_same s s refl))

@@ -4,15 +4,13 @@ use Rattle.std.specs.Prelude.{max}
 use Rattle.std.proofs.Math.Pow.{pow_mono}
 use Rattle.std.proofs.lemmas.Cmp.{nat_cmp_total}
 use Rattle.std.specs.Ordering.{nat_cmp}
-use Rattle.std.specs.FinMap.{FinMap, get, get-insert, insert, contains_key}
+use Rattle.std.specs.FinMap.{FinMap, get, get-insert, get-remove, insert, remove, contains_key}
 use Rattle.fixed_box.specs.Bounds.{Bounds, cell_side, level_of, longest_side, meets}
 use Rattle.slot_lists.specs.SlotMapLaws.{tie_same, tie_other}
 use Rattle.cell_table.specs.declared.cell_key.CellKey.{CellKey}
-use Rattle.hier_grid.specs.declared.nearby.Nearby.{Nearby}
-use Rattle.hier_grid.specs.Cells.{cell_of, cell_on, IsBeside, IsInRows}
+use Rattle.hier_grid.specs.Cells.{cell_of, cell_on, IsBeside}
 use Rattle.hier_grid.specs.Grid.{AreKeyed, IsSized}
-use Rattle.hier_grid.specs.Search.{IsNearby}
-use Rattle.hier_grid.specs.Standing.{AreStanding, IsStandingNear, standing_cell}
+use Rattle.hier_grid.specs.Standing.{AreStanding, standing_cell}
 use Rattle.hier_grid.proofs.CellLemmas.{beside}
 
 max_left : (l f : ℕ) → f ≤ l → max l f ≡ l
@@ -57,12 +55,11 @@ put_here cells s k = get-insert nat_cmp_total cells s k s ∙ ap (λ b. cond b (
 pub put_other : (cells : FinMap nat_cmp CellKey) (s : ℕ) (k : CellKey) (q : ℕ) → (q ≡ s → ⊥) → get (insert cells s k) q ≡ get cells q
 put_other cells s k q ne = get-insert nat_cmp_total cells s k q ∙ ap (λ b. cond b (Some k) (get cells q)) (tie_other q s ne)
 
--- ---- what is near
-pub near_standing : (floor : ℕ) (near : Nearby) (q : ℕ) (b : Bounds) → floor ≤ level_of b → IsNearby near q b → IsStandingNear floor near q b
-near_standing floor near q b h n = elim n as (λ _. IsStandingNear floor near q b) [
-  | inl slot ↦ inl slot
-  | inr row ↦ inr (subst (IsInRows near.rows.items) (sym (stands_own floor b h)) row)
-]
+pub drop_here : (cells : FinMap nat_cmp CellKey) (s : ℕ) → get (remove cells s) s ≡ None
+drop_here cells s = get-remove nat_cmp_total cells s s ∙ ap (λ b. cond b None (get cells s)) (tie_same s s refl)
+
+pub drop_other : (cells : FinMap nat_cmp CellKey) (s q : ℕ) → (q ≡ s → ⊥) → get (remove cells s) q ≡ get cells q
+drop_other cells s q ne = get-remove nat_cmp_total cells s q ∙ ap (λ b. cond b None (get cells q)) (tie_other q s ne)
 
 -- ---- which slots have cells
 some_map : (floor : ℕ) (o : Option Bounds) → is_some (option_map (standing_cell floor) o) ≡ is_some o
@@ -73,6 +70,6 @@ pub same_standing : (bodies : FinMap nat_cmp Bounds) (floor : ℕ) (cells : FinM
     → contains_key cells s ≡ contains_key bodies s
 same_standing bodies floor cells s keyed = ap is_some (keyed s) ∙ some_map floor (get bodies s)
 
-pub absent : (o : Option Bounds) → ((b : Bounds) → o ≡ Some b → ⊥) → o ≡ None
+pub absent : {X : Type 0} (o : Option X) → ((x : X) → o ≡ Some x → ⊥) → o ≡ None
 absent None h = refl
-absent (Some b) h = absurd (h b refl)
+absent (Some x) h = absurd (h x refl)

@@ -6,6 +6,7 @@ use Rattle.fixed_box.specs.declared.point.Point.{Point}
 use Rattle.cell_table.specs.declared.cell_key.CellKey.{CellKey}
 use Rattle.hier_grid.specs.declared.cell_block.CellBlock.{CellBlock}
 use Rattle.hier_grid.specs.declared.cell_row.CellRow.{CellRow}
+use Rattle.hier_grid.specs.declared.later_cells.LaterCells.{LaterCells}
 
 -- the place of a coordinate among the cells of a level: the quotient by their side, rounded down
 abbrev pub cell_at : ℕ → ℤ → ℤ
@@ -60,3 +61,17 @@ pub record IsInRow (row : CellRow) (k : CellKey) : Type 0 where
 abbrev pub IsInRows : List CellRow → CellKey → Type 0
 IsInRows [] k = ⊥
 IsInRows (row ∷ rows) k = IsInRow row k ⊎ IsInRows rows k
+
+-- a cell at the x of one corner is in a plane of cells: from that corner on, and before another, on y and z
+pub record IsInPlane (from end : CellKey) (k : CellKey) : Type 0 where
+  pub low_y : from.y ≤ℤ k.y
+  pub high_y : k.y <ℤ end.y
+  pub low_z : from.z ≤ℤ k.z
+  pub high_z : k.z <ℤ end.z
+  pub plane : k ≡ record from { y = k.y; z = k.z }
+
+-- a cell is among those that come later: in the rest of a row, in a plane or in a block
+abbrev pub IsAmong : LaterCells → CellKey → Type 0
+IsAmong cells k =
+    IsInRow (record { key = cells.row; end = cells.end.z }) k
+    ⊎ (IsInPlane cells.plane cells.end k ⊎ IsInBlock (record { from = cells.block; end = cells.end }) k)

@@ -104,6 +104,10 @@ IsOther body b = (level_of body < level_of b) ⊎ ((level_of b ≡ level_of body
 abbrev pub IsDue : ℕ → Bounds → ℕ → Bounds → Type 0
 IsDue slot body q b = ((cell_of b ≡ cell_of body) × (slot < q)) ⊎ IsOther body b
 
+-- the same of two boxes of one level
+abbrev pub IsDueBeside : ℕ → Bounds → ℕ → Bounds → Type 0
+IsDueBeside slot body q b = (level_of b ≡ level_of body) × (((cell_of b ≡ cell_of body) × (slot < q)) ⊎ IsAfter (cell_of b) (cell_of body))
+
 -- what was found is right
 abbrev pub IsSound : FinMap nat_cmp Bounds → List Pair → Type 0
 IsSound bodies pairs = (p : Pair) → has_pair pairs p ≡ true → is_near bodies p ≡ true

@@ -1,12 +1,10 @@
 -- Definitions: the cells in which boxes stand in a list by bucket, where none stands below a floor.
-use Rattle.std.specs.Prelude.{◌≡◌, ◌⊎◌, ℕ, true, max, option_map}
+use Rattle.std.specs.Prelude.{◌≡◌, ℕ, max, option_map}
 use Rattle.std.specs.Ordering.{nat_cmp}
 use Rattle.std.specs.FinMap.{FinMap, get}
 use Rattle.fixed_box.specs.Bounds.{Bounds, level_of}
-use Rattle.broad_index.specs.Members.{has_slot}
 use Rattle.cell_table.specs.declared.cell_key.CellKey.{CellKey}
-use Rattle.hier_grid.specs.Cells.{cell_on, IsInRows}
-use Rattle.hier_grid.specs.declared.nearby.Nearby.{Nearby}
+use Rattle.hier_grid.specs.Cells.{cell_on}
 
 -- A box stands at its level, or at the floor where that is higher, in the cell of its lower corner. It is shorter than those cells.
 abbrev pub standing_cell : ℕ → Bounds → CellKey
@@ -15,7 +13,3 @@ standing_cell floor b = cell_on (max (level_of b) floor) b.lo
 -- exactly the present slots have cells, each that in which its box stands
 abbrev pub AreStanding : FinMap nat_cmp Bounds → ℕ → FinMap nat_cmp CellKey → Type 0
 AreStanding bodies floor cells = (s : ℕ) → get cells s ≡ option_map (standing_cell floor) (get bodies s)
-
--- a slot is near: it is in a list, or its box stands in a row of cells
-abbrev pub IsStandingNear : ℕ → Nearby → ℕ → Bounds → Type 0
-IsStandingNear floor near q b = (has_slot near.slots.items q ≡ true) ⊎ IsInRows near.rows.items (standing_cell floor b)

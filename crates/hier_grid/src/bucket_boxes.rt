@@ -1,17 +1,20 @@
 ghost use Rattle.std.specs.Prelude.{◌≡◌, ◌<◌, ◌++◌, true, OnOk, All, length, map as mapped};
 ghost use Rattle.std.specs.FinMap as map;
-ghost use Rattle.hier_grid.specs.Cells.{IsInRow, IsInRows};
+ghost use Rattle.hier_grid.specs.Cells.{IsAmong, IsInBlock, IsInPlane, IsInRow};
 ghost use Rattle.hier_grid.specs.Buckets.{AreOf, FindsIn, HasBuckets, is_met, met_pairs};
 ghost use Rattle.hier_grid.specs.Standing.{AreStanding};
 
+use crate::cell_block::CellBlock;
 use crate::cell_row::CellRow;
 use crate::floor::floor_for;
 use crate::kept_boxes::KeptBoxes;
+use crate::later_cells::LaterCells;
+use crate::near_cells::{row_at, with_x};
 use crate::partners::is_sought;
 use crate::slot_box::SlotBox;
-use crate::standing_cells::standing_cells;
+use crate::standing_cells::settle_cells;
 use broad_index::Pair;
-use cell_table::{BucketList, CellTable, LEVELS};
+use cell_table::{BucketList, CellKey, CellTable, LEVELS};
 use fixed_box::NoMemory;
 use slot_lists::SlotBoxes;
 use std::alloc::Global;
@@ -23,6 +26,9 @@ use std::alloc::Global;
 pub(crate) struct BucketBoxes {
     list: BucketList,
     entries: Vec<SlotBox>,
+    // The cells in which the boxes stood when levels were merged last, for want of which a table is made. Most boxes stay in
+    // their cells, so the next time few are moved.
+    merged: Option<CellTable>,
     /// No box stands in a cell of a level below this one.
     pub(crate) floor: u8,
 }
@@ -33,6 +39,7 @@ impl BucketBoxes {
         BucketBoxes {
             list: BucketList::new(alloc),
             entries: Vec::new(alloc),
+            merged: None,
             floor: 0,
         }
     }
@@ -62,10 +69,15 @@ impl BucketBoxes {
         requires { floor < LEVELS }
         ensures { OnOk result (HasBuckets kept.now self.new) }
     {
-        let alloc = *self.entries.allocator();
-        let cells = standing_cells(alloc, kept, floor)?;
+        let mut cells = match self.merged.take() {
+            Some(cells) => cells,
+            None => CellTable::new(*self.entries.allocator())?,
+        };
+        settle_cells(kept, floor, &mut cells);
         self.floor = floor;
-        self.fill_cells(kept, &cells)
+        self.fill_cells(kept, &cells)?;
+        self.merged = Some(cells);
+        Ok(())
     }
 
     // Copies all boxes, in the order of the buckets of the cells in which they stand.
@@ -79,21 +91,61 @@ impl BucketBoxes {
         Ok(())
     }
 
-    /// Finds the pairs of a slot with its partners in some rows of cells.
-    pub(crate) fn find_in_rows(
+    /// Finds the pairs of a slot with its partners in those cells that come later.
+    pub(crate) fn find_later(
         &self,
         own: &SlotBox,
-        rows: &[CellRow],
+        cells: &LaterCells,
         looked: &mut u64,
         pairs: &mut Vec<Pair>,
     ) -> Result<(), NoMemory>
         requires { length self.now.entries.items ≡ length self.now.list.slots }
-        ensures { OnOk result (FindsIn self.now own.now true (IsInRows rows.now) pairs.old.items pairs.new.items) }
+        ensures { OnOk result (FindsIn self.now own.now true (IsAmong cells.now) pairs.old.items pairs.new.items) }
     {
-        let mut rest = rows;
-        'rows: while let [row, more @ ..] = rest {
-            self.find_in_row(own, true, row, looked, pairs)?;
-            rest = more;
+        let block = CellBlock {
+            from: cells.block,
+            end: cells.end,
+        };
+        let row = row_at(&cells.row, cells.row.y, &cells.end);
+        self.find_in_row(own, true, &row, looked, pairs)?;
+        self.find_in_plane(own, &cells.plane, &cells.end, looked, pairs)?;
+        self.find_in_block(own, &block, looked, pairs)?;
+        Ok(())
+    }
+
+    /// Finds the pairs of a slot with its partners in a block of cells.
+    pub(crate) fn find_in_block(
+        &self,
+        own: &SlotBox,
+        block: &CellBlock,
+        looked: &mut u64,
+        pairs: &mut Vec<Pair>,
+    ) -> Result<(), NoMemory>
+        requires { length self.now.entries.items ≡ length self.now.list.slots }
+        ensures { OnOk result (FindsIn self.now own.now true (IsInBlock block.now) pairs.old.items pairs.new.items) }
+    {
+        'block: for x in block.from.x..block.end.x {
+            let from = with_x(&block.from, x);
+            self.find_in_plane(own, &from, &block.end, looked, pairs)?;
+        }
+        Ok(())
+    }
+
+    // The same in the cells at one x, from one corner on and below another.
+    fn find_in_plane(
+        &self,
+        own: &SlotBox,
+        from: &CellKey,
+        end: &CellKey,
+        looked: &mut u64,
+        pairs: &mut Vec<Pair>,
+    ) -> Result<(), NoMemory>
+        requires { length self.now.entries.items ≡ length self.now.list.slots }
+        ensures { OnOk result (FindsIn self.now own.now true (IsInPlane from.now end.now) pairs.old.items pairs.new.items) }
+    {
+        'plane: for y in from.y..end.y {
+            let row = row_at(from, y, end);
+            self.find_in_row(own, true, &row, looked, pairs)?;
         }
         Ok(())
     }

@@ -1,15 +1,11 @@
 ghost use Rattle.std.specs.Prelude.{◌<◌};
 
 use crate::cell::standing_cell;
-use crate::hull::grown;
-use crate::kept_boxes::KeptBoxes;
+use crate::kept_boxes::{KeptBoxes, MOST_BESIDE};
 use crate::near_cells::count_beside;
 use cell_table::LEVELS;
-use fixed_box::{FBox, SLOTS};
+use fixed_box::FBox;
 use slot_lists::SlotBoxes;
-
-// A level of fewer boxes than a cell has neighbours is scanned, so that no row of its cells is looked at.
-const FEWEST_IN_CELLS: u32 = 27;
 
 // So many searches that look at fewer rows pay for the cells that have to be made first.
 const FEWEST_RAISED: u32 = 512;
@@ -26,7 +22,7 @@ const MOST_SHARED: u32 = 4;
 pub(crate) fn floor_for(kept: &KeptBoxes) -> u8
     ensures { result < LEVELS }
 {
-    let Some(hull) = hull_of(kept.boxes()) else {
+    let Some(hull) = kept.hull() else {
         return 0;
     };
     let floor = floor_in(kept, &hull);
@@ -51,7 +47,8 @@ fn floor_in(kept: &KeptBoxes, hull: &FBox) -> u8
         if is_crowded(level, hull, standing) {
             break;
         }
-        if raised >= FEWEST_RAISED && there >= FEWEST_IN_CELLS {
+        // a level of fewer boxes is scanned, so that no row of its cells is looked at
+        if raised >= FEWEST_RAISED && there >= MOST_BESIDE {
             floor = level;
         }
     }
@@ -102,15 +99,4 @@ fn shares(boxes: &SlotBoxes, level: u8, body: &FBox, slot: u32) -> bool
         Some(other) => standing_cell(level, body) == standing_cell(level, &other),
         None => false,
     }
-}
-
-// The least box that encloses all boxes, if there is one.
-fn hull_of(boxes: &SlotBoxes) -> Option<FBox> {
-    let mut hull = None;
-    'slots: for slot in 0..SLOTS {
-        if let Some(body) = boxes.box_of(slot) {
-            hull = Some(grown(&hull, &body));
-        }
-    }
-    hull
 }

@@ -39,11 +39,11 @@ const LISTED_FROM: usize = 1_024;
 ///
 /// Each level costs a search some nine rows of cells. So where the hull of all boxes has cells to spare, boxes of low levels
 /// are copied as if they lay at a higher one: a box is shorter than the cells of each level from its own on. Another table of
-/// cells is made for that, and dropped behind the copy.
+/// cells is made for that, and kept: the next time those slots alone are moved in it whose cells there have changed.
 ///
 /// A ray or a segment is followed through the cells of a level: their block is cut in two again and again about the line's
 /// path, and a part that the line misses is passed by. The block reaches no further than a hull, which grows with each box
-/// that comes or moves and doesn't shrink. A level through which the line would take more steps than there are sixteenths of
+/// that comes or moves, and shrinks only where no box is left. A level through which the line would take more steps than there are sixteenths of
 /// its boxes is scanned.
 ///
 /// Changes take no memory, and a time that doesn't grow with the number of boxes; `new` and every search take some.

@@ -1,8 +1,8 @@
 ghost use Rattle.std.specs.Prelude.{◌≡◌, ℕ, ◌<◌, ◌≤◌, true, false, Some, IsTrue, IfOk, OnOk};
 ghost use Rattle.std.specs.FinMap as map;
 ghost use Rattle.fixed_box.specs.Bounds.{Bounds, meets};
-ghost use Rattle.hier_grid.specs.Grid.{AreKeyed, IsSized, is_met};
-ghost use Rattle.hier_grid.specs.Search.{HasHits, HasHitsBelow, HasMetIn, HasMore, HasNearby};
+ghost use Rattle.hier_grid.specs.Grid.{AreKeyed, IsSized, is_held, is_met};
+ghost use Rattle.hier_grid.specs.Search.{HasHits, HasHitsBelow, HasMet, HasMetIn, HasMore, HasNearby};
 ghost use Rattle.hier_grid.specs.Search.{IsBare, IsEnd, IsRegionOf, NearsAfter, NearsIn, NearsLevel, StaysNearby};
 ghost use Rattle.fixed_box.specs.Space.{space};
 
@@ -23,12 +23,16 @@ use std::marker::Model;
 // A scan of so many boxes for a line costs about as much as a step along it.
 const BOXES_PER_STEP: u32 = 16;
 
+// A box is shorter than the cells of its level, so that it lies in at most two of them on each axis, and has at most so many
+// beside it.
+pub(crate) const MOST_BESIDE: u32 = 27;
+
 /// The boxes under their slots, each in the cell of its level, seen as a map from slot to box.
 #[derive(Drop)]
 pub(crate) struct KeptBoxes {
     boxes: LeveledBoxes,
     cells: CellTable,
-    // It grows with each box that is put, and stays as boxes go.
+    // It grows with each box that is put, and stays as boxes go, until the last one goes.
     hull: Option<FBox>,
 }
 
@@ -72,6 +76,13 @@ impl KeptBoxes {
         ensures { AreKeyed self.now result.now }
     {
         &self.cells
+    }
+
+    /// A box in which all boxes lie, if there is one. It may be wider than they are: it shrinks only where no box is left.
+    pub(crate) fn hull(&self) -> Option<FBox>
+        ensures { (slot : ℕ) (b : Bounds) → map.get self.now slot ≡ Some b → IsTrue (is_held result b) }
+    {
+        self.hull
     }
 
     /// A law for proofs, with nothing to run: each box lies in space.
@@ -125,6 +136,7 @@ impl KeptBoxes {
     {
         self.cells.take(slot);
         self.boxes.take(slot);
+        self.hull = hull_left(self.boxes.boxes(), &self.hull);
     }
 
     /// Lists slots and rows of cells, and among them all boxes of a level that meet a box of it and lie in cells after its
@@ -138,7 +150,7 @@ impl KeptBoxes {
         requires { level < LEVELS }
         ensures { OnOk result (NearsAfter self.now level body.now near.new) }
     {
-        if self.has_few(level, body) {
+        if self.has_few_beside(level, body) {
             self.scan(level, body, near)
         } else {
             self.push_after_cell(level, body, near)
@@ -317,12 +329,20 @@ impl KeptBoxes {
         }
     }
 
-    // Whether a level has boxes.
-    fn has_some(&self, level: u8) -> bool
+    /// Whether a level has boxes.
+    pub(crate) fn has_some(&self, level: u8) -> bool
         requires { level < LEVELS }
         ensures { result ≡ false → IsBare self.now level }
     {
         self.cells.level_len(level) > 0
+    }
+
+    /// Whether a box has more cells of a level, its own or a higher one, beside it than the level has boxes. Such a level is
+    /// told by its boxes alone where they are no fewer than such cells can be.
+    pub(crate) fn has_few_beside(&self, level: u8, body: &FBox) -> bool
+        requires { level < LEVELS }
+    {
+        self.cells.level_len(level) < MOST_BESIDE && self.has_few(level, body)
     }
 
     // Whether a region has more cells of a level beside it than the level has boxes.
@@ -332,10 +352,11 @@ impl KeptBoxes {
         count_beside(level, region) > u64::from(self.cells.level_len(level))
     }
 
-    // Appends the slots of a level whose boxes meet a region. Each box of the level is compared, and counted.
-    fn scan(&self, level: u8, region: &FBox, near: &mut Nearby) -> Result<(), NoMemory>
+    /// Appends the slots of a level whose boxes meet a region. Each box of the level is compared, and counted.
+    pub(crate) fn scan(&self, level: u8, region: &FBox, near: &mut Nearby) -> Result<(), NoMemory>
         requires { level < LEVELS }
         ensures more { OnOk result (StaysNearby near.old near.new) }
+        ensures met { OnOk result (HasMet self.now level region.now near.new.slots.items) }
         ensures found { OnOk result (NearsLevel self.now level region.now near.new) }
     {
         near.looked = near
@@ -358,8 +379,21 @@ impl KeptBoxes {
     }
 }
 
-// Gives a present slot another key.
-fn rekey(cells: &mut CellTable, slot: u32, key: CellKey)
+// A hull, if a box is left that it may hold.
+fn hull_left(boxes: &SlotBoxes, hull: &Option<FBox>) -> Option<FBox>
+    ensures { (slot : ℕ) (b : Bounds) → map.get boxes.now slot ≡ Some b → IsTrue (is_held hull.now b) → IsTrue (is_held result b) }
+{
+    if is_bare(boxes) { None } else { *hull }
+}
+
+fn is_bare(boxes: &SlotBoxes) -> bool
+    ensures { result ≡ true → map.len boxes.now ≡ 0 }
+{
+    boxes.len() == 0
+}
+
+/// Gives a present slot another key.
+pub(crate) fn rekey(cells: &mut CellTable, slot: u32, key: CellKey)
     requires small { slot < SLOTS }
     requires level { key.level < LEVELS }
     requires present { map.contains_key cells.old slot ≡ true }

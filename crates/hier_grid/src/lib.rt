@@ -14,6 +14,7 @@ mod grid;
 mod hits;
 mod hull;
 mod kept_boxes;
+mod later_cells;
 mod level_columns;
 mod leveled_boxes;
 mod line_path;

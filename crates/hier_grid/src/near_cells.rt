@@ -1,11 +1,12 @@
 ghost use Rattle.std.specs.Prelude.{◌≡◌, ℤ, pos, ◌+ℤ◌, ◌-ℤ◌, ◌<◌, ◌≤ℤ◌, ◌<ℤ◌, OnOk};
 ghost use Rattle.cell_table.specs.declared.cell_key.CellKey as key;
-ghost use Rattle.hier_grid.specs.Cells.{cell_at, cell_on, IsAfter, IsBeside, IsInBlock, IsInRow, IsInRows};
+ghost use Rattle.hier_grid.specs.Cells.{cell_at, cell_on, IsAfter, IsAmong, IsBeside, IsInBlock, IsInRow, IsInRows};
 ghost use Rattle.hier_grid.specs.Search.{HasCell, HasMore, HasRows};
 
 use crate::cell::cell_at;
 use crate::cell_block::CellBlock;
 use crate::cell_row::CellRow;
+use crate::later_cells::LaterCells;
 use cell_table::{CellKey, CellTable, LEVELS};
 use fixed_box::{FBox, Fix, NoMemory};
 
@@ -28,11 +29,25 @@ pub(crate) fn push_after(level: u8, region: &FBox, rows: &mut Vec<CellRow>) -> R
     ensures found { OnOk result ((k : key.CellKey) → k.level ≡ level → IsBeside level region.now k
         → IsAfter k (cell_on level region.now.lo) → IsInRows rows.new.items k) }
 {
-    let end = end_beside(level, region);
-    push_row(&after_on_z(level, region), &end, rows)?;
-    push_plane(&after_on_y(level, region), &end, rows)?;
-    push_block(&after_on_x(level, region), &end, rows)?;
+    let cells = cells_after(level, region);
+    push_row(&cells.row, &cells.end, rows)?;
+    push_plane(&cells.plane, &cells.end, rows)?;
+    push_block(&cells.block, &cells.end, rows)?;
     Ok(())
+}
+
+/// Those cells beside a region that come after the cell of its lower corner in the order of x, y and z.
+#[inline(always)]
+pub(crate) fn cells_after(level: u8, region: &FBox) -> LaterCells
+    requires { level < LEVELS }
+    ensures { (k : key.CellKey) → k.level ≡ level → IsBeside level region.now k → IsAfter k (cell_on level region.now.lo) → IsAmong result k }
+{
+    LaterCells {
+        row: after_on_z(level, region),
+        plane: after_on_y(level, region),
+        block: after_on_x(level, region),
+        end: end_beside(level, region),
+    }
 }
 
 /// How many cells of a level are beside a region, as far as 64 bits go.
@@ -131,16 +146,29 @@ pub(crate) fn visit_row(
     Ok(())
 }
 
-fn with_x(key: &CellKey, x: i32) -> CellKey
+#[inline(always)]
+pub(crate) fn with_x(key: &CellKey, x: i32) -> CellKey
     ensures { result ≡ record key.now { x = x } }
 {
     CellKey { x, ..*key }
 }
 
-fn with_y(key: &CellKey, y: i32) -> CellKey
+#[inline(always)]
+pub(crate) fn with_y(key: &CellKey, y: i32) -> CellKey
     ensures { result ≡ record key.now { y = y } }
 {
     CellKey { y, ..*key }
+}
+
+/// The row of the cells from one corner on and below another on z, at the x of the first corner and at some y.
+#[inline(always)]
+pub(crate) fn row_at(from: &CellKey, y: i32, end: &CellKey) -> CellRow
+    ensures { (k : key.CellKey) → from.now.z ≤ℤ k.z → k.z <ℤ end.now.z → k ≡ record from.now { y = y; z = k.z } → IsInRow result k }
+{
+    CellRow {
+        key: with_y(from, y),
+        end: end.z,
+    }
 }
 
 // The first cell beside a region, on each axis.

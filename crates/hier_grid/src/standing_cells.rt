@@ -1,40 +1,58 @@
-ghost use Rattle.std.specs.Prelude.{◌≡◌, ℕ, ◌<◌, None, option_map, IfOk};
+ghost use Rattle.std.specs.Prelude.{◌≡◌, ℕ, ◌<◌, option_map};
 ghost use Rattle.std.specs.FinMap as map;
 ghost use Rattle.hier_grid.specs.Standing.{AreStanding, standing_cell};
 
 use crate::cell::standing_cell;
-use crate::kept_boxes::KeptBoxes;
-use cell_table::{CellTable, LEVELS};
-use fixed_box::{NoMemory, SLOTS};
+use crate::kept_boxes::{KeptBoxes, rekey};
+use cell_table::{CellKey, CellTable, LEVELS};
+use fixed_box::SLOTS;
 use slot_lists::SlotBoxes;
-use std::alloc::Global;
 
-/// The cells in which boxes stand where none stands below a floor.
-pub(crate) fn standing_cells(
-    alloc: Global,
-    kept: &KeptBoxes,
-    floor: u8,
-) -> Result<CellTable, NoMemory>
+/// Makes a table that of the cells in which boxes stand where none stands below a floor, whatever it was. A slot that has its
+/// cell there keeps it.
+pub(crate) fn settle_cells(kept: &KeptBoxes, floor: u8, cells: &mut CellTable)
     requires { floor < LEVELS }
-    ensures { IfOk result (λ cells. AreStanding kept.now floor cells) }
+    ensures { AreStanding kept.now floor cells.new }
 {
-    kept.slots_law();
-    let mut cells = CellTable::new(alloc)?;
     'slots: for slot in 0..SLOTS {
-        put_cell(kept.boxes(), slot, floor, &mut cells);
+        settle_cell(kept.boxes(), slot, floor, cells);
     }
-    Ok(cells)
+    kept.slots_law();
+    cells.slots_law();
 }
 
-// Gives a slot the cell that its box stands in, if it is present.
-fn put_cell(boxes: &SlotBoxes, slot: u32, floor: u8, cells: &mut CellTable)
+// Gives a slot the cell that its box stands in, and none where it is absent.
+fn settle_cell(boxes: &SlotBoxes, slot: u32, floor: u8, cells: &mut CellTable)
     requires floor { floor < LEVELS }
     requires small { slot < SLOTS }
-    requires absent { map.get cells.old slot ≡ None }
     ensures here { map.get cells.new slot ≡ option_map (standing_cell floor) (map.get boxes.now slot) }
     ensures others { (s : ℕ) → (s ≡ slot → ⊥) → map.get cells.new s ≡ map.get cells.old s }
 {
-    if let Some(body) = boxes.box_of(slot) {
-        cells.put(slot, standing_cell(floor, &body));
+    match boxes.box_of(slot) {
+        Some(body) => set_key(cells, slot, standing_cell(floor, &body)),
+        None => drop_key(cells, slot),
+    }
+}
+
+// Gives a slot a key, in place of the one that it has.
+fn set_key(cells: &mut CellTable, slot: u32, key: CellKey)
+    requires small { slot < SLOTS }
+    requires level { key.level < LEVELS }
+    ensures { cells.new ≡ map.insert cells.old slot key }
+{
+    if cells.key_of(slot).is_some() {
+        rekey(cells, slot, key);
+    } else {
+        cells.put(slot, key);
+    }
+}
+
+// Takes a slot's key away, if it has one.
+fn drop_key(cells: &mut CellTable, slot: u32)
+    ensures { cells.new ≡ map.remove cells.old slot }
+{
+    match cells.key_of(slot) {
+        Some(_) => cells.take(slot),
+        None => {}
     }
 }

@@ -144,6 +144,64 @@ fn few_boxes_are_compared(rt: HostRuntime) -> Result<(), Fail> {
     done
 }
 
+// The box with equal sides from a corner on.
+fn cube(lo: Point, side: i32) -> Option<FBox> {
+    let hi = Point {
+        x: lo.x.saturating_add(side),
+        y: lo.y.saturating_add(side),
+        z: lo.z.saturating_add(side),
+    };
+    FBox::new(lo, hi)
+}
+
+// One of so many places at equal steps.
+fn step(n: u32, count: u32, width: i32) -> i32 {
+    (n.checked_rem(count).unwrap_or(0) as i32).wrapping_mul(width)
+}
+
+const FAR: i32 = 6_553_600;
+
+// The first 3,000 are small, and lie near each other without meeting. The others are large, and lie far from each other and
+// from those.
+fn heaped(slot: u32) -> Option<FBox> {
+    let small = Point {
+        x: step(slot, 15, 8_192),
+        y: step(slot / 15, 15, 8_192),
+        z: step(slot / 225, 15, 8_192),
+    };
+    let large = Point {
+        x: step(slot, 31, FAR).wrapping_add(FAR),
+        y: step(slot.wrapping_mul(7), 31, FAR).wrapping_add(FAR),
+        z: step(slot.wrapping_mul(11), 31, FAR).wrapping_add(FAR),
+    };
+    if slot < 3_000 {
+        cube(small, 4_000)
+    } else {
+        cube(large, 655_360)
+    }
+}
+
+fn compare_in_heap(rt: &impl Abort, alloc: Global, grid: &mut HierGrid) -> Result<(), Fail> {
+    for slot in 0..3_030 {
+        put(grid, slot, heaped(slot).ok_or("a box")?)?;
+    }
+    let mut pairs = Vec::new(alloc);
+    grid.pairs(&mut pairs)?;
+    let looked = grid.looked();
+    same_pairs(rt, "pairs", &pairs, &[]);
+    // in the cells of the large boxes the small ones would all be compared with each other, some 9,000,000 times
+    assert!(rt; looked < 300_000, "{looked} comparisons");
+    Ok(())
+}
+
+#[test]
+fn small_boxes_in_a_heap_stay_in_small_cells(rt: HostRuntime) -> Result<(), Fail> {
+    let mut grid = HierGrid::new(rt.alloc())?;
+    let done = compare_in_heap(&rt, rt.alloc(), &mut grid);
+    drop(grid);
+    done
+}
+
 const ORIGIN: Point = Point { x: 0, y: 0, z: 0 };
 
 // What slots 4 and 2 reach, where both are present.

@@ -52,19 +52,22 @@ returns c b sized there =
       ints,
       c.high_face.ensures b.lo.x b.hi.x (le_of_test b.hi.x (pos 2147483647) highs.x)
           (omega (arith, ints, subst (λ n. cell_at n b.lo.x <ℤ c.args.self.now.end.x) there.level there.high_x))
-          (subst (λ n. b.hi.x <ℤ (b.lo.x +ℤ pos (cell_side n))) there.level (short b.lo.x b.hi.x (cell_side (level_of b)) (omega arith) (le_of_test b.lo.x b.hi.x order.x))),
+          (subst (λ n. b.hi.x <ℤ (b.lo.x +ℤ pos (cell_side n))) there.level
+          (short b.lo.x b.hi.x (cell_side (level_of b)) (omega arith) (le_of_test b.lo.x b.hi.x order.x))),
     )))
     (test_of_le b.hi.y hi.y (omega (
       arith,
       ints,
       c.high_face-2.ensures b.lo.y b.hi.y (le_of_test b.hi.y (pos 2147483647) highs.y)
           (omega (arith, ints, subst (λ n. cell_at n b.lo.y <ℤ c.args.self.now.end.y) there.level there.high_y))
-          (subst (λ n. b.hi.y <ℤ (b.lo.y +ℤ pos (cell_side n))) there.level (short b.lo.y b.hi.y (cell_side (level_of b)) (omega arith) (le_of_test b.lo.y b.hi.y order.y))),
+          (subst (λ n. b.hi.y <ℤ (b.lo.y +ℤ pos (cell_side n))) there.level
+          (short b.lo.y b.hi.y (cell_side (level_of b)) (omega arith) (le_of_test b.lo.y b.hi.y order.y))),
     )))
     (test_of_le b.hi.z hi.z (omega (
       arith,
       ints,
       c.high_face-3.ensures b.lo.z b.hi.z (le_of_test b.hi.z (pos 2147483647) highs.z)
           (omega (arith, ints, subst (λ n. cell_at n b.lo.z <ℤ c.args.self.now.end.z) there.level there.high_z))
-          (subst (λ n. b.hi.z <ℤ (b.lo.z +ℤ pos (cell_side n))) there.level (short b.lo.z b.hi.z (cell_side (level_of b)) (omega arith) (le_of_test b.lo.z b.hi.z order.z))),
+          (subst (λ n. b.hi.z <ℤ (b.lo.z +ℤ pos (cell_side n))) there.level
+          (short b.lo.z b.hi.z (cell_side (level_of b)) (omega arith) (le_of_test b.lo.z b.hi.z order.z))),
     ))))

@@ -1,13 +1,12 @@
--- The slots below this one are done, and no other one has a cell.
-use Rattle.std.proofs.Common.{◌≡◌, ℕ, ◌<◌, ◌≤◌, None, option_map}
+-- The slots below this one are done.
+use Rattle.std.proofs.Common.{◌≡◌, ℕ, ◌<◌, ◌≤◌, option_map}
 use Rattle.std.specs.FinMap.{get}
 use Rattle.fixed_box.specs.declared.TheConstants.{SLOTS}
 use Rattle.hier_grid.specs.Standing.{standing_cell}
-use Rattle.hier_grid.proofs.standing_cells.standing_cells.Given as goal
+use Rattle.hier_grid.proofs.standing_cells.settle_cells.Given as goal
 
 abbrev pub invariant-slots : goal.invariant-slots
 invariant-slots l = record {
   bound : l.slot ≤ SLOTS;
   done : (s : ℕ) → s < l.slot → get l.cells s ≡ option_map (standing_cell l.floor) (get l.kept s);
-  later : (s : ℕ) → l.slot ≤ s → get l.cells s ≡ None;
 }

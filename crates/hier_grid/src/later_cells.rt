@@ -1,0 +1,11 @@
+use cell_table::CellKey;
+
+/// Those cells of a level beside a region that come after the cell of its lower corner: the rest of that cell's row, the rows
+/// behind it at the same x, and those of a greater x. Each part begins at a cell of its own, and all end before the same corner.
+#[derive(Clone, Copy)]
+pub(crate) struct LaterCells {
+    pub(crate) row: CellKey,
+    pub(crate) plane: CellKey,
+    pub(crate) block: CellKey,
+    pub(crate) end: CellKey,
+}
