@@ -164,6 +164,9 @@ impl BucketBoxes {
         requires { length self.now.entries.items ≡ length self.now.list.slots }
         ensures { OnOk result (FindsIn self.now own.now any (IsInRow row.now) pairs.old.items pairs.new.items) }
     {
+        if row.is_empty() {
+            return Ok(());
+        }
         let places = self.list.row(&row.key, row.end);
         *looked = looked.saturating_add((places.to - places.from + places.wrapped) as u64);
         push_met(own, any, &self.entries[places.from..places.to], pairs)?;

@@ -21,13 +21,23 @@ pub(crate) fn cell_of(body: &FBox) -> CellKey
     cell_on(level, &body.lo())
 }
 
+/// The cell of a level that a box's lower corner lies in.
+pub(crate) fn cell_in(level: u8, body: &FBox) -> CellKey
+    requires { level < LEVELS }
+    ensures value { result ≡ cell_on level body.now.lo }
+    ensures level { result.level < LEVELS }
+    ensures high { result.z ≤ℤ pos 1048576 }
+{
+    cell_on(level, &body.lo())
+}
+
 /// The cell that a box stands in where none stands below a floor.
 pub(crate) fn standing_cell(floor: u8, body: &FBox) -> CellKey
     requires { floor < LEVELS }
     ensures value { result ≡ standing_cell floor body.now }
     ensures level { result.level < LEVELS }
 {
-    cell_on(body.level().max(floor), &body.lo())
+    cell_in(body.level().max(floor), body)
 }
 
 // The cell of a level that a point lies in.

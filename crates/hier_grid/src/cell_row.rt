@@ -1,4 +1,4 @@
-ghost use Rattle.std.specs.Prelude.{pos, ◌≤ℤ◌};
+ghost use Rattle.std.specs.Prelude.{◌≡◌, pos, ◌≤ℤ◌, true};
 ghost use Rattle.hier_grid.specs.Cells.{IsInRow};
 
 use cell_table::CellKey;
@@ -8,6 +8,16 @@ use cell_table::CellKey;
 pub(crate) struct CellRow {
     pub(crate) key: CellKey,
     pub(crate) end: i32,
+}
+
+impl CellRow {
+    /// Whether the row has no cell.
+    #[inline(always)]
+    pub(crate) fn is_empty(&self) -> bool
+        ensures { result ≡ true → self.now.end ≤ℤ self.now.key.z }
+    {
+        self.end <= self.key.z
+    }
 }
 
 /// The row of one cell.

@@ -4,7 +4,7 @@ ghost use Rattle.hier_grid.specs.Buckets.{HasBuckets};
 ghost use Rattle.hier_grid.specs.Search.{Finds, IsDue, IsDueBeside, IsEnd};
 
 use crate::bucket_boxes::BucketBoxes;
-use crate::cell::cell_of;
+use crate::cell::cell_in;
 use crate::cell_row::row_of;
 use crate::findings::Findings;
 use crate::kept_boxes::KeptBoxes;
@@ -94,7 +94,7 @@ fn find_due(
     kept.sized_law();
     let looked = &mut found.near.looked;
     let pairs = &mut found.pairs;
-    let cell = row_of(&cell_of(&own.body));
+    let cell = row_of(&cell_in(level, &own.body));
     boxes.find_in_row(own, false, &cell, looked, pairs)?;
     boxes.find_later(own, &cells_after(level, &own.body), looked, pairs)?;
     Ok(())

@@ -1,5 +1,5 @@
 -- A pair is found in the own cell, or in later ones.
-use Rattle.std.proofs.Common.{◌≡◌, ◌≤◌, true, sym, ◌∙◌, subst, inl, inr, arith}
+use Rattle.std.proofs.Common.{◌≡◌, ◌≤◌, true, ap, sym, ◌∙◌, subst, inl, inr, arith}
 use Rattle.fixed_box.specs.Bounds.{level_of}
 use Rattle.broad_index.specs.Members.{has_pair}
 use Rattle.broad_index.specs.Touched.{ordered}
@@ -25,7 +25,8 @@ returns c =
           let stands = stands_own floor b high in
           elim due.1 as (λ _. has_pair new (ordered own.slot q) ≡ true) [
             | inl same ↦ later.more (ordered own.slot q) (mine.found q b e
-                (subst (IsInRow c.row_of-cell.result) (c.cell_of.ensures.value ∙ sym same.0 ∙ sym stands) c.row_of-cell.ensures)
+                (subst (IsInRow c.row_of-cell.result) (c.cell_in.ensures.value ∙ ap (λ n. cell_on n own.body.lo) c.requires.level
+                ∙ sym same.0 ∙ sym stands) c.row_of-cell.ensures)
                 m other (higher own.slot q same.1))
             | inr after ↦ later.found q b e (subst (IsAmong c.cells_after.result) (sym stands) (c.cells_after.ensures (cell_of b) level
                 (met_beside c.args.level own.body b (c.sized_law.ensures q b e) level m)

@@ -1,6 +1,7 @@
 -- The boxes of the row stand in the two stretches.
 use Rattle.std.proofs.Common.{◌≡◌, ◌++◌, ◌-◌, true, Some, option_map, take, drop, ap, sym, ◌∙◌, subst, inl, inr, w32, SFits, rules, arith}
 use Rattle.std.proofs.Math.Facts.{to_z-of_z}
+use Rattle.std.proofs.lemmas.Int.{ints}
 use Rattle.std.specs.Prelude.{◌<ℤ◌}
 use Rattle.broad_index.specs.Members.{has_pair}
 use Rattle.broad_index.specs.Touched.{ordered}
@@ -10,6 +11,13 @@ use Rattle.hier_grid.specs.Standing.{standing_cell}
 use Rattle.hier_grid.proofs.PairLemmas.{more_pairs}
 use Rattle.hier_grid.proofs.BucketLemmas.{of_stretch, pair_met, slot_in_stretch, sound_met}
 use Rattle.hier_grid.proofs.bucket_boxes.BucketBoxes.find_in_row.Goals as goal
+
+pub returns-then-is_empty : goal.returns-then-is_empty
+returns-then-is_empty c bodies filled = record {
+  sound = λ own s. s;
+  more = λ p h. h;
+  found = λ q b e at m other due. absurd (omega (arith, ints, c.is_empty.ensures c.if-is_empty.true, at.low, at.high));
+}
 
 pub returns : goal.returns
 returns c bodies filled =
