@@ -197,11 +197,13 @@ number_negative text digits m len e h =
     ap (λ xs. fix (take (1 + len) xs)) e ∙ ap (λ k. fix (take k (45 ∷ digits))) more ∙ h.value true ∙ ap Ok (sym kept)
 
 -- what follows it
-pub end_positive : (text digits : List ℕ) (m len : ℕ) → text ≡ digits → IsMagnitudeFront digits m len → len < length text → is_ascii_digit (get_or text len 0) ≡ false
+pub end_positive : (text digits : List ℕ) (m len : ℕ) → text ≡ digits → IsMagnitudeFront digits m len → len < length text
+    → is_ascii_digit (get_or text len 0) ≡ false
 end_positive text digits m len e h more = ap (λ xs. is_ascii_digit (get_or xs len 0)) e ∙ h.longest (omega (arith, ap length e, more))
 
 pub end_negative : (text digits : List ℕ) (m len : ℕ) → text ≡ 45 ∷ digits → IsMagnitudeFront digits m len → 1 + len < length text
     → is_ascii_digit (get_or text (1 + len) 0) ≡ false
 end_negative text digits m len e h more =
     let next : 1 + len ≡ suc len = omega arith in
-    ap (λ xs. is_ascii_digit (get_or xs (1 + len) 0)) e ∙ ap (λ k. is_ascii_digit (get_or (45 ∷ digits) k 0)) next ∙ h.longest (omega (arith, ap length e, more))
+    ap (λ xs. is_ascii_digit (get_or xs (1 + len) 0)) e ∙ ap (λ k. is_ascii_digit (get_or (45 ∷ digits) k 0)) next
+    ∙ h.longest (omega (arith, ap length e, more))

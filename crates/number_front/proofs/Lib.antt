@@ -1,2 +1,3 @@
 mod FrontNumbers
 mod PrintedWords
+mod HexadecimalWords

@@ -1,7 +1,7 @@
 -- Serves proofs alone: parts of a number, at the front of a text.
-use Rattle.std.specs.Prelude.{◌≡◌, ℕ, ◌≤◌, ◌<◌, ◌^◌, ◌+◌, ◌*◌, ◌/◌, Bool, true, false, List, [], ◌∷◌, length, take, slice_index, pos, neg_ℤ, Ok, All}
+use Rattle.std.specs.Prelude.{◌≡◌, ℕ, ◌≤◌, ◌<◌, ◌^◌, ◌+◌, ◌-◌, ◌*◌, ◌/◌, ◌%◌, Bool, true, false, List, length, take, slice_index, pos, neg_ℤ, Ok, All}
 use Rattle.std.specs.Prelude.{if◌then◌else◌}
-use Rattle.std.specs.Char.{is_ascii_digit}
+use Rattle.std.specs.Char.{is_ascii_digit, is_digit, digit_value}
 use Rattle.std.specs.Str.{all_ascii_digits}
 use Rattle.std.specs.Str.Parse.{digits_value}
 use Rattle.fixed_box.specs.Fix.{fix_of_digits, digits_of_text}
@@ -38,29 +38,30 @@ pub record IsMagnitudeFront (text : List ℕ) (magnitude len : ℕ) : Type 0 whe
   pub is : IsMagnitude text magnitude len
   pub longest : len < length text → is_ascii_digit (slice_index text len) ≡ false
 
--- the word of eight bytes, the first of which is the lowest
-abbrev pub word_of : (a b c d e f g h : ℕ) → ℕ
-word_of a b c d e f g h = ((((((h * 256 + g) * 256 + f) * 256 + e) * 256 + d) * 256 + c) * 256 + b) * 256 + a
+-- the word of four bytes, the first of which is the lowest
+abbrev pub four_of : (a b c d : ℕ) → ℕ
+four_of a b c d = ((d * 256 + c) * 256 + b) * 256 + a
 
--- eight bytes are two digits, a point and five digits, which form a raw magnitude
-pub record IsPrinted (a b c d e f g h magnitude : ℕ) : Type 0 where
-  pub whole : all_ascii_digits (a ∷ b ∷ []) ≡ true
-  pub point : c ≡ 46
-  pub fraction : all_ascii_digits (d ∷ e ∷ f ∷ g ∷ h ∷ []) ≡ true
-  pub value : magnitude ≡ digits_value 10 (a ∷ b ∷ []) * 65536 + (digits_value 10 (d ∷ e ∷ f ∷ g ∷ h ∷ []) * 131072 + 100000) / 200000
-  pub small : magnitude ≤ 6553600
-
--- a number without a sign has so many hundreds, its length, and the word of eight bytes behind them or behind a zero
-pub record HasTail (text : List ℕ) (hundreds len word : ℕ) : Type 0 where
+-- the bytes of a word are the values of digits
+pub record AreDigits (values : ℕ) : Type 0 where
   pub a : ℕ
   pub b : ℕ
   pub c : ℕ
   pub d : ℕ
-  pub e : ℕ
-  pub f : ℕ
-  pub g : ℕ
-  pub h : ℕ
-  pub bytes : (a < 256) × (b < 256) × (c < 256) × (d < 256) × (e < 256) × (f < 256) × (g < 256) × (h < 256)
-  pub word_is : word ≡ word_of a b c d e f g h
-  pub few : hundreds < 100
-  pub reads : (m : ℕ) → IsPrinted a b c d e f g h m → IsMagnitude text (hundreds * 6553600 + m) len
+  pub small : (a ≤ 9) × (b ≤ 9) × (c ≤ 9) × (d ≤ 9)
+  pub is : values ≡ four_of a b c d
+
+-- a word less four zeros as digits, and the same moved up so far that so many of its first bytes stand last
+abbrev pub values_of : ℕ → ℕ
+values_of word = (word + (2 ^ 32 - 0x30303030)) % 2 ^ 32
+
+abbrev pub aligned : ℕ → ℕ → ℕ
+aligned word len = values_of word * 2 ^ (32 - 8 * len) % 2 ^ 32
+
+-- four bytes are hexadecimal digits, which form a number
+pub record AreHexadecimal (p q r s number : ℕ) : Type 0 where
+  pub first : is_digit p 16 ≡ true
+  pub second : is_digit q 16 ≡ true
+  pub third : is_digit r 16 ≡ true
+  pub fourth : is_digit s 16 ≡ true
+  pub value : number ≡ ((digit_value p * 16 + digit_value q) * 16 + digit_value r) * 16 + digit_value s

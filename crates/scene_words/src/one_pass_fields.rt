@@ -1,4 +1,4 @@
-ghost use Rattle.std.specs.Prelude.{◌≡◌, ◌+◌, ◌≤◌, ◌<◌, ◌^◌, [], true, length, take, Ok, Some, IfSome};
+ghost use Rattle.std.specs.Prelude.{◌≡◌, ◌+◌, ◌≤◌, ◌<◌, ◌^◌, [], true, length, take, drop, Ok, Some, IfSome};
 ghost use Rattle.std.specs.Char.{is_digit};
 ghost use Rattle.std.specs.List.{prefix_len, list_all};
 ghost use Rattle.std.specs.Str.Parse.{digits_value};
@@ -16,7 +16,10 @@ use crate::values::{
 };
 use fixed_box::{Fix, Point};
 use live_table::{Group, Handle, Masks};
-use number_front::{digits_ahead, fix_ahead, printed_fix_ahead};
+use number_front::{
+    digits_ahead, eight_hexadecimal_ahead, fix_ahead, index_before, printed_fix_ahead,
+    printed_fix_inside,
+};
 
 // The most digits of a mask.
 const MASK_DIGITS: usize = 8;
@@ -24,16 +27,53 @@ const MASK_DIGITS: usize = 8;
 // The largest slot and generation.
 const LARGEST: u64 = 4_294_967_295;
 
-// Three numbers, and the line from the next word on.
+// Three numbers, and the line from the next word on. Mostly each has the form in which numbers are printed, and one space
+// behind it.
+#[inline(always)]
+pub(crate) fn point_ahead(line: &[u8]) -> Option<(Point, &[u8])>
+    ensures { IfSome result (λ found. Leads point_at 3 line.now found.0 found.1.now) }
+{
+    match printed_point(line) {
+        Some(found) => Some(found),
+        None => other_point(line),
+    }
+}
+
+// Three such numbers. A line goes on behind the first two, so that each of them is read without a look at how long the line is.
 #[inline(always)]
 #[tactic(auto, unfolding(crate::specs::SceneWords::point_at))]
-pub(crate) fn point_ahead(line: &[u8]) -> Option<(Point, &[u8])>
+fn printed_point(line: &[u8]) -> Option<(Point, &[u8])>
+    ensures { IfSome result (λ found. Leads point_at 3 line.now found.0 found.1.now) }
+{
+    let (x, line) = number_inside(line)?;
+    let (y, line) = number_inside(line)?;
+    let (z, line) = printed_number(line)?;
+    Some((Point { x, y, z }, line))
+}
+
+// Three numbers of any form. They are less common, so that their code stays out of the way.
+#[inline(never)]
+#[tactic(auto, unfolding(crate::specs::SceneWords::point_at))]
+fn other_point(line: &[u8]) -> Option<(Point, &[u8])>
     ensures { IfSome result (λ found. Leads point_at 3 line.now found.0 found.1.now) }
 {
     let (x, line) = number_ahead(line)?;
     let (y, line) = number_ahead(line)?;
     let (z, line) = number_ahead(line)?;
     Some((Point { x, y, z }, line))
+}
+
+// A printed number with a space behind it, on a line that is longer than any such number.
+#[inline(always)]
+fn number_inside(line: &[u8]) -> Option<(Fix, &[u8])>
+    ensures { IfSome result (λ found. Leads number_at 1 line.now found.0 found.1.now) }
+{
+    if line.len() < 12 {
+        return None;
+    }
+    let (number, len) = printed_fix_inside(line)?;
+    let rest = past_space_at(line, len)?;
+    Some((number, rest))
 }
 
 // A number, and the line from the next word on.
@@ -57,7 +97,7 @@ fn printed_number(line: &[u8]) -> Option<(Fix, &[u8])>
     Some((number, rest))
 }
 
-// A number of another form, or between other blanks. It is less common, so that its code stays out of the way.
+// A number of another form, or between other blanks.
 #[inline(never)]
 fn other_number(line: &[u8]) -> Option<(Fix, &[u8])>
     ensures { IfSome result (λ found. Leads number_at 1 line.now found.0 found.1.now) }
@@ -99,6 +139,29 @@ fn any_number(line: &[u8]) -> Option<(Fix, &[u8])>
 // A handle, and the line from the next word on.
 #[inline(always)]
 pub(crate) fn handle_ahead(line: &[u8]) -> Option<(Handle, &[u8])>
+    ensures { IfSome result (λ found. Leads handle_at 1 line.now found.0 found.1.now) }
+{
+    match short_handle(line) {
+        Some(found) => Some(found),
+        None => other_handle(line),
+    }
+}
+
+// A handle of at most four digits on either side of its colon, with a space behind it.
+#[inline(always)]
+fn short_handle(line: &[u8]) -> Option<(Handle, &[u8])>
+    ensures { IfSome result (λ found. Leads handle_at 1 line.now found.0 found.1.now) }
+{
+    let (slot, slot_len) = index_before(b':', line)?;
+    let digits = line.split_at(slot_len + 1).1;
+    let (generation, len) = index_before(b' ', digits)?;
+    let rest = past_space_at(digits, len)?;
+    Some((Handle { slot, generation }, rest))
+}
+
+// Any other handle.
+#[inline(never)]
+fn other_handle(line: &[u8]) -> Option<(Handle, &[u8])>
     ensures { IfSome result (λ found. Leads handle_at 1 line.now found.0 found.1.now) }
 {
     let (slot, slot_len) = digits_ahead(line);
@@ -279,9 +342,23 @@ pub(crate) fn mask_or_ahead(default: u32, line: &[u8]) -> Option<(u32, &[u8])>
     mask_ahead(past_blanks(line))
 }
 
-// The hexadecimal digits at the front, at most eight: the number that they form, and how many they are.
+// The hexadecimal digits at the front, at most eight: the number that they form, and how many they are. Eight are read at once.
 #[inline(always)]
 fn hexadecimal_ahead(line: &[u8]) -> (u32, usize)
+    ensures value { result.0 ≡ digits_value 16 (take result.1 line.now) }
+    ensures digits { list_all (λ b. is_digit b 16) (take result.1 line.now) ≡ true }
+    ensures within { result.1 ≤ length line.now }
+    ensures few { result.1 ≤ 8 }
+{
+    match eight_hexadecimal_ahead(line) {
+        Some(value) => (value, MASK_DIGITS),
+        None => few_hexadecimal(line),
+    }
+}
+
+// The same, one digit at a time.
+#[inline(never)]
+fn few_hexadecimal(line: &[u8]) -> (u32, usize)
     ensures value { result.0 ≡ digits_value 16 (take result.1 line.now) }
     ensures digits { list_all (λ b. is_digit b 16) (take result.1 line.now) ≡ true }
     ensures within { result.1 ≤ length line.now }
@@ -318,6 +395,20 @@ fn past_space(line: &[u8]) -> Option<&[u8]>
         [b' ', rest @ ..] => Some(rest),
         [b'\t', rest @ ..] => Some(rest),
         _ => None,
+    }
+}
+
+// The line behind the space at a place, where there is one.
+#[inline(always)]
+fn past_space_at(line: &[u8], at: usize) -> Option<&[u8]>
+    requires { at < length line.now }
+    ensures words { IfSome result (λ rest. words rest.now ≡ words (drop at line.now)) }
+    ensures end { IfSome result (λ _. prefix_len in_word (drop at line.now) ≡ 0) }
+{
+    if line[at] == b' ' {
+        Some(line.split_at(at + 1).1)
+    } else {
+        None
     }
 }
 

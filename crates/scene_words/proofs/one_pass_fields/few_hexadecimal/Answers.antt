@@ -1,7 +1,7 @@
 -- Each digit makes the number of those before it and itself. Eight fit 32 bits.
 use Rattle.std.proofs.Common.{ℕ, ◌+◌, ◌*◌, ◌^◌, ◌<◌, arith}
 use Rattle.scene_words.proofs.Numerals.{small_more, small_most, value_more, digits_more}
-use Rattle.scene_words.proofs.one_pass_fields.hexadecimal_ahead.Goals as goal
+use Rattle.scene_words.proofs.one_pass_fields.few_hexadecimal.Goals as goal
 
 -- the digits so far and one more fit 32 bits
 room : (value digit n : ℕ) → digit < 16 → value < 16 ^ n → n < 8 → value * 16 + digit < 2 ^ 32

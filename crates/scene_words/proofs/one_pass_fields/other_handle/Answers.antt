@@ -1,7 +1,7 @@
 -- The digits before the colon and behind it are the first word.
 use Rattle.std.proofs.Common.{◌≡◌, get_or, refl, arith, rules}
 use Rattle.scene_words.proofs.WordFronts.{handle_front}
-use Rattle.scene_words.proofs.one_pass_fields.handle_ahead.Goals as goal
+use Rattle.scene_words.proofs.one_pass_fields.other_handle.Goals as goal
 
 pub returns : goal.returns
 returns c =
