@@ -1,6 +1,6 @@
 -- Slots in lists: what joining, filtering and visits of cells put into a list of slots.
 use Rattle.std.proofs.Common.{◌≡◌, ℕ, ◌+◌, ◌<◌, Bool, true, false, cond, ◌&&◌, ◌||◌, ◌==◌, List, [], ◌∷◌, ◌++◌, refl, sym, ap}
-use Rattle.std.proofs.Common.{◌∙◌, arith, ◌⊎◌}
+use Rattle.std.proofs.Common.{◌∙◌, arith, ◌⊎◌, zero, suc, length, get_or}
 use Rattle.std.specs.Prelude.{ℤ, pos, ◌+ℤ◌, ◌≤ℤ◌, ◌<ℤ◌}
 use Rattle.std.specs.List.{filter}
 use Rattle.std.proofs.lemmas.Bool.Decides.{nat_tests}
@@ -19,6 +19,16 @@ more_left old more q h = list_any-append (λ x. q == x) old more ∙ ap (λ b. b
 
 pub more_right : (old more : List ℕ) (q : ℕ) → has_slot more q ≡ true → has_slot (old ++ more) q ≡ true
 more_right old more q h = list_any-append (λ x. q == x) old more ∙ ap (λ b. has_slot old q || b) h ∙ or_true (has_slot old q)
+  where
+    or_true : (b : Bool) → (b || true) ≡ true
+    or_true true = refl
+    or_true false = refl
+
+-- what stands at a place of a list is in it
+pub has_at : (xs : List ℕ) (k : ℕ) → k < length xs → has_slot xs (get_or xs k 0) ≡ true
+has_at [] k l = absurd (omega arith)
+has_at (x ∷ xs) zero l = let here : (x == x) ≡ true = grind (arith, nat_tests) in ap (λ b. b || has_slot xs x) here
+has_at (x ∷ xs) (suc k) l = ap (λ b. (get_or xs k 0 == x) || b) (has_at xs k (omega arith)) ∙ or_true (get_or xs k 0 == x)
   where
     or_true : (b : Bool) → (b || true) ≡ true
     or_true true = refl

@@ -91,7 +91,15 @@ impl BucketBoxes {
         Ok(())
     }
 
+    /// The slots, bucket after bucket.
+    pub(crate) fn slots(&self) -> &[u32]
+        ensures { result.now ≡ self.now.list.slots }
+    {
+        self.list.slots()
+    }
+
     /// Finds the pairs of a slot with its partners in those cells that come later.
+    #[inline(always)]
     pub(crate) fn find_later(
         &self,
         own: &SlotBox,
@@ -114,6 +122,7 @@ impl BucketBoxes {
     }
 
     /// Finds the pairs of a slot with its partners in a block of cells.
+    #[inline(always)]
     pub(crate) fn find_in_block(
         &self,
         own: &SlotBox,
@@ -132,6 +141,7 @@ impl BucketBoxes {
     }
 
     // The same in the cells at one x, from one corner on and below another.
+    #[inline(always)]
     fn find_in_plane(
         &self,
         own: &SlotBox,

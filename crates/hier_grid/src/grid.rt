@@ -22,7 +22,7 @@ use std::alloc::Global;
 use std::marker::Model;
 
 // The list by bucket pays where so many searches share its walk over 16,384 buckets; fewer follow the rings of links.
-const LISTED_FROM: usize = 1_024;
+const LISTED_FROM: u32 = 1_024;
 
 /// The boxes in cells of eleven levels, whose sides are 2^12 to 2^32 raw units.
 ///
@@ -189,11 +189,10 @@ impl BroadPhase for HierGrid {
     }
 
     fn pairs(&mut self, out: &mut Vec<Pair>) -> Result<(), NoMemory> {
-        self.kept.boxes().list(&mut self.slots)?;
-        let many = self.slots.len() >= LISTED_FROM;
+        let many = self.kept.boxes().len() >= LISTED_FROM;
         self.listing.renew(&self.kept, many)?;
         let search = PairSearch::new(&self.kept, &self.listing);
-        let looked = search.find_run(&self.slots, &mut self.found)?;
+        let looked = search.find_all(&mut self.slots, &mut self.found)?;
         push_rising_pairs(&mut self.found.pairs, out)?;
         self.looked = self.looked.saturating_add(looked);
         Ok(())

@@ -101,6 +101,7 @@ fn find_due(
 }
 
 // Finds the pairs of a slot with its partners at the levels from one on and below an end.
+#[inline(always)]
 fn find_from(
     kept: &KeptBoxes,
     boxes: &BucketBoxes,

@@ -1,8 +1,9 @@
 ghost use Rattle.std.specs.Prelude.{◌≡◌, ◌<◌, true, false, OnOk};
 ghost use Rattle.fixed_box.specs.Bounds.{level_of};
-ghost use Rattle.hier_grid.specs.Buckets.{IsListing};
+ghost use Rattle.hier_grid.specs.Buckets.{HasBuckets, IsListing};
 ghost use Rattle.hier_grid.specs.Cells.{cell_of, IsInRow};
 ghost use Rattle.hier_grid.specs.Search.{IsDue, IsNearby, IsOther, Finds, FindsRun, FindsSlot};
+ghost use Rattle.slot_lists.specs.Present.{present};
 
 use crate::bucket_boxes::BucketBoxes;
 use crate::cell::cell_of;
@@ -56,6 +57,39 @@ impl PairSearch<'_> {
             listed: listing.current(),
             end: kept.levels_end(),
         }
+    }
+
+    /// Finds the pairs of all boxes, each at least once, and answers how many boxes were compared. Where the boxes are listed
+    /// by bucket they are searched in this order, so that a search reads much of what the one before it read.
+    pub(crate) fn find_all(
+        &self,
+        slots: &mut Vec<u32>,
+        found: &mut Findings,
+    ) -> Result<u64, NoMemory>
+        ensures { OnOk result (FindsRun self.now (present self.now) found.new.pairs.items) }
+    {
+        match self.listed {
+            Some(boxes) => self.find_by_bucket(boxes, found),
+            None => self.find_by_slot(slots, found),
+        }
+    }
+
+    // The same by bucket.
+    fn find_by_bucket(&self, boxes: &BucketBoxes, found: &mut Findings) -> Result<u64, NoMemory>
+        requires { HasBuckets self.now boxes.now }
+        ensures { OnOk result (FindsRun self.now (present self.now) found.new.pairs.items) }
+    {
+        let looked = self.find_run(boxes.slots(), found)?;
+        Ok(looked)
+    }
+
+    // The same by slot, rising. The slots are listed first.
+    fn find_by_slot(&self, slots: &mut Vec<u32>, found: &mut Findings) -> Result<u64, NoMemory>
+        ensures { OnOk result (FindsRun self.now (present self.now) found.new.pairs.items) }
+    {
+        self.kept.boxes().list(slots)?;
+        let looked = self.find_run(slots, found)?;
+        Ok(looked)
     }
 
     /// Finds the pairs that some slots are to find, each at least once, and answers how many boxes were compared.

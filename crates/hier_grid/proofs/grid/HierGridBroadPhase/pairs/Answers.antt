@@ -1,5 +1,5 @@
 -- All present slots are searched.
-use Rattle.std.proofs.Common.{◌≡◌, ◌++◌, subst, ◌∙◌, ap}
+use Rattle.std.proofs.Common.{◌++◌, subst, ◌∙◌, ap}
 use Rattle.broad_index.specs.Near.{near}
 use Rattle.hier_grid.specs.Search.{FindsRun}
 use Rattle.slot_lists.specs.Present.{present}
@@ -9,9 +9,8 @@ use Rattle.hier_grid.proofs.grid.HierGridBroadPhase.pairs.Goals as goal
 pub returns-clause-ok : goal.returns-clause-ok
 returns-clause-ok c =
     let kept = c.self.inside.kept in
-    let found = c.find_run.new.found.pairs.items in
-    let slots : c.deref.result.now ≡ present kept = c.deref.ensures.value ∙ c.in_ok-list.ensures.slots ∙ ap present c.boxes.ensures in
+    let found = c.find_all.new.found.pairs.items in
     let run : FindsRun kept (present kept) found =
-    subst (λ l. FindsRun kept l found) slots (subst (λ bodies. FindsRun bodies c.deref.result.now found) c.new-search.ensures c.in_ok-looked.ensures) in
+    subst (λ bodies. FindsRun bodies (present bodies) found) c.new-search.ensures c.in_ok-looked.ensures in
     c.in_ok-push_rising_pairs.ensures.near kept (present_found kept found run)
     ∙ ap (λ m. c.args.out.now.items ++ near m) c.self.view_is
