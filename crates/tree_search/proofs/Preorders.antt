@@ -23,7 +23,6 @@ use Rattle.tree_search.proofs.Counts.{raised_again, raised_none}
 use Rattle.tree_search.proofs.CrossedPairs.{crossed_append}
 use Rattle.tree_search.proofs.Descents.{exact_append}
 use Rattle.tree_search.proofs.Groups.{bits_of, none_below, picked_crossed, picked_none, quiet_from, quiet_none, looks_on, take_all}
-use Rattle.tree_nodes.proofs.Heights.{some_leaf}
 
 -- the first node of a list, and those behind it
 pub first_node : (rest : List ListedNode) (node : ListedNode) (kind : NodeKind) → 1 ≤ length rest → node ≡ get_or rest 0 node → node.kind ≡ kind

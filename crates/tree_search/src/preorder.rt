@@ -7,7 +7,7 @@ ghost use Rattle.tree_search.specs.Preorder.{leaf_node, preorder, preorder_in};
 use crate::BoxedTree;
 use crate::descent::box_law;
 use fixed_box::{FBox, NoMemory};
-use tree_nodes::{NodeView, Nodes};
+use tree_nodes::{Nodes, Role};
 
 /// A node of a tree that is listed in preorder (Ericson, 2005, 6.6.2). Where many boxes are searched for, each descent reads
 /// such a list onwards, and jumps over what stands below a hull that is missed.
@@ -50,24 +50,24 @@ fn push_preorder(
     requires { (t : Tree) × IsBelow nodes.now bodies.now at t × (length out.old.items + 2 * length (leaves t) < 2 ^ 32) }
     ensures { (t : Tree) → IsBelow nodes.now bodies.now at t → OnOk result (out.new.items ≡ out.old.items ++ preorder bodies.now t) }
 {
-    match nodes.view(at) {
-        NodeView::Leaf { slot, fat: _ } => {
+    let node = nodes.node(at);
+    match node.role {
+        Role::Leaf { slot } => {
             push_leaf(bodies, slot, out)?;
             Ok(())
         }
-        NodeView::Inner {
+        Role::Inner {
             left,
             right,
-            hull,
             height: _,
         } => {
             let place = out.len();
-            out.push(inner_node(&hull, 0))?;
-            push_preorder(nodes, bodies, left, out)?;
-            push_preorder(nodes, bodies, right, out)?;
+            out.push(inner_node(&node.bounds, 0))?;
+            push_preorder(nodes, bodies, left as usize, out)?;
+            push_preorder(nodes, bodies, right as usize, out)?;
             // known only now
             let below = out.len() - place - 1;
-            out[place] = inner_node(&hull, below as u32);
+            out[place] = inner_node(&node.bounds, below as u32);
             Ok(())
         }
     }

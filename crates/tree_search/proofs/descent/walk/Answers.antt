@@ -74,8 +74,10 @@ walk-smaller g c =
     let l = at_inner c.args.bodies.now q (c.descent_law.ensures q) c.pop.new.self (shown c.in-Some.node.now) c.walk.invariant
     c.in-Some.ensures.rest (ap (shown_as c.in-Some.node.now.bounds) c.in-Inner.is) in
     let before = ap length c.in-Some.ensures.rest ∙ length_push c.pop.new.self (shown c.in-Some.node.now) in
-    let after = ap length (c.ask-in-Inner-2.ensures ∙ ap (λ xs. xs ++ met_in q (view_in c.args.nodes.now c.in-Inner.left)) c.ask-in-Inner.ensures) in
-    let few = two_more c.args.bodies.now q (c.descent_law.ensures q) c.pop.new.self (view_in c.args.nodes.now c.in-Inner.right) (view_in c.args.nodes.now c.in-Inner.left) in
+    let both = c.ask-in-Inner-2.ensures ∙ ap (λ xs. xs ++ met_in q (view_in c.args.nodes.now c.in-Inner.left)) c.ask-in-Inner.ensures in
+    let after = ap length both in
+    let few = two_more c.args.bodies.now q (c.descent_law.ensures q) c.pop.new.self (view_in c.args.nodes.now c.in-Inner.right)
+    (view_in c.args.nodes.now c.in-Inner.left) in
     omega arith
 
 pub walk-preserved : goal.walk-preserved

@@ -1,4 +1,4 @@
-use Rattle.std.proofs.Common.{◌≡◌, ◌+◌, ◌-◌, length}
+use Rattle.std.proofs.Common.{◌+◌, ◌-◌, length}
 use Rattle.tree_search.specs.Descent.{Stands, visits_by_in}
 use Rattle.tree_search.proofs.descent.walk.Given as goal
 
