@@ -48,7 +48,7 @@ fn numbers_as_they_are_printed_are_taken_off_the_front_of_a_text(rt: HostRuntime
         (b"123.45678\t", Some((8090864, 9))),
         (b"-999.99999", Some((-65535999, 10))),
         (b"1.000007", Some((65536, 7))),
-        (b"0.00002", None),
+        (b"0.00002", Some((1, 7))),
         (b"-1.5 ", None),
         (b"12.3456 7", None),
         (b"12.345 78", None),
