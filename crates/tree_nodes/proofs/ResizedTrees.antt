@@ -1,7 +1,6 @@
 -- A node of a tree gets other bounds, one level after the other up to a hull that stays.
 use Rattle.std.proofs.Common.{◌≡◌, ◌≢◌, ℕ, ◌+◌, ◌≤◌, max, true, false, cond, eqb, Some, option_map, refl, sym, ap, ◌∙◌, subst, arith, ⊎_elim, ◌⊎◌}
 use Rattle.std.proofs.lemmas.Bool.{cases_lt}
-use Rattle.std.proofs.lemmas.Bool.Decides.{nat_tests}
 use Rattle.slab.specs.Slab.{Slab, get, slab_len}
 use Rattle.fixed_box.specs.Bounds.{Bounds, hull as union}
 use Rattle.tree_nodes.specs.declared.node_view.NodeView.{NodeView}

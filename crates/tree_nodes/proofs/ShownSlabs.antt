@@ -1,10 +1,10 @@
 -- What a slab of nodes shows changes as the slab does.
-use Rattle.std.proofs.Common.{◌≡◌, ◌≢◌, ℕ, zero, suc, ◌+◌, Option, None, Some, IsSome, is_some, cond, List, [], ◌∷◌, map, set, get_or, option_map}
+use Rattle.std.proofs.Common.{◌≡◌, ℕ, zero, suc, ◌+◌, Option, None, Some, IsSome, is_some, cond, List, [], ◌∷◌, map, set, get_or, option_map}
 use Rattle.std.proofs.Common.{refl, sym, ap, ◌∙◌, subst, arith}
 use Rattle.std.specs.List.{count_by}
 use Rattle.std.proofs.Math.ListN.{get_or-map}
 use Rattle.std.proofs.lemmas.List.Sums.{sum_by-cons}
-use Rattle.slab.specs.Slab.{Slab, get, slab_len, Updates, with_value}
+use Rattle.slab.specs.Slab.{Slab, get, Updates, with_value}
 use Rattle.slab.proofs.SlabLemmas.{Updates-with_value}
 use Rattle.fixed_box.specs.Bounds.{Bounds}
 use Rattle.tree_nodes.specs.declared.node.Node.{Node}

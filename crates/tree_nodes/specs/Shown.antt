@@ -1,5 +1,5 @@
 -- What a stored node shows.
-use Rattle.std.specs.Prelude.{ℕ, List, Option, map, option_map}
+use Rattle.std.specs.Prelude.{map, option_map}
 use Rattle.fixed_box.specs.Bounds.{Bounds}
 use Rattle.slab.specs.Slab.{Slab}
 use Rattle.tree_nodes.specs.declared.node.Node.{Node}

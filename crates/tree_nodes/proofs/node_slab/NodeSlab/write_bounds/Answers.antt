@@ -1,5 +1,5 @@
 -- The write is seen.
-use Rattle.std.proofs.Common.{IsSome, Some, subst, sym, refl}
+use Rattle.std.proofs.Common.{IsSome, subst, sym, refl}
 use Rattle.slab.specs.Slab.{with_value}
 use Rattle.tree_nodes.specs.Resized.{Rebounded}
 use Rattle.tree_nodes.specs.Shown.{shown_slab}
