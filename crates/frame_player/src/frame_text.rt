@@ -5,7 +5,7 @@ ghost use Rattle.frame_player.specs.Outlet.{IsAppended};
 
 use crate::report::Report;
 use pair_events::Told;
-use pair_report::{put_exchanges, put_frame, put_told};
+use pair_report::{HandleTexts, put_exchanges, put_frame};
 use play_io::{Sink, SinkFault};
 
 // The line of a frame, one for each of its events, and that of its exchanges where they are to be shown. The text is
@@ -16,6 +16,7 @@ pub(crate) fn send_frame<K: Sink>(
     pairs: u32,
     events: &[Told],
     exchanges: Option<u64>,
+    texts: &mut HandleTexts,
     out: &mut Report<'_, K>,
 ) -> Result<(), SinkFault>
     ensures { IsAppended K.written K.faults K.since out.old out.new
@@ -23,27 +24,35 @@ pub(crate) fn send_frame<K: Sink>(
 {
     put_frame(number, pairs, out.text)?;
     out.hand_on()?;
-    send_events(events, out)?;
+    send_events(events, texts, out)?;
     send_exchanges(exchanges, out)
 }
 
 // A line for each event.
-fn send_events<K: Sink>(events: &[Told], out: &mut Report<'_, K>) -> Result<(), SinkFault>
+fn send_events<K: Sink>(
+    events: &[Told],
+    texts: &mut HandleTexts,
+    out: &mut Report<'_, K>,
+) -> Result<(), SinkFault>
     ensures { IsAppended K.written K.faults K.since out.old out.new (flat_map told_line events.now) result }
 {
     let mut rest = events;
     'events: while let Some((event, more)) = rest.split_first() {
-        send_event(event, out)?;
+        send_event(event, texts, out)?;
         rest = more;
     }
     Ok(())
 }
 
 #[tactic(auto, using(crate::proofs::Sending::report_out_of_memory))]
-fn send_event<K: Sink>(event: &Told, out: &mut Report<'_, K>) -> Result<(), SinkFault>
+fn send_event<K: Sink>(
+    event: &Told,
+    texts: &mut HandleTexts,
+    out: &mut Report<'_, K>,
+) -> Result<(), SinkFault>
     ensures { IsAppended K.written K.faults K.since out.old out.new (told_line event.now) result }
 {
-    put_told(event, out.text)?;
+    texts.put_told(event, out.text)?;
     out.hand_on()
 }
 

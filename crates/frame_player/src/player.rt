@@ -17,7 +17,7 @@ use box_world::{BoxWorld, Refusal, stale_law};
 use broad_index::{BroadPhase, Gate};
 use fixed_box::{FBox, NoMemory};
 use live_table::{Group, Handle, Masks};
-use pair_report::{put_add, put_back, put_mark, put_nomark, put_stale};
+use pair_report::{HandleTexts, put_add, put_back, put_mark, put_nomark, put_stale};
 use play_io::{Sink, SinkFault};
 use scene_words::{Command, Version};
 use std::alloc::Global;
@@ -29,6 +29,8 @@ pub(crate) struct Player<B: BroadPhase + Drop> {
     pub alloc: Global,
     pub world: BoxWorld<B>,
     pub version: Option<Version>,
+    // What the handles of events were printed as.
+    pub texts: HandleTexts,
 }
 
 impl<B: BroadPhase + Drop> Player<B> {
@@ -43,6 +45,7 @@ impl<B: BroadPhase + Drop> Player<B> {
             alloc,
             world,
             version: None,
+            texts: HandleTexts::new(alloc),
         })
     }
 
@@ -215,6 +218,7 @@ impl<B: BroadPhase + Drop> Player<B> {
             pairs,
             self.world.events(),
             exchanges,
+            &mut self.texts,
             out,
         )
     }

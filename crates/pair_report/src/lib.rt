@@ -3,10 +3,14 @@
 #![tactic(auto)]
 
 mod cause;
+mod handle_text;
+mod handle_texts;
 mod lines;
 mod listing;
+mod short_line;
 
 pub use cause::Cause;
+pub use handle_texts::HandleTexts;
 pub use lines::{
     put_add, put_back, put_end, put_exchanges, put_frame, put_mark, put_nomark, put_refused,
     put_stale, put_told,

@@ -42,3 +42,33 @@ fn lines_have_their_text(rt: HostRuntime) -> Result<(), Fail> {
     assert_eq!(rt; out.as_slice(), text.as_slice());
     Ok(())
 }
+
+fn told(event: Event, slot: u32, generation: u32) -> Told {
+    let a = Handle { slot, generation };
+    let b = Handle {
+        slot: 8192,
+        generation: 3,
+    };
+    let pair = HPair {
+        a,
+        b: if event == Event::Stay { a } else { b },
+    };
+    Told { event, pair }
+}
+
+#[test]
+fn kept_texts_are_those_of_their_handles(rt: HostRuntime) -> Result<(), Fail> {
+    let mut texts = HandleTexts::new(rt.alloc());
+    let mut out = Vec::new(rt.alloc());
+    texts.put_told(&told(Event::Stay, 8191, u32::MAX), &mut out)?;
+    texts.put_told(&told(Event::Stay, 8191, u32::MAX), &mut out)?;
+    texts.put_told(&told(Event::Stay, 7, 0), &mut out)?;
+    texts.put_told(&told(Event::Stay, 7, 0), &mut out)?;
+    texts.put_told(&told(Event::Stay, 7, 1), &mut out)?;
+    texts.put_told(&told(Event::Begin, 7, 1), &mut out)?;
+    texts.put_told(&told(Event::Over, 7, 1), &mut out)?;
+    let text = b"stay 8191:4294967295 8191:4294967295\nstay 8191:4294967295 8191:4294967295\n\
+        stay 7:0 7:0\nstay 7:0 7:0\nstay 7:1 7:1\nbegin 7:1 8192:3\nover 7:1 8192:3\n";
+    assert_eq!(rt; out.as_slice(), text.as_slice());
+    Ok(())
+}
