@@ -156,7 +156,8 @@ fn cube(lo: Point, side: i32) -> Option<FBox> {
 
 // One of so many places at equal steps.
 fn step(n: u32, count: u32, width: i32) -> i32 {
-    (n.checked_rem(count).unwrap_or(0) as i32).wrapping_mul(width)
+    let place = n.checked_rem(count).unwrap_or(0);
+    i32::try_from(place).unwrap_or(0).wrapping_mul(width)
 }
 
 const FAR: i32 = 6_553_600;
