@@ -1,5 +1,8 @@
 -- Boxes beside their slots: what is found in a stretch of them, and which slots a stretch has.
-use Rattle.std.proofs.Common.{◌≡◌, ◌⊎◌, ℕ, zero, suc, ◌+◌, ◌<◌, ◌≤◌, Bool, true, false, cond, not, ◌&&◌, ◌||◌, ◌==◌, nat_lt, refl, sym, ap, ◌∙◌, subst}
+use Rattle.std.proofs.Common.{inl, inr}
+use Rattle.std.proofs.Math.Seq.{take-length}
+use Rattle.std.proofs.lemmas.Bool.{or_cases, false≢true}
+use Rattle.std.proofs.Common.{◌≡◌, ◌⊎◌, ℕ, zero, suc, ◌+◌, ◌-◌, ◌<◌, ◌≤◌, Bool, true, false, cond, not, ◌&&◌, ◌||◌, ◌==◌, nat_lt, refl, sym, ap, ◌∙◌, subst}
 use Rattle.std.proofs.Common.{List, [], ◌∷◌, ◌++◌, map, length, take, drop, get_or, Some, arith}
 use Rattle.std.specs.List.{filter, drop-map, take-map}
 use Rattle.std.proofs.lemmas.List.Elements.{All-append, All-cons, All-drop, All-nil, All-take}
@@ -11,18 +14,30 @@ use Rattle.fixed_box.specs.Bounds.{Bounds, meets}
 use Rattle.broad_index.specs.declared.pair.Pair.{Pair}
 use Rattle.broad_index.specs.Members.{has_pair, has_slot, both_meet}
 use Rattle.broad_index.specs.Touched.{ordered}
-use Rattle.hier_grid.specs.declared.cell_row.CellRow.{CellRow}
 use Rattle.hier_grid.specs.declared.slot_box.SlotBox.{SlotBox}
 use Rattle.hier_grid.specs.Buckets.{AreOf, is_met, met_pairs}
-use Rattle.hier_grid.specs.Cells.{IsInRows}
-use Rattle.hier_grid.specs.Search.{is_partner, HasPairs, IsSound}
-use Rattle.hier_grid.specs.Standing.{standing_cell}
+use Rattle.hier_grid.specs.Search.{is_partner, IsSound}
 use Rattle.hier_grid.proofs.RunLemmas.{parted, rest_of}
 use Rattle.hier_grid.proofs.PartnerLemmas.{found_pairs, sound_pairs, pair_in}
 
 -- the slots of a list of boxes beside their slots
 abbrev pub slots_of : List SlotBox → List ℕ
 slots_of es = map (λ e. e.slot) es
+
+pub no_entries : (es : List SlotBox) (s : ℕ) → length es < 1 → has_slot (slots_of es) s ≡ true → ⊥
+no_entries [] s l h = false≢true h
+no_entries (e ∷ es) s l h = absurd (omega arith)
+
+pub entry_or_rest : (es : List SlotBox) (d : SlotBox) → 1 ≤ length es → (s : ℕ) → has_slot (slots_of es) s ≡ true
+    → (s ≡ (get_or es 0 d).slot) ⊎ (has_slot (slots_of (take (length es - 1) (drop 1 es))) s ≡ true)
+entry_or_rest [] d l s h = absurd (omega arith)
+entry_or_rest (e ∷ es) d l s h =
+    let n : length (e ∷ es) - 1 ≡ length es = omega arith in
+    elim (or_cases (s == e.slot) (has_slot (slots_of es) s) h) as
+    (λ _. (s ≡ e.slot) ⊎ (has_slot (slots_of (take (length (e ∷ es) - 1) es)) s ≡ true)) [
+      | inl is ↦ inl (grind (arith, nat_tests))
+      | inr there ↦ inr (subst (λ xs. has_slot (slots_of xs) s ≡ true) (sym (ap (λ m. take m es) n ∙ take-length es)) there)
+    ]
 
 -- the box beside a slot is met where the slot is a partner
 met_one : (bodies : FinMap nat_cmp Bounds) (own : SlotBox) (any : Bool) (e : SlotBox) → get bodies e.slot ≡ Some e.body

@@ -11,6 +11,7 @@ use Rattle.fixed_box.specs.Point.{is_at_most}
 use Rattle.cell_table.specs.declared.cell_key.CellKey.{CellKey}
 use Rattle.fixed_box.proofs.Corners.{axes}
 use Rattle.hier_grid.specs.Cells.{cell_at, cell_on, IsFrom, IsBeside, IsAfter}
+use Rattle.hier_grid.specs.declared.cell.TheConstants.{FARTHEST_CELL}
 use Rattle.std.specs.Int.{int_div_euclid}
 use Rattle.std.proofs.lemmas.Nat.{div_below}
 
@@ -69,14 +70,14 @@ beside level a b short o m =
 pub wide : (level : ℕ) → 4096 ≤ cell_side level
 wide level = pow_mono {i = 12} {j = 12 + 2 * level} (omega arith)
 
-few : (a k : ℕ) → 4096 ≤ k → a < 2147483648 → a / k < 1048576
-few a k w h = div_below a k 1048576 (omega arith) (omega arith)
+few : (a k : ℕ) → 4096 ≤ k → a < 2147483648 → a / k < 524288
+few a k w h = div_below a k 524288 (omega arith) (omega arith)
 
-pub cell_low : (level : ℕ) (x : ℤ) → negsuc 2147483647 ≤ℤ x → negsuc 1048576 ≤ℤ cell_at level x
+pub cell_low : (level : ℕ) (x : ℤ) → negsuc 2147483647 ≤ℤ x → neg_ℤ FARTHEST_CELL ≤ℤ cell_at level x
 cell_low level (pos a) h = omega (arith, ints)
 cell_low level (negsuc a) h = let p = few a (cell_side level) (wide level) (omega (arith, ints)) in omega (arith, ints)
 
-pub cell_high : (level : ℕ) (x : ℤ) → x <ℤ pos 2147483648 → cell_at level x ≤ℤ pos 1048576
+pub cell_high : (level : ℕ) (x : ℤ) → x <ℤ pos 2147483648 → cell_at level x ≤ℤ FARTHEST_CELL
 cell_high level (pos a) h = let p = few a (cell_side level) (wide level) (omega (arith, ints)) in omega (arith, ints)
 cell_high level (negsuc a) h = omega (arith, ints)
 

@@ -1,15 +1,14 @@
 -- Corners of boxes against each other, axis by axis.
-use Rattle.std.proofs.Common.{◌≡◌, true, ◌&&◌, Option, Some, None, IsTrue, SomeIff, arith, ap, ◌∙◌, subst}
-use Rattle.std.proofs.lemmas.Int.{ints}
-use Rattle.std.proofs.lemmas.Bool.{and_parts, and_from}
-use Rattle.std.specs.Prelude.{ℤ, pos, negsuc, ◌≤ℤ◌, int_le}
+use Rattle.std.proofs.Common.{◌≡◌, true, Option, Some, None, IsTrue, SomeIff, ap, ◌∙◌, subst}
+use Rattle.std.proofs.lemmas.Bool.{and_from}
+use Rattle.std.specs.Prelude.{pos, negsuc, ◌≤ℤ◌}
 use Rattle.fixed_box.specs.Bounds.{Bounds, encloses, meets}
 use Rattle.fixed_box.specs.declared.point.Point.{Point}
 use Rattle.fixed_box.specs.Point.{is_at_most}
 use Rattle.fixed_box.specs.Space.{space}
 use Rattle.hier_grid.specs.Grid.{is_held, is_met}
-use Rattle.fixed_box.proofs.Corners.{all_three, at_most_chain, Axes, axes}
-use Rattle.fixed_box.proofs.Numbers.{test_of_le, le_of_test}
+use Rattle.fixed_box.proofs.Corners.{all_three, at_most_chain}
+use Rattle.fixed_box.proofs.Numbers.{test_of_le}
 
 -- a box whose corners have coordinates of 32 bits lies in space
 pub inside_space : (lo hi : Point) (b : Bounds) → lo ≡ b.lo → hi ≡ b.hi

@@ -6,13 +6,12 @@ use Rattle.std.proofs.lemmas.Bool.Decides.{nat_tests}
 use Rattle.std.proofs.lemmas.List.Folds.{list_any-append}
 use Rattle.std.specs.Ordering.{nat_cmp}
 use Rattle.std.specs.FinMap.{FinMap, get}
-use Rattle.fixed_box.specs.Bounds.{Bounds, meets, level_of}
-use Rattle.fixed_box.specs.Point.{is_at_most}
+use Rattle.fixed_box.specs.Bounds.{Bounds, meets}
 use Rattle.broad_index.specs.declared.pair.Pair.{Pair}
 use Rattle.broad_index.specs.Members.{has_pair, has_slot, same_pair, both_meet, is_near}
 use Rattle.broad_index.specs.Touched.{ordered, ordered_pairs}
-use Rattle.hier_grid.specs.Cells.{cell_of}
-use Rattle.hier_grid.specs.Search.{meets_at, is_partner, AreReached, IsDue, IsSound, HasPairs, FindsFor}
+use Rattle.cell_table.specs.declared.cell_key.CellKey.{CellKey}
+use Rattle.hier_grid.specs.Search.{meets_at, is_partner, AreReached, IsDue, IsSound, HasPairs, FindsAll, FindsFor}
 use Rattle.hier_grid.proofs.CellLemmas.{cell_order}
 use Rattle.broad_index.proofs.OneRising.{is_same, self_same}
 use Rattle.fixed_box.proofs.Bools.{or_true, same_bool}
@@ -93,14 +92,14 @@ nat_order : (x y : ℕ) → (x < y) ⊎ ((x ≡ y) ⊎ (y < x))
 nat_order x y = grind arith
 
 -- of two slots one has to find their pair
-one_due : (s q : ℕ) (x y : Bounds) → s < q → IsDue s x q y ⊎ IsDue q y s x
-one_due s q x y lt = elim (nat_order (level_of x) (level_of y)) as (λ _. IsDue s x q y ⊎ IsDue q y s x) [
+one_due : (cell : Bounds → CellKey) (s q : ℕ) (x y : Bounds) → s < q → IsDue cell s x q y ⊎ IsDue cell q y s x
+one_due cell s q x y lt = elim (nat_order (cell x).level (cell y).level) as (λ _. IsDue cell s x q y ⊎ IsDue cell q y s x) [
   | inl below ↦ inl (inr (inl below))
-  | inr r ↦ elim r as (λ _. IsDue s x q y ⊎ IsDue q y s x) [
+  | inr r ↦ elim r as (λ _. IsDue cell s x q y ⊎ IsDue cell q y s x) [
     | inr above ↦ inr (inr (inl above))
-    | inl level ↦ elim (cell_order (cell_of y) (cell_of x) (sym level)) as (λ _. IsDue s x q y ⊎ IsDue q y s x) [
+    | inl level ↦ elim (cell_order (cell y) (cell x) (sym level)) as (λ _. IsDue cell s x q y ⊎ IsDue cell q y s x) [
       | inl same ↦ inl (inl (same, lt))
-      | inr o ↦ elim o as (λ _. IsDue s x q y ⊎ IsDue q y s x) [
+      | inr o ↦ elim o as (λ _. IsDue cell s x q y ⊎ IsDue cell q y s x) [
         | inl later ↦ inl (inr (inr (sym level, later)))
         | inr sooner ↦ inr (inr (inr (level, sooner)))
       ]
@@ -108,12 +107,12 @@ one_due s q x y lt = elim (nat_order (level_of x) (level_of y)) as (λ _. IsDue 
   ]
 ]
 
-pub all_found : (bodies : FinMap nat_cmp Bounds) (found : List Pair) → IsSound bodies found → ((s : ℕ) → FindsFor bodies s found)
-    → (p : Pair) → has_pair found p ≡ is_near bodies p
-all_found bodies found s c p = same_bool (has_pair found p) (is_near bodies p) (s p) (λ h.
+pub all_found : (cell : Bounds → CellKey) (bodies : FinMap nat_cmp Bounds) (found : List Pair) → IsSound bodies found
+    → ((s : ℕ) → FindsFor cell bodies s found) → FindsAll bodies found
+all_found cell bodies found s c p = same_bool (has_pair found p) (is_near bodies p) (s p) (λ h.
     let r = and_parts (nat_lt p.a p.b) (both_meet (get bodies p.a) (get bodies p.b)) h in
     let t = two_of bodies p (get bodies p.a) (get bodies p.b) refl refl r.1 in
-    elim (one_due p.a p.b t.first t.second (is_below p.a p.b r.0)) as (λ _. has_pair found p ≡ true) [
+    elim (one_due cell p.a p.b t.first t.second (is_below p.a p.b r.0)) as (λ _. has_pair found p ≡ true) [
       | inl due ↦
           let at : ordered p.a p.b ≡ p = ap (λ b. cond b p (other p)) r.0 in
           ap (has_pair found) (sym at) ∙ c p.a t.first t.at_first p.b t.second t.at_second t.met (not_turned p.a p.b r.0) due

@@ -13,7 +13,9 @@ use Rattle.work_pieces.specs.Runs.{put_together}
 use Rattle.broad_index.specs.declared.pair.Pair.{Pair}
 use Rattle.broad_index.specs.Members.{has_pair, has_slot, is_near, same_pair}
 use Rattle.broad_index.specs.Touched.{ordered}
-use Rattle.hier_grid.specs.Search.{FindsFor, FindsRun, HasPairs}
+use Rattle.cell_table.specs.declared.cell_key.CellKey.{CellKey}
+use Rattle.hier_grid.specs.Cells.{cell_of}
+use Rattle.hier_grid.specs.Search.{FindsAll, FindsFor, FindsRun, HasPairs}
 use Rattle.slot_lists.specs.Present.{present}
 use Rattle.hier_grid.proofs.HitLemmas.{all_present}
 use Rattle.hier_grid.proofs.PairLemmas.{all_found, more_pairs}
@@ -26,8 +28,9 @@ later_pairs old more p h = list_any-append (same_pair p) old more ∙ ap (λ b. 
     or_true false = refl
 
 -- what a slot is to find stays found
-pub finds_more : (bodies : FinMap nat_cmp Bounds) (slot : ℕ) (old new : List Pair) → HasPairs old new → FindsFor bodies slot old → FindsFor bodies slot new
-finds_more bodies slot old new more f body own q b e m other due = more (ordered slot q) (f body own q b e m other due)
+pub finds_more : (cell : Bounds → CellKey) (bodies : FinMap nat_cmp Bounds) (slot : ℕ) (old new : List Pair) → HasPairs old new
+    → FindsFor cell bodies slot old → FindsFor cell bodies slot new
+finds_more cell bodies slot old new more f body own q b e m other due = more (ordered slot q) (f body own q b e m other due)
 
 -- the numbers of a list but for its first
 abbrev pub rest_of : List ℕ → List ℕ
@@ -63,9 +66,9 @@ module _ {Y : Type 0} (pairs : Y → List Pair) (bodies : FinMap nat_cmp Bounds)
             ];
         whole = λ s h.
             elim (or_cases (has_slot x s) (has_slot (put_together xs) s) (sym (list_any-append (λ z. s == z) x (put_together xs)) ∙ h)) as
-            (λ _. FindsFor bodies s (first ++ later)) [
-              | inl e ↦ finds_more bodies s first (first ++ later) (more_pairs first later) (t.0.whole s e)
-              | inr e ↦ finds_more bodies s later (first ++ later) (later_pairs first later) (rest.whole s e)
+            (λ _. FindsFor cell_of bodies s (first ++ later)) [
+              | inl e ↦ finds_more cell_of bodies s first (first ++ later) (more_pairs first later) (t.0.whole s e)
+              | inr e ↦ finds_more cell_of bodies s later (first ++ later) (later_pairs first later) (rest.whole s e)
             ];
       }
 
@@ -74,10 +77,9 @@ pub settled_finds : (bodies : FinMap nat_cmp Bounds) (slots : List ℕ) (found s
     → FindsRun bodies slots found → FindsRun bodies slots settled
 settled_finds bodies slots found settled same r = record {
   sound = λ p h. r.sound p (sym (same p) ∙ h);
-  whole = λ s h. finds_more bodies s found settled (λ p e. same p ∙ e) (r.whole s h);
+  whole = λ s h. finds_more cell_of bodies s found settled (λ p e. same p ∙ e) (r.whole s h);
 }
 
 -- searches of all present slots find all pairs
-pub present_found : (bodies : FinMap nat_cmp Bounds) (found : List Pair) → FindsRun bodies (present bodies) found
-    → (p : Pair) → has_pair found p ≡ is_near bodies p
-present_found bodies found r = all_found bodies found r.sound (λ s body own. r.whole s (all_present bodies s (ap is_some own)) body own)
+pub present_found : (bodies : FinMap nat_cmp Bounds) (found : List Pair) → FindsRun bodies (present bodies) found → FindsAll bodies found
+present_found bodies found r = all_found cell_of bodies found r.sound (λ s body own. r.whole s (all_present bodies s (ap is_some own)) body own)

@@ -8,7 +8,8 @@ use Rattle.std.specs.FinMap.{FinMap, get, get-insert, get-remove, insert, remove
 use Rattle.fixed_box.specs.Bounds.{Bounds, cell_side, level_of, longest_side, meets}
 use Rattle.slot_lists.specs.SlotMapLaws.{tie_same, tie_other}
 use Rattle.cell_table.specs.declared.cell_key.CellKey.{CellKey}
-use Rattle.hier_grid.specs.Cells.{cell_of, cell_on, IsBeside}
+use Rattle.hier_grid.specs.Cells.{cell_of, cell_on, IsAfter, IsBeside}
+use Rattle.hier_grid.specs.Search.{IsDue}
 use Rattle.hier_grid.specs.Grid.{AreKeyed, IsSized}
 use Rattle.hier_grid.specs.Standing.{AreStanding, standing_cell}
 use Rattle.hier_grid.proofs.CellLemmas.{beside}
@@ -26,6 +27,25 @@ stands_own floor b h = ap (λ n. cell_on n b.lo) (max_left (level_of b) floor h)
 -- one of a lower level stands at the floor
 pub stands_low : (floor : ℕ) (b : Bounds) → level_of b ≤ floor → standing_cell floor b ≡ cell_on floor b.lo
 stands_low floor b h = ap (λ n. cell_on n b.lo) (max_right (level_of b) floor h)
+
+-- what a box that stands in its own cell is to find by the cells of boxes, it is to find by those in which they stand
+pub due_stands : (floor slot : ℕ) (body : Bounds) (q : ℕ) (b : Bounds) → floor ≤ level_of body → IsDue cell_of slot body q b
+    → IsDue (standing_cell floor) slot body q b
+due_stands floor slot body q b low due =
+    let own = stands_own floor body low in
+    elim due as (λ _. IsDue (standing_cell floor) slot body q b) [
+      | inl same ↦
+          let level : level_of b ≡ level_of body = ap (λ (k : CellKey). k.level) same.0 in
+          inl (stands_own floor b (omega (arith, low, level)) ∙ same.0 ∙ sym own, same.1)
+      | inr other ↦ elim other as (λ _. IsDue (standing_cell floor) slot body q b) [
+        | inl higher ↦ let h : max (level_of body) floor < max (level_of b) floor = omega (arith, low, higher) in inr (inl h)
+        | inr later ↦
+            let level : level_of b ≡ level_of body = later.0 in
+            let stands = stands_own floor b (omega (arith, low, level)) in
+            let same : max (level_of b) floor ≡ max (level_of body) floor = omega (arith, low, level) in
+            inr (inr (same, subst (λ k. IsAfter k (standing_cell floor body)) (sym stands) (subst (IsAfter (cell_of b)) (sym own) later.1)))
+      ]
+    ]
 
 wider : (l f : ℕ) → l ≤ f → cell_side l ≤ cell_side f
 wider l f h = pow_mono {i = 12 + 2 * l} {j = 12 + 2 * f} (omega arith)

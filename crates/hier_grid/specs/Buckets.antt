@@ -1,8 +1,9 @@
 -- Serves proofs alone: boxes beside their slots by bucket, and what is found among them.
-use Rattle.std.specs.Prelude.{◌≡◌, ◌<◌, Bool, true, not, ◌&&◌, ◌||◌, ◌==◌, nat_lt, List, map, filter, Some, All}
+use Rattle.std.specs.Prelude.{◌≡◌, refl, ℕ, ◌<◌, Bool, true, not, ◌&&◌, ◌||◌, ◌==◌, nat_lt, List, map, filter, Some, All}
 use Rattle.std.specs.Ordering.{nat_cmp}
-use Rattle.std.specs.FinMap.{FinMap, get}
-use Rattle.fixed_box.specs.Bounds.{Bounds, meets}
+use Rattle.std.specs.Coded.{Coded, code_by, coded×, coded_ℕ}
+use Rattle.std.specs.FinMap.{FinMap, code, get}
+use Rattle.fixed_box.specs.Bounds.{Bounds, coded_bounds, meets}
 use Rattle.broad_index.specs.declared.pair.Pair.{Pair}
 use Rattle.broad_index.specs.Touched.{ordered}
 use Rattle.cell_table.specs.declared.cell_key.CellKey.{CellKey}
@@ -26,6 +27,18 @@ pub record HasBuckets (bodies : FinMap nat_cmp Bounds) (boxes : BucketBoxes) : T
   pub listed : Lists cells boxes.list
   pub same : map (λ e. e.slot) boxes.entries.items ≡ boxes.list.slots
   pub right : AreOf bodies boxes.entries.items
+
+-- what a search of such a list reads, as clauses see it
+pub record Standing : Type 0 where
+  pub bodies : FinMap nat_cmp Bounds
+  -- no box stands in a cell of a level below this one
+  pub floor : ℕ
+
+-- stored as the pair of its fields
+abbrev pub coded_standing : Coded Standing
+coded_standing =
+    code_by (FinMap nat_cmp Bounds × ℕ) (coded× (code coded_ℕ coded_bounds) coded_ℕ)
+    (λ s. (s.bodies, s.floor)) (λ t. record { bodies = t.0; floor = t.1 }) (λ _. refl)
 
 -- where a listing is fresh, it has all boxes
 abbrev pub IsListing : FinMap nat_cmp Bounds → Listing → Type 0

@@ -96,17 +96,19 @@ is_partner bodies slot body any q = not (q == slot) && (any || nat_lt slot q) &&
 abbrev pub AreReached : FinMap nat_cmp Bounds → ℕ → Bounds → List ℕ → Type 0
 AreReached bodies slot body slots = (q : ℕ) → has_slot slots q ≡ true → is_partner bodies slot body true q ≡ true
 
--- of two boxes the other one has a higher level, or it lies in a later cell of the same level
-abbrev pub IsOther : Bounds → Bounds → Type 0
-IsOther body b = (level_of body < level_of b) ⊎ ((level_of b ≡ level_of body) × IsAfter (cell_of b) (cell_of body))
+-- of two boxes the other one's cell has a higher level, or it is a later one of the same level
+abbrev pub IsOther : (Bounds → CellKey) → Bounds → Bounds → Type 0
+IsOther cell body b = ((cell body).level < (cell b).level) ⊎ (((cell b).level ≡ (cell body).level) × IsAfter (cell b) (cell body))
 
--- Of each two slots one has to find their pair: the other's level is higher, or its cell is later, or in one cell its slot is higher.
-abbrev pub IsDue : ℕ → Bounds → ℕ → Bounds → Type 0
-IsDue slot body q b = ((cell_of b ≡ cell_of body) × (slot < q)) ⊎ IsOther body b
+-- Of each two slots one has to find their pair, whichever cells their boxes have: the other's cell has a higher level, or it is later,
+-- or in one cell the other slot is higher.
+abbrev pub IsDue : (Bounds → CellKey) → ℕ → Bounds → ℕ → Bounds → Type 0
+IsDue cell slot body q b = ((cell b ≡ cell body) × (slot < q)) ⊎ IsOther cell body b
 
--- the same of two boxes of one level
-abbrev pub IsDueBeside : ℕ → Bounds → ℕ → Bounds → Type 0
-IsDueBeside slot body q b = (level_of b ≡ level_of body) × (((cell_of b ≡ cell_of body) × (slot < q)) ⊎ IsAfter (cell_of b) (cell_of body))
+-- the same of two boxes whose cells have one level
+abbrev pub IsDueBeside : (Bounds → CellKey) → ℕ → Bounds → ℕ → Bounds → Type 0
+IsDueBeside cell slot body q b =
+    ((cell b).level ≡ (cell body).level) × (((cell b ≡ cell body) × (slot < q)) ⊎ IsAfter (cell b) (cell body))
 
 -- what was found is right
 abbrev pub IsSound : FinMap nat_cmp Bounds → List Pair → Type 0
@@ -141,22 +143,27 @@ pub record IsEnd (bodies : FinMap nat_cmp Bounds) (end : ℕ) : Type 0 where
   pub bound : end ≤ LEVELS
   pub above : IsAbove bodies end
 
--- the pairs that are to be found from a slot were found
-abbrev pub FindsFrom : FinMap nat_cmp Bounds → ℕ → Bounds → List Pair → Type 0
-FindsFrom bodies slot body found =
-    (q : ℕ) (b : Bounds) → get bodies q ≡ Some b → meets body b ≡ true → not (q == slot) ≡ true → IsDue slot body q b → has_pair found (ordered slot q) ≡ true
+-- the pairs that are to be found from a slot were found, where boxes have such cells
+abbrev pub FindsFrom : (Bounds → CellKey) → FinMap nat_cmp Bounds → ℕ → Bounds → List Pair → Type 0
+FindsFrom cell bodies slot body found =
+    (q : ℕ) (b : Bounds) → get bodies q ≡ Some b → meets body b ≡ true → not (q == slot) ≡ true → IsDue cell slot body q b
+    → has_pair found (ordered slot q) ≡ true
 
 -- the same if the slot is present
-abbrev pub FindsFor : FinMap nat_cmp Bounds → ℕ → List Pair → Type 0
-FindsFor bodies slot found = (body : Bounds) → get bodies slot ≡ Some body → FindsFrom bodies slot body found
+abbrev pub FindsFor : (Bounds → CellKey) → FinMap nat_cmp Bounds → ℕ → List Pair → Type 0
+FindsFor cell bodies slot found = (body : Bounds) → get bodies slot ≡ Some body → FindsFrom cell bodies slot body found
 
--- a search of a slot, which may be absent, has added all pairs that are to be found from it
+-- exactly the pairs of boxes that meet were found
+abbrev pub FindsAll : FinMap nat_cmp Bounds → List Pair → Type 0
+FindsAll bodies found = (p : Pair) → has_pair found p ≡ is_near bodies p
+
+-- a search of a slot, which may be absent, has added all pairs that are to be found from it by the cells of boxes
 pub record FindsSlot (bodies : FinMap nat_cmp Bounds) (slot : ℕ) (old new : List Pair) : Type 0 where
   pub sound : IsSound bodies old → IsSound bodies new
   pub more : HasPairs old new
-  pub found : FindsFor bodies slot new
+  pub found : FindsFor cell_of bodies slot new
 
--- Pairs of boxes that meet were found, among them all that are to be found from some slots.
+-- Pairs of boxes that meet were found, among them all that are to be found from some slots by the cells of boxes.
 pub record FindsRun (bodies : FinMap nat_cmp Bounds) (slots : List ℕ) (found : List Pair) : Type 0 where
   pub sound : IsSound bodies found
-  pub whole : (slot : ℕ) → has_slot slots slot ≡ true → FindsFor bodies slot found
+  pub whole : (slot : ℕ) → has_slot slots slot ≡ true → FindsFor cell_of bodies slot found

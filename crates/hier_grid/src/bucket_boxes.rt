@@ -91,11 +91,11 @@ impl BucketBoxes {
         Ok(())
     }
 
-    /// The slots, bucket after bucket.
-    pub(crate) fn slots(&self) -> &[u32]
-        ensures { result.now ≡ self.now.list.slots }
+    /// The boxes beside their slots, bucket after bucket.
+    pub(crate) fn entries(&self) -> &[SlotBox]
+        ensures { result.now ≡ self.now.entries.items }
     {
-        self.list.slots()
+        &self.entries
     }
 
     /// Finds the pairs of a slot with its partners in those cells that come later.

@@ -1,4 +1,4 @@
-ghost use Rattle.std.specs.Prelude.{◌≡◌, ℤ, pos, negsuc, ◌+ℤ◌, ◌*ℤ◌, ◌<◌, ◌≤ℤ◌, ◌<ℤ◌, IsTrue};
+ghost use Rattle.std.specs.Prelude.{◌≡◌, ℤ, pos, negsuc, neg_ℤ, ◌+ℤ◌, ◌*ℤ◌, ◌<◌, ◌≤ℤ◌, ◌<ℤ◌, IsTrue};
 ghost use Rattle.fixed_box.specs.Bounds.{cell_side, encloses};
 ghost use Rattle.fixed_box.specs.Space.{space};
 ghost use Rattle.hier_grid.specs.Cells.{cell_at, cell_of, cell_on};
@@ -8,11 +8,14 @@ ghost use Rattle.hier_grid.specs.Standing.{standing_cell};
 use cell_table::{CellKey, LEVELS};
 use fixed_box::{FBox, Fix, Point, space_law};
 
+/// No coordinate lies in a cell farther from that at the origin: one of the lowest level is 2^12 raw units long.
+pub(crate) const FARTHEST_CELL: i32 = 1 << 19;
+
 /// The level and the cell of a box.
 pub(crate) fn cell_of(body: &FBox) -> CellKey
     ensures value { result ≡ cell_of body.now }
     ensures level { result.level < LEVELS }
-    ensures high { result.z ≤ℤ pos 1048576 }
+    ensures high { result.z ≤ℤ FARTHEST_CELL }
     ensures sized { IsSized body.now }
 {
     space_law(body);
@@ -26,7 +29,7 @@ pub(crate) fn cell_in(level: u8, body: &FBox) -> CellKey
     requires { level < LEVELS }
     ensures value { result ≡ cell_on level body.now.lo }
     ensures level { result.level < LEVELS }
-    ensures high { result.z ≤ℤ pos 1048576 }
+    ensures high { result.z ≤ℤ FARTHEST_CELL }
 {
     cell_on(level, &body.lo())
 }
@@ -44,7 +47,7 @@ pub(crate) fn standing_cell(floor: u8, body: &FBox) -> CellKey
 fn cell_on(level: u8, at: &Point) -> CellKey
     requires { level < LEVELS }
     ensures value { result ≡ cell_on level at.now }
-    ensures high { result.z ≤ℤ pos 1048576 }
+    ensures high { result.z ≤ℤ FARTHEST_CELL }
 {
     CellKey {
         level,
@@ -58,8 +61,8 @@ fn cell_on(level: u8, at: &Point) -> CellKey
 pub(crate) fn cell_at(level: u8, x: Fix) -> i32
     requires { level < LEVELS }
     ensures value { result ≡ cell_at level x }
-    ensures low { negsuc 1048576 ≤ℤ cell_at level x }
-    ensures high { cell_at level x ≤ℤ pos 1048576 }
+    ensures low { neg_ℤ FARTHEST_CELL ≤ℤ cell_at level x }
+    ensures high { cell_at level x ≤ℤ FARTHEST_CELL }
 {
     // a shift rounds down, below 0 too
     (i64::from(x) >> (12 + 2 * level)) as i32

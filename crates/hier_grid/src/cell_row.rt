@@ -1,6 +1,7 @@
-ghost use Rattle.std.specs.Prelude.{◌≡◌, pos, ◌≤ℤ◌, true};
+ghost use Rattle.std.specs.Prelude.{◌≡◌, ◌≤ℤ◌, true};
 ghost use Rattle.hier_grid.specs.Cells.{IsInRow};
 
+use crate::cell::FARTHEST_CELL;
 use cell_table::CellKey;
 
 /// A row of cells along z: from the cell of a key on, below an end of z.
@@ -22,7 +23,7 @@ impl CellRow {
 
 /// The row of one cell.
 pub(crate) fn row_of(cell: &CellKey) -> CellRow
-    requires { cell.now.z ≤ℤ pos 1048576 }
+    requires { cell.now.z ≤ℤ FARTHEST_CELL }
     ensures { IsInRow result cell.now }
 {
     CellRow {

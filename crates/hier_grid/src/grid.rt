@@ -38,8 +38,10 @@ const LISTED_FROM: u32 = 1_024;
 /// bucket instead.
 ///
 /// Each level costs a search some nine rows of cells. So where the hull of all boxes has cells to spare, boxes of low levels
-/// are copied as if they lay at a higher one: a box is shorter than the cells of each level from its own on. Another table of
-/// cells is made for that, and kept: the next time those slots alone are moved in it whose cells there have changed.
+/// are copied as if they lay at a higher one: a box is shorter than the cells of each level from its own on. Of two boxes the
+/// one whose copy stands first then finds their pair; in a search by pieces their own cells decide, and a raised box looks at
+/// all cells beside it. Another table of cells is made for that, and kept: the next time those slots alone are moved in it
+/// whose cells there have changed.
 ///
 /// A ray or a segment is followed through the cells of a level: their block is cut in two again and again about the line's
 /// path, and a part that the line misses is passed by. The block reaches no further than a hull, which grows with each box

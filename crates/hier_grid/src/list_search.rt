@@ -1,7 +1,9 @@
 ghost use Rattle.std.specs.Prelude.{◌≡◌, ◌<◌, ◌≤◌, true, max, OnOk};
-ghost use Rattle.fixed_box.specs.Bounds.{level_of};
+ghost use Rattle.fixed_box.specs.Bounds.{Bounds, level_of};
 ghost use Rattle.hier_grid.specs.Buckets.{HasBuckets};
-ghost use Rattle.hier_grid.specs.Search.{Finds, IsDue, IsDueBeside, IsEnd};
+ghost use Rattle.hier_grid.specs.Cells.{cell_of};
+ghost use Rattle.hier_grid.specs.Search.{Finds, FindsAll, IsDue, IsDueBeside, IsEnd};
+ghost use Rattle.hier_grid.specs.Standing.{standing_cell};
 
 use crate::bucket_boxes::BucketBoxes;
 use crate::cell::cell_in;
@@ -12,171 +14,179 @@ use crate::near_cells::{block_beside, cells_after};
 use crate::slot_box::SlotBox;
 use cell_table::LEVELS;
 use fixed_box::NoMemory;
+use std::marker::Model;
 
-/// Finds the pairs of a slot with those partners that it is to find, where all boxes are listed by bucket. `end` is a level
-/// above those of all boxes.
-pub(crate) fn find_listed(
-    kept: &KeptBoxes,
-    boxes: &BucketBoxes,
+/// What a search for pairs reads where all boxes are listed by bucket.
+#[derive(Drop)]
+pub(crate) struct ListSearch<'a> {
+    kept: &'a KeptBoxes,
+    boxes: &'a BucketBoxes,
+    // A level above those of all boxes.
     end: u8,
-    own: &SlotBox,
-    found: &mut Findings,
-) -> Result<(), NoMemory>
-    requires filled { HasBuckets kept.now boxes.now }
-    requires end { IsEnd kept.now end }
-    ensures { OnOk result (Finds kept.now own.now true (IsDue own.now.slot own.now.body) found.old.pairs.items found.new.pairs.items) }
-{
-    let level = own.body.level();
-    if level < boxes.floor {
-        find_raised(kept, boxes, end, own, found)
-    } else {
-        find_own(kept, boxes, level, end, own, found)
+}
+
+impl<'a> Model for ListSearch<'a> {
+    ghost use Rattle.hier_grid.specs.Buckets.{HasBuckets, Standing, coded_standing};
+    ghost use Rattle.hier_grid.specs.Search.{IsEnd};
+
+    ghost Value = { Standing };
+
+    ghost coded = { coded_standing };
+
+    ghost view = { λ s. record { bodies = s.kept.now; floor = s.boxes.now.floor } };
+
+    ghost invariant = { λ s. HasBuckets s.kept.now s.boxes.now × IsEnd s.kept.now s.end };
+}
+
+impl ListSearch<'_> {
+    /// A search among all boxes, below a level that is above those of all.
+    pub(crate) fn new<'a>(kept: &'a KeptBoxes, boxes: &'a BucketBoxes, end: u8) -> ListSearch<'a>
+        requires filled { HasBuckets kept.now boxes.now }
+        requires end { IsEnd kept.now end }
+        ensures { result.bodies ≡ kept.now }
+    {
+        ListSearch { kept, boxes, end }
     }
-}
 
-// The same where the slot's box stands above its own level. Its partners there of lower levels are found too: so a pair
-// of boxes that both stand there is found twice.
-fn find_raised(
-    kept: &KeptBoxes,
-    boxes: &BucketBoxes,
-    end: u8,
-    own: &SlotBox,
-    found: &mut Findings,
-) -> Result<(), NoMemory>
-    requires filled { HasBuckets kept.now boxes.now }
-    requires end { IsEnd kept.now end }
-    ensures { OnOk result (Finds kept.now own.now true (IsDue own.now.slot own.now.body) found.old.pairs.items found.new.pairs.items) }
-{
-    find_beside(kept, boxes, boxes.floor, own, found)?;
-    find_from(kept, boxes, boxes.floor + 1, end, own, found)?;
-    Ok(())
-}
-
-// The same where the slot's box stands at its own level.
-fn find_own(
-    kept: &KeptBoxes,
-    boxes: &BucketBoxes,
-    level: u8,
-    end: u8,
-    own: &SlotBox,
-    found: &mut Findings,
-) -> Result<(), NoMemory>
-    requires filled { HasBuckets kept.now boxes.now }
-    requires end { IsEnd kept.now end }
-    requires low { level < LEVELS }
-    requires level { level ≡ level_of own.now.body }
-    requires high { boxes.now.floor ≤ level }
-    ensures { OnOk result (Finds kept.now own.now true (IsDue own.now.slot own.now.body) found.old.pairs.items found.new.pairs.items) }
-{
-    if kept.has_few_beside(level, &own.body) {
-        find_scanned(kept, level, own, found)?;
-    } else {
-        find_due(kept, boxes, level, own, found)?;
+    /// Finds the pairs of all boxes, each from the box whose cell comes first as they stand here, and answers how many boxes
+    /// were compared. They are searched in the order of their buckets, so that a search reads much of what the one before it
+    /// read.
+    pub(crate) fn find_all(&self, found: &mut Findings) -> Result<u64, NoMemory>
+        ensures { OnOk result (FindsAll self.now.bodies found.new.pairs.items) }
+    {
+        found.clear();
+        let mut rest = self.boxes.entries();
+        'boxes: while let [own, more @ ..] = rest {
+            self.find_standing(own, found)?;
+            rest = more;
+        }
+        Ok(found.near.looked)
     }
-    find_from(kept, boxes, level + 1, end, own, found)?;
-    Ok(())
-}
 
-// Finds the pairs of a slot with those partners of its level that it is to find, by the cells beside its box.
-fn find_due(
-    kept: &KeptBoxes,
-    boxes: &BucketBoxes,
-    level: u8,
-    own: &SlotBox,
-    found: &mut Findings,
-) -> Result<(), NoMemory>
-    requires filled { HasBuckets kept.now boxes.now }
-    requires low { level < LEVELS }
-    requires level { level ≡ level_of own.now.body }
-    requires high { boxes.now.floor ≤ level }
-    ensures { OnOk result (Finds kept.now own.now true (IsDueBeside own.now.slot own.now.body) found.old.pairs.items found.new.pairs.items) }
-{
-    kept.sized_law();
-    let looked = &mut found.near.looked;
-    let pairs = &mut found.pairs;
-    let cell = row_of(&cell_in(level, &own.body));
-    boxes.find_in_row(own, false, &cell, looked, pairs)?;
-    boxes.find_later(own, &cells_after(level, &own.body), looked, pairs)?;
-    Ok(())
-}
-
-// Finds the pairs of a slot with its partners at the levels from one on and below an end.
-#[inline(always)]
-fn find_from(
-    kept: &KeptBoxes,
-    boxes: &BucketBoxes,
-    first: u8,
-    end: u8,
-    own: &SlotBox,
-    found: &mut Findings,
-) -> Result<(), NoMemory>
-    requires filled { HasBuckets kept.now boxes.now }
-    requires high { boxes.now.floor ≤ first }
-    requires bound { end ≤ LEVELS }
-    ensures { OnOk result (Finds kept.now own.now true (λ _ b. (first ≤ level_of b) × (level_of b < end))
-        found.old.pairs.items found.new.pairs.items) }
-{
-    'levels: for level in first..end {
-        find_at(kept, boxes, level, own, found)?;
+    /// Finds the pairs of a slot with those partners that it is to find by the cells of their boxes, wherever these stand. So
+    /// what a piece of the slots finds is told by the boxes alone.
+    pub(crate) fn find(&self, own: &SlotBox, found: &mut Findings) -> Result<(), NoMemory>
+        ensures { OnOk result (Finds self.now.bodies own.now true (IsDue cell_of own.now.slot own.now.body)
+            found.old.pairs.items found.new.pairs.items) }
+    {
+        if own.body.level() < self.boxes.floor {
+            self.find_raised(own, found)
+        } else {
+            self.find_standing(own, found)
+        }
     }
-    Ok(())
-}
 
-// Finds the pairs of a slot with its partners at a level.
-fn find_at(
-    kept: &KeptBoxes,
-    boxes: &BucketBoxes,
-    level: u8,
-    own: &SlotBox,
-    found: &mut Findings,
-) -> Result<(), NoMemory>
-    requires filled { HasBuckets kept.now boxes.now }
-    requires low { level < LEVELS }
-    requires high { boxes.now.floor ≤ level }
-    ensures { OnOk result (Finds kept.now own.now true (λ _ b. level_of b ≡ level) found.old.pairs.items found.new.pairs.items) }
-{
-    if !kept.has_some(level) {
-        return Ok(());
+    // The same where the slot's box stands above its own level. Its partners there of lower levels are found too: so a pair
+    // of boxes that both stand there is found twice.
+    fn find_raised(&self, own: &SlotBox, found: &mut Findings) -> Result<(), NoMemory>
+        ensures { OnOk result (Finds self.now.bodies own.now true (IsDue cell_of own.now.slot own.now.body)
+            found.old.pairs.items found.new.pairs.items) }
+    {
+        self.find_beside(self.boxes.floor, own, found)?;
+        self.find_from(self.boxes.floor + 1, own, found)?;
+        Ok(())
     }
-    if kept.has_few_beside(level, &own.body) {
-        find_scanned(kept, level, own, found)?;
-    } else {
-        find_beside(kept, boxes, level, own, found)?;
+
+    // Finds the pairs of a slot with those partners that it is to find by the cells in which their boxes stand.
+    fn find_standing(&self, own: &SlotBox, found: &mut Findings) -> Result<(), NoMemory>
+        ensures { OnOk result (Finds self.now.bodies own.now true (IsDue (standing_cell self.now.floor) own.now.slot own.now.body)
+            found.old.pairs.items found.new.pairs.items) }
+    {
+        let level = own.body.level().max(self.boxes.floor);
+        self.find_there(level, own, found)?;
+        self.find_from(level + 1, own, found)?;
+        Ok(())
     }
-    Ok(())
-}
 
-// Finds the pairs of a slot with its partners of a level by a scan of the level.
-fn find_scanned(
-    kept: &KeptBoxes,
-    level: u8,
-    own: &SlotBox,
-    found: &mut Findings,
-) -> Result<(), NoMemory>
-    requires { level < LEVELS }
-    ensures { OnOk result (Finds kept.now own.now true (λ _ b. level_of b ≡ level) found.old.pairs.items found.new.pairs.items) }
-{
-    found.near.clear();
-    kept.scan(level, &own.body, &mut found.near)?;
-    found.find_among(kept.boxes(), own, true)?;
-    Ok(())
-}
+    // The same with those that stand at the slot's level.
+    fn find_there(&self, level: u8, own: &SlotBox, found: &mut Findings) -> Result<(), NoMemory>
+        requires low { level < LEVELS }
+        requires level { level ≡ max (level_of own.now.body) self.now.floor }
+        ensures { OnOk result (Finds self.now.bodies own.now true (IsDueBeside (standing_cell self.now.floor) own.now.slot own.now.body)
+            found.old.pairs.items found.new.pairs.items) }
+    {
+        if self.is_scanned(level, own) {
+            self.find_scanned(level, own, found)
+        } else {
+            self.find_due(level, own, found)
+        }
+    }
 
-// Finds the pairs of a slot with its partners that stand at a level, by all cells beside its box.
-fn find_beside(
-    kept: &KeptBoxes,
-    boxes: &BucketBoxes,
-    level: u8,
-    own: &SlotBox,
-    found: &mut Findings,
-) -> Result<(), NoMemory>
-    requires filled { HasBuckets kept.now boxes.now }
-    requires low { level < LEVELS }
-    ensures { OnOk result (Finds kept.now own.now true (λ _ b. max (level_of b) boxes.now.floor ≡ level)
-        found.old.pairs.items found.new.pairs.items) }
-{
-    kept.sized_law();
-    let block = block_beside(level, &own.body);
-    boxes.find_in_block(own, &block, &mut found.near.looked, &mut found.pairs)?;
-    Ok(())
+    // Whether a level is scanned for the partners of a slot: it has few boxes, and none of a lower level stands there.
+    fn is_scanned(&self, level: u8, own: &SlotBox) -> bool
+        requires { level < LEVELS }
+        ensures { result ≡ true → (b : Bounds) → max (level_of b) self.now.floor ≡ level → level_of b ≡ level }
+    {
+        (level > self.boxes.floor || level == 0) && self.kept.has_few_beside(level, &own.body)
+    }
+
+    // The same by the cells beside the slot's box.
+    fn find_due(&self, level: u8, own: &SlotBox, found: &mut Findings) -> Result<(), NoMemory>
+        requires low { level < LEVELS }
+        requires level { level ≡ max (level_of own.now.body) self.now.floor }
+        ensures { OnOk result (Finds self.now.bodies own.now true (IsDueBeside (standing_cell self.now.floor) own.now.slot own.now.body)
+            found.old.pairs.items found.new.pairs.items) }
+    {
+        self.kept.sized_law();
+        let looked = &mut found.near.looked;
+        let pairs = &mut found.pairs;
+        let cell = row_of(&cell_in(level, &own.body));
+        self.boxes.find_in_row(own, false, &cell, looked, pairs)?;
+        self.boxes
+            .find_later(own, &cells_after(level, &own.body), looked, pairs)?;
+        Ok(())
+    }
+
+    // Finds the pairs of a slot with its partners at the levels from one on.
+    #[inline(always)]
+    fn find_from(&self, first: u8, own: &SlotBox, found: &mut Findings) -> Result<(), NoMemory>
+        requires { self.now.floor ≤ first }
+        ensures { OnOk result (Finds self.now.bodies own.now true (λ _ b. first ≤ level_of b) found.old.pairs.items found.new.pairs.items) }
+    {
+        'levels: for level in first..self.end {
+            self.find_at(level, own, found)?;
+        }
+        Ok(())
+    }
+
+    // Finds the pairs of a slot with its partners at a level.
+    fn find_at(&self, level: u8, own: &SlotBox, found: &mut Findings) -> Result<(), NoMemory>
+        requires low { level < LEVELS }
+        requires high { self.now.floor ≤ level }
+        ensures { OnOk result (Finds self.now.bodies own.now true (λ _ b. level_of b ≡ level) found.old.pairs.items found.new.pairs.items) }
+    {
+        if !self.kept.has_some(level) {
+            return Ok(());
+        }
+        if self.kept.has_few_beside(level, &own.body) {
+            self.find_scanned(level, own, found)?;
+        } else {
+            self.find_beside(level, own, found)?;
+        }
+        Ok(())
+    }
+
+    // Finds the pairs of a slot with its partners of a level by a scan of the level.
+    fn find_scanned(&self, level: u8, own: &SlotBox, found: &mut Findings) -> Result<(), NoMemory>
+        requires { level < LEVELS }
+        ensures { OnOk result (Finds self.now.bodies own.now true (λ _ b. level_of b ≡ level) found.old.pairs.items found.new.pairs.items) }
+    {
+        found.near.clear();
+        self.kept.scan(level, &own.body, &mut found.near)?;
+        found.find_among(self.kept.boxes(), own, true)?;
+        Ok(())
+    }
+
+    // Finds the pairs of a slot with its partners that stand at a level, by all cells beside its box.
+    fn find_beside(&self, level: u8, own: &SlotBox, found: &mut Findings) -> Result<(), NoMemory>
+        requires { level < LEVELS }
+        ensures { OnOk result (Finds self.now.bodies own.now true (λ _ b. max (level_of b) self.now.floor ≡ level)
+            found.old.pairs.items found.new.pairs.items) }
+    {
+        self.kept.sized_law();
+        let block = block_beside(level, &own.body);
+        self.boxes
+            .find_in_block(own, &block, &mut found.near.looked, &mut found.pairs)?;
+        Ok(())
+    }
 }

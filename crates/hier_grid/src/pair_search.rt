@@ -1,16 +1,14 @@
 ghost use Rattle.std.specs.Prelude.{◌≡◌, ◌<◌, true, false, OnOk};
 ghost use Rattle.fixed_box.specs.Bounds.{level_of};
-ghost use Rattle.hier_grid.specs.Buckets.{HasBuckets, IsListing};
+ghost use Rattle.hier_grid.specs.Buckets.{IsListing};
 ghost use Rattle.hier_grid.specs.Cells.{cell_of, IsInRow};
-ghost use Rattle.hier_grid.specs.Search.{IsDue, IsNearby, IsOther, Finds, FindsRun, FindsSlot};
-ghost use Rattle.slot_lists.specs.Present.{present};
+ghost use Rattle.hier_grid.specs.Search.{IsDue, IsNearby, IsOther, Finds, FindsAll, FindsRun, FindsSlot};
 
-use crate::bucket_boxes::BucketBoxes;
 use crate::cell::cell_of;
 use crate::cell_row::{CellRow, row_of};
 use crate::findings::Findings;
 use crate::kept_boxes::KeptBoxes;
-use crate::list_search::find_listed;
+use crate::list_search::ListSearch;
 use crate::listing::Listing;
 use crate::near_cells::visit_row;
 use crate::slot_box::SlotBox;
@@ -23,18 +21,17 @@ use std::marker::Model;
 #[derive(Drop)]
 pub(crate) struct PairSearch<'a> {
     kept: &'a KeptBoxes,
-    listed: Option<&'a BucketBoxes>,
+    listed: Option<ListSearch<'a>>,
     // A level above those of all boxes.
     end: u8,
 }
 
 impl<'a> Model for PairSearch<'a> {
-    ghost use Rattle.std.specs.Prelude.{IfSome};
+    ghost use Rattle.std.specs.Prelude.{◌≡◌, IfSome};
     ghost use Rattle.std.specs.Ordering.{nat_cmp};
     ghost use Rattle.std.specs.Coded.{coded_ℕ};
     ghost use Rattle.std.specs.FinMap.{FinMap, code};
     ghost use Rattle.fixed_box.specs.Bounds.{Bounds, coded_bounds};
-    ghost use Rattle.hier_grid.specs.Buckets.{HasBuckets};
     ghost use Rattle.hier_grid.specs.Search.{IsEnd};
 
     ghost Value = { FinMap nat_cmp Bounds };
@@ -43,7 +40,7 @@ impl<'a> Model for PairSearch<'a> {
 
     ghost view = { λ s. s.kept.now };
 
-    ghost invariant = { λ s. IfSome s.listed (λ boxes. HasBuckets s.kept.now boxes.now) × IsEnd s.kept.now s.end };
+    ghost invariant = { λ s. IfSome s.listed (λ search. search.bodies ≡ s.kept.now) × IsEnd s.kept.now s.end };
 }
 
 impl PairSearch<'_> {
@@ -52,40 +49,31 @@ impl PairSearch<'_> {
         requires { IsListing kept.now listing.now }
         ensures { result ≡ kept.now }
     {
-        PairSearch {
-            kept,
-            listed: listing.current(),
-            end: kept.levels_end(),
-        }
+        let end = kept.levels_end();
+        let listed = match listing.current() {
+            Some(boxes) => Some(ListSearch::new(kept, boxes, end)),
+            None => None,
+        };
+        PairSearch { kept, listed, end }
     }
 
-    /// Finds the pairs of all boxes, each at least once, and answers how many boxes were compared. Where the boxes are listed
-    /// by bucket they are searched in this order, so that a search reads much of what the one before it read.
+    /// Finds the pairs of all boxes, and answers how many boxes were compared.
     pub(crate) fn find_all(
         &self,
         slots: &mut Vec<u32>,
         found: &mut Findings,
     ) -> Result<u64, NoMemory>
-        ensures { OnOk result (FindsRun self.now (present self.now) found.new.pairs.items) }
+        ensures { OnOk result (FindsAll self.now found.new.pairs.items) }
     {
-        match self.listed {
-            Some(boxes) => self.find_by_bucket(boxes, found),
+        match &self.listed {
+            Some(search) => search.find_all(found),
             None => self.find_by_slot(slots, found),
         }
     }
 
-    // The same by bucket.
-    fn find_by_bucket(&self, boxes: &BucketBoxes, found: &mut Findings) -> Result<u64, NoMemory>
-        requires { HasBuckets self.now boxes.now }
-        ensures { OnOk result (FindsRun self.now (present self.now) found.new.pairs.items) }
-    {
-        let looked = self.find_run(boxes.slots(), found)?;
-        Ok(looked)
-    }
-
     // The same by slot, rising. The slots are listed first.
     fn find_by_slot(&self, slots: &mut Vec<u32>, found: &mut Findings) -> Result<u64, NoMemory>
-        ensures { OnOk result (FindsRun self.now (present self.now) found.new.pairs.items) }
+        ensures { OnOk result (FindsAll self.now found.new.pairs.items) }
     {
         self.kept.boxes().list(slots)?;
         let looked = self.find_run(slots, found)?;
@@ -118,17 +106,17 @@ impl PairSearch<'_> {
 
     // Finds the pairs of a slot with those partners that it is to find.
     fn find_from(&self, own: &SlotBox, found: &mut Findings) -> Result<(), NoMemory>
-        ensures { OnOk result (Finds self.now own.now true (IsDue own.now.slot own.now.body) found.old.pairs.items found.new.pairs.items) }
+        ensures { OnOk result (Finds self.now own.now true (IsDue cell_of own.now.slot own.now.body) found.old.pairs.items found.new.pairs.items) }
     {
-        match self.listed {
-            Some(boxes) => find_listed(self.kept, boxes, self.end, own, found),
+        match &self.listed {
+            Some(search) => search.find(own, found),
             None => self.find_linked(own, found),
         }
     }
 
     // The same by the rings of links.
     fn find_linked(&self, own: &SlotBox, found: &mut Findings) -> Result<(), NoMemory>
-        ensures { OnOk result (Finds self.now own.now true (IsDue own.now.slot own.now.body) found.old.pairs.items found.new.pairs.items) }
+        ensures { OnOk result (Finds self.now own.now true (IsDue cell_of own.now.slot own.now.body) found.old.pairs.items found.new.pairs.items) }
     {
         let cell = cell_of(&own.body);
         self.find_own(own, &row_of(&cell), found)?;
@@ -152,7 +140,7 @@ impl PairSearch<'_> {
     fn find_others(&self, own: &SlotBox, level: u8, found: &mut Findings) -> Result<(), NoMemory>
         requires low { level < LEVELS }
         requires level { level ≡ level_of own.now.body }
-        ensures { OnOk result (Finds self.now own.now true (λ _ b. IsOther own.now.body b) found.old.pairs.items found.new.pairs.items) }
+        ensures { OnOk result (Finds self.now own.now true (λ _ b. IsOther cell_of own.now.body b) found.old.pairs.items found.new.pairs.items) }
     {
         let near = &mut found.near;
         near.clear();

@@ -4,11 +4,11 @@ use Rattle.std.proofs.Common.{arith}
 use Rattle.std.specs.Int.{bit_at}
 use Rattle.std.specs.Char.{is_digit, digit_value}
 use Rattle.std.specs.List.{list_all}
-use Rattle.std.proofs.lemmas.Nat.{and_le_r, same_from_place}
+use Rattle.std.proofs.lemmas.Nat.{same_from_place}
 use Rattle.std.proofs.lemmas.Nat.Bits.{and_pow}
 use Rattle.std.proofs.lemmas.Bool.Decides.{nat_tests}
 use Rattle.number_front.specs.Fronts.{AreHexadecimal, four_of}
-use Rattle.number_front.proofs.PrintedWords.{AreBytes, and_four, bytes_in, low_bytes, whole_byte}
+use Rattle.number_front.proofs.PrintedWords.{AreBytes, and_four, bytes_in, low_bytes, two_of_three}
 
 -- a decimal digit, or a letter from a to f
 hex_small : (b a : ℕ) → a ≤ 9 → b ≡ a + 48 → digit_value b ≡ a
@@ -64,16 +64,8 @@ pairs_are a b c d v small is = omega (arith, is, small)
 number_is : (a b c d v : ℕ) → (a ≤ 15) × (b ≤ 15) × (c ≤ 15) × (d ≤ 15) → v ≡ four_of a b c d
     → bit_and (v * 4097 % 4294967296 / 256) 16711935 * 16777217 % 4294967296 / 65536 ≡ ((a * 16 + b) * 16 + c) * 16 + d
 number_is a b c d v small is =
-    let p = 16 * a + b in
-    let q = 16 * b + c in
-    let r = 16 * c + d in
-    let none : bit_and q 0 ≡ 0 = omega (arith, and_le_r q 0) in
-    let none_d : bit_and 0 0 ≡ 0 = omega (arith, and_le_r 0 0) in
-    let masked : bit_and (v * 4097 % 4294967296 / 256) 16711935 ≡ four_of p 0 r 0 =
-    ap (λ w. bit_and w 16711935) (pairs_are a b c d v small is)
-    ∙ and_four p q r 0 255 0 255 0 (omega (arith, small), omega (arith, small), omega (arith, small), omega arith)
-    (omega arith, omega arith, omega arith, omega arith)
-    ∙ omega (arith, whole_byte p (omega (arith, small)), whole_byte r (omega (arith, small)), none, none_d) in
+    let masked = ap (λ w. bit_and w 16711935) (pairs_are a b c d v small is)
+    ∙ two_of_three (16 * a + b) (16 * b + c) (16 * c + d) (omega (arith, small)) (omega (arith, small)) (omega (arith, small)) in
     omega (arith, masked, small)
 
 -- a word less zeros and letters, whose bytes are small

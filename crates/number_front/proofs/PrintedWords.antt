@@ -70,22 +70,22 @@ pairs_are : (a b c d v : ℕ) → (a ≤ 9) × (b ≤ 9) × (c ≤ 9) × (d ≤ 
     → v * 2561 % 4294967296 / 256 ≡ four_of (10 * a + b) (10 * b + c) (10 * c + d) 0
 pairs_are a b c d v small is = omega (arith, is, small)
 
-pub whole_byte : (b : ℕ) → b < 256 → bit_and b 255 ≡ b
+whole_byte : (b : ℕ) → b < 256 → bit_and b 255 ≡ b
 whole_byte b small = let h : bit_and b 255 + b % 1 ≡ b = and_high_numeral b 254 refl small in omega (arith, h)
+
+-- of three bytes the first and the third
+pub two_of_three : (p q r : ℕ) → p < 256 → q < 256 → r < 256 → bit_and (four_of p q r 0) 16711935 ≡ four_of p 0 r 0
+two_of_three p q r lp lq lr =
+    let none : bit_and q 0 ≡ 0 = omega (arith, and_le_r q 0) in
+    let none_d : bit_and 0 0 ≡ 0 = omega (arith, and_le_r 0 0) in
+    and_four p q r 0 255 0 255 0 (lp, lq, lr, omega arith) (omega arith, omega arith, omega arith, omega arith)
+    ∙ omega (arith, whole_byte p lp, whole_byte r lr, none, none_d)
 
 pub number_is : (a b c d v : ℕ) → (a ≤ 9) × (b ≤ 9) × (c ≤ 9) × (d ≤ 9) → v ≡ four_of a b c d
     → bit_and (v * 2561 % 4294967296 / 256) 16711935 * 6553601 % 4294967296 / 65536 ≡ ((a * 10 + b) * 10 + c) * 10 + d
 number_is a b c d v small is =
-    let p = 10 * a + b in
-    let q = 10 * b + c in
-    let r = 10 * c + d in
-    let none : bit_and q 0 ≡ 0 = omega (arith, and_le_r q 0) in
-    let none_d : bit_and 0 0 ≡ 0 = omega (arith, and_le_r 0 0) in
-    let masked : bit_and (v * 2561 % 4294967296 / 256) 16711935 ≡ four_of p 0 r 0 =
-    ap (λ w. bit_and w 16711935) (pairs_are a b c d v small is)
-    ∙ and_four p q r 0 255 0 255 0 (omega (arith, small), omega (arith, small), omega (arith, small), omega arith)
-    (omega arith, omega arith, omega arith, omega arith)
-    ∙ omega (arith, whole_byte p (omega (arith, small)), whole_byte r (omega (arith, small)), none, none_d) in
+    let masked = ap (λ w. bit_and w 16711935) (pairs_are a b c d v small is)
+    ∙ two_of_three (10 * a + b) (10 * b + c) (10 * c + d) (omega (arith, small)) (omega (arith, small)) (omega (arith, small)) in
     omega (arith, masked, small)
 
 pub number_below : (v : ℕ) → AreDigits v → bit_and (v * 2561 % 4294967296 / 256) 16711935 * 6553601 % 4294967296 / 65536 ≤ 9999

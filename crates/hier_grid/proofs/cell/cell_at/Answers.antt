@@ -1,4 +1,4 @@
--- A coordinate of 32 bits lies at most 2^20 cells of the lowest level from 0.
+-- A coordinate of 32 bits lies at most 2^19 cells of the lowest level from 0.
 use Rattle.std.proofs.Common.{arith}
 use Rattle.std.proofs.lemmas.Int.{ints}
 use Rattle.hier_grid.proofs.CellLemmas.{cell_low, cell_high}

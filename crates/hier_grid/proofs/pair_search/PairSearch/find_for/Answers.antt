@@ -1,6 +1,7 @@
 -- The slot has this box, and no other one.
 use Rattle.std.proofs.Common.{◌≡◌, Some, sym, ◌∙◌, subst, refl, rules}
 use Rattle.std.specs.FinMap.{get}
+use Rattle.hier_grid.specs.Cells.{cell_of}
 use Rattle.hier_grid.specs.Search.{FindsFrom}
 use Rattle.hier_grid.proofs.GridLemmas.{some_is}
 use Rattle.hier_grid.proofs.pair_search.PairSearch.find_for.Goals as goal
@@ -13,6 +14,6 @@ returns c =
     record {
       sound = search_of.sound here;
       more = search_of.more;
-      found = λ body own. subst (λ b. FindsFrom kept c.args.slot b c.find_from.new.found.pairs.items) (some_is (sym here ∙ own))
+      found = λ body own. subst (λ b. FindsFrom cell_of kept c.args.slot b c.find_from.new.found.pairs.items) (some_is (sym here ∙ own))
           (λ q b e m other due. search_of.found q b e due m other refl);
     }

@@ -1,10 +1,12 @@
 -- A box of this level, or of a lower one.
-use Rattle.std.proofs.Common.{◌≡◌, true, inl, inr, arith}
+use Rattle.std.specs.FinMap.{get}
+use Rattle.hier_grid.specs.Buckets.{Standing}
+use Rattle.std.proofs.Common.{◌≡◌, true, ap, ◌∙◌, inl, inr, arith}
 use Rattle.fixed_box.specs.Bounds.{level_of}
 use Rattle.fixed_box.proofs.Numbers.{nat_next}
 use Rattle.broad_index.specs.Members.{has_pair}
 use Rattle.broad_index.specs.Touched.{ordered}
-use Rattle.hier_grid.proofs.list_search.find_from.Goals as goal
+use Rattle.hier_grid.proofs.list_search.ListSearch.find_from.Goals as goal
 
 pub levels-init : goal.levels-init
 levels-init c = record {
@@ -13,7 +15,7 @@ levels-init c = record {
 }
 
 pub find_at-requires-clause-high : goal.find_at-requires-clause-high
-find_at-requires-clause-high c = omega (arith, c.levels.invariant.low, c.requires.high)
+find_at-requires-clause-high c = omega (arith, c.levels.invariant.low, c.requires)
 
 pub levels-preserved : goal.levels-preserved
 levels-preserved c =
@@ -39,5 +41,5 @@ returns c =
     record {
       sound = all.sound;
       more = all.more;
-      found = λ q b e at m other any. all.found q b e (at.0, omega (arith, c.levels-test.false, at.1)) m other any;
+      found = λ q b e at m other any. all.found q b e (at, (let above = c.self.invariant.1.above q b (ap (λ (v : Standing). get v.bodies q) c.self.view_is ∙ e) in omega (arith, c.levels-test.false, above))) m other any;
     }
