@@ -210,10 +210,12 @@ fn push_met(
 ) -> Result<(), NoMemory>
     ensures { OnOk result (pairs.new.items ≡ pairs.old.items ++ met_pairs own.now any others.now) }
 {
+    // a copy, which no push can change: so it is read once
+    let mine = *own;
     let mut rest = others;
     'others: while let [other, more @ ..] = rest {
-        if is_met(own, any, other) {
-            pairs.push(Pair::ordered(own.slot, other.slot))?;
+        if is_met(&mine, any, other) {
+            pairs.push(Pair::ordered(mine.slot, other.slot))?;
         }
         rest = more;
     }
