@@ -1,9 +1,9 @@
 -- The cells in which boxes stand above a floor, and that cells beside a region have all boxes of lower levels that meet it.
-use Rattle.std.proofs.Common.{◌≡◌, ℕ, ◌+◌, ◌*◌, ◌<◌, ◌≤◌, true, cond, Option, None, Some, is_some, option_map, refl, sym, ap, ◌∙◌, arith, subst, inl, inr}
+use Rattle.std.proofs.Common.{◌≡◌, ℕ, ◌+◌, ◌*◌, ◌<◌, ◌≤◌, true, false, cond, Option, None, Some, is_some, option_map, refl, sym, ap, ◌∙◌, arith, subst, inl, inr}
 use Rattle.std.specs.Prelude.{max}
 use Rattle.std.proofs.Math.Pow.{pow_mono}
 use Rattle.std.proofs.lemmas.Cmp.{nat_cmp_total}
-use Rattle.std.specs.Ordering.{nat_cmp}
+use Rattle.std.specs.Ordering.{nat_cmp, eq_by_cmp}
 use Rattle.std.specs.FinMap.{FinMap, get, get-insert, get-remove, insert, remove, contains_key}
 use Rattle.fixed_box.specs.Bounds.{Bounds, cell_side, level_of, longest_side, meets}
 use Rattle.slot_lists.specs.SlotMapLaws.{tie_same, tie_other}
@@ -67,6 +67,23 @@ own_map (Some b) = ap Some (sym (stands_own 0 b (omega arith)))
 -- with no floor each box stands in its own cell
 pub standing_own : (bodies : FinMap nat_cmp Bounds) (cells : FinMap nat_cmp CellKey) → AreKeyed bodies cells → AreStanding bodies 0 cells
 standing_own bodies cells keyed s = keyed s ∙ own_map (get bodies s)
+
+-- ---- a change of one box
+pub standing_put : (bodies : FinMap nat_cmp Bounds) (floor : ℕ) (cells : FinMap nat_cmp CellKey) (s : ℕ) (b : Bounds) → AreStanding bodies floor cells
+    → AreStanding (insert bodies s b) floor (insert cells s (standing_cell floor b))
+standing_put bodies floor cells s b keyed q =
+    let f = standing_cell floor in
+    get-insert nat_cmp_total cells s (f b) q
+    ∙ elim (eq_by_cmp nat_cmp q s) as (λ t. cond t (Some (f b)) (get cells q) ≡ option_map f (cond t (Some b) (get bodies q))) [ true ↦ refl | false ↦ keyed q ]
+    ∙ sym (ap (option_map f) (get-insert nat_cmp_total bodies s b q))
+
+pub standing_take : (bodies : FinMap nat_cmp Bounds) (floor : ℕ) (cells : FinMap nat_cmp CellKey) (s : ℕ) → AreStanding bodies floor cells
+    → AreStanding (remove bodies s) floor (remove cells s)
+standing_take bodies floor cells s keyed q =
+    let f = standing_cell floor in
+    get-remove nat_cmp_total cells s q
+    ∙ elim (eq_by_cmp nat_cmp q s) as (λ t. cond t None (get cells q) ≡ option_map f (cond t None (get bodies q))) [ true ↦ refl | false ↦ keyed q ]
+    ∙ sym (ap (option_map f) (get-remove nat_cmp_total bodies s q))
 
 -- ---- one cell after another
 pub put_here : (cells : FinMap nat_cmp CellKey) (s : ℕ) (k : CellKey) → get (insert cells s k) s ≡ Some k

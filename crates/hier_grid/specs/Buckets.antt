@@ -1,5 +1,5 @@
 -- Serves proofs alone: boxes beside their slots by bucket, and what is found among them.
-use Rattle.std.specs.Prelude.{◌≡◌, refl, ℕ, ◌<◌, Bool, true, not, ◌&&◌, ◌||◌, ◌==◌, nat_lt, List, map, filter, Some, All}
+use Rattle.std.specs.Prelude.{◌≡◌, refl, ℕ, ◌<◌, Bool, true, not, ◌&&◌, ◌||◌, ◌==◌, nat_lt, List, map, filter, Some, IfSome, All}
 use Rattle.std.specs.Ordering.{nat_cmp}
 use Rattle.std.specs.Coded.{Coded, code_by, coded×, coded_ℕ}
 use Rattle.std.specs.FinMap.{FinMap, code, get}
@@ -13,7 +13,7 @@ use Rattle.hier_grid.specs.declared.slot_box.SlotBox.{SlotBox}
 use Rattle.hier_grid.specs.declared.listing.Listing.{Listing}
 use Rattle.cell_table.specs.declared.TheConstants.{LEVELS}
 use Rattle.hier_grid.specs.Search.{Finds}
-use Rattle.hier_grid.specs.Standing.{AreStanding, standing_cell}
+use Rattle.hier_grid.specs.Standing.{AreStanding, IsMerged, standing_cell}
 
 -- beside each slot stands its box
 abbrev pub AreOf : FinMap nat_cmp Bounds → List SlotBox → Type 0
@@ -40,9 +40,14 @@ coded_standing =
     code_by (FinMap nat_cmp Bounds × ℕ) (coded× (code coded_ℕ coded_bounds) coded_ℕ)
     (λ s. (s.bodies, s.floor)) (λ t. record { bodies = t.0; floor = t.1 }) (λ _. refl)
 
--- where a listing is fresh, it has all boxes
-abbrev pub IsListing : FinMap nat_cmp Bounds → Listing → Type 0
-IsListing bodies listing = listing.fresh ≡ true → HasBuckets bodies listing.boxes
+-- where merged cells are kept, they are those of the boxes
+abbrev pub KeepsMerged : FinMap nat_cmp Bounds → BucketBoxes → Type 0
+KeepsMerged bodies boxes = IfSome boxes.merged (IsMerged bodies)
+
+-- where a listing is fresh, it has all boxes; merged cells are up to date in any case
+pub record IsListing (bodies : FinMap nat_cmp Bounds) (listing : Listing) : Type 0 where
+  pub listed : listing.fresh ≡ true → HasBuckets bodies listing.boxes
+  pub merged : KeepsMerged bodies listing.boxes
 
 -- a partner: another slot, any such one or only a higher one, whose box meets the slot's
 abbrev pub is_met : SlotBox → Bool → SlotBox → Bool

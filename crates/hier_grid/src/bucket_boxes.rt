@@ -1,7 +1,9 @@
-ghost use Rattle.std.specs.Prelude.{◌≡◌, ◌<◌, ◌++◌, true, OnOk, All, length, map as mapped};
+ghost use Rattle.std.specs.Prelude.{◌≡◌, ◌<◌, ◌++◌, true, None, OnOk, All, length, map as mapped};
 ghost use Rattle.std.specs.FinMap as map;
+ghost use Rattle.std.specs.Ordering.{nat_cmp};
+ghost use Rattle.fixed_box.specs.Bounds.{Bounds};
 ghost use Rattle.hier_grid.specs.Cells.{IsAmong, IsInBlock, IsInPlane, IsInRow};
-ghost use Rattle.hier_grid.specs.Buckets.{AreOf, FindsIn, HasBuckets, is_met, met_pairs};
+ghost use Rattle.hier_grid.specs.Buckets.{AreOf, FindsIn, HasBuckets, KeepsMerged, is_met, met_pairs};
 ghost use Rattle.hier_grid.specs.Standing.{AreStanding};
 
 use crate::cell_block::CellBlock;
@@ -9,13 +11,13 @@ use crate::cell_row::CellRow;
 use crate::floor::floor_for;
 use crate::kept_boxes::KeptBoxes;
 use crate::later_cells::LaterCells;
+use crate::merged_cells::MergedCells;
 use crate::near_cells::{row_at, with_x};
 use crate::partners::is_sought;
 use crate::slot_box::SlotBox;
-use crate::standing_cells::settle_cells;
 use broad_index::Pair;
 use cell_table::{BucketList, CellKey, CellTable, LEVELS};
-use fixed_box::NoMemory;
+use fixed_box::{FBox, NoMemory, SLOTS};
 use slot_lists::SlotBoxes;
 use std::alloc::Global;
 
@@ -26,16 +28,17 @@ use std::alloc::Global;
 pub(crate) struct BucketBoxes {
     list: BucketList,
     entries: Vec<SlotBox>,
-    // The cells in which the boxes stood when levels were merged last, for want of which a table is made. Most boxes stay in
-    // their cells, so the next time few are moved.
-    merged: Option<CellTable>,
+    // From the first time that levels are merged on.
+    merged: Option<MergedCells>,
     /// No box stands in a cell of a level below this one.
     pub(crate) floor: u8,
 }
 
 impl BucketBoxes {
     /// No box. It takes no memory.
-    pub(crate) fn new(alloc: Global) -> BucketBoxes {
+    pub(crate) fn new(alloc: Global) -> BucketBoxes
+        ensures { result.merged ≡ None }
+    {
         BucketBoxes {
             list: BucketList::new(alloc),
             entries: Vec::new(alloc),
@@ -46,7 +49,9 @@ impl BucketBoxes {
 
     /// Copies all boxes, those of low levels merged where that pays.
     pub(crate) fn fill(&mut self, kept: &KeptBoxes) -> Result<(), NoMemory>
-        ensures { OnOk result (HasBuckets kept.now self.new) }
+        requires { KeepsMerged kept.now self.old }
+        ensures filled { OnOk result (HasBuckets kept.now self.new) }
+        ensures merged { KeepsMerged kept.now self.new }
     {
         let floor = floor_for(kept);
         if floor == 0 {
@@ -58,7 +63,9 @@ impl BucketBoxes {
 
     // Copies all boxes, each at its own level.
     fn fill_own(&mut self, kept: &KeptBoxes) -> Result<(), NoMemory>
-        ensures { OnOk result (HasBuckets kept.now self.new) }
+        requires { KeepsMerged kept.now self.old }
+        ensures filled { OnOk result (HasBuckets kept.now self.new) }
+        ensures merged { KeepsMerged kept.now self.new }
     {
         self.floor = 0;
         self.fill_cells(kept, kept.cells())
@@ -66,25 +73,49 @@ impl BucketBoxes {
 
     // Copies all boxes, those of lower levels at a floor.
     fn fill_merged(&mut self, kept: &KeptBoxes, floor: u8) -> Result<(), NoMemory>
-        requires { floor < LEVELS }
-        ensures { OnOk result (HasBuckets kept.now self.new) }
+        requires low { floor < LEVELS }
+        requires merged { KeepsMerged kept.now self.old }
+        ensures filled { OnOk result (HasBuckets kept.now self.new) }
+        ensures merged { KeepsMerged kept.now self.new }
     {
-        let mut cells = match self.merged.take() {
-            Some(cells) => cells,
-            None => CellTable::new(*self.entries.allocator())?,
+        let merged = match self.merged.take() {
+            Some(mut merged) => {
+                merged.set_floor(kept, floor);
+                merged
+            }
+            None => MergedCells::new(kept, floor, *self.entries.allocator())?,
         };
-        settle_cells(kept, floor, &mut cells);
         self.floor = floor;
-        self.fill_cells(kept, &cells)?;
-        self.merged = Some(cells);
+        self.fill_cells(kept, merged.cells())?;
+        self.merged = Some(merged);
         Ok(())
+    }
+
+    /// A slot gets a box, in place of one that it may have.
+    pub(crate) fn put(&mut self, slot: u32, body: &FBox)
+        requires { slot < SLOTS }
+        ensures { (bodies : map.FinMap nat_cmp Bounds) → KeepsMerged bodies self.old → KeepsMerged (map.insert bodies slot body.now) self.new }
+    {
+        if let Some(merged) = &mut self.merged {
+            merged.put(slot, body);
+        }
+    }
+
+    /// A slot has no box any more.
+    pub(crate) fn take(&mut self, slot: u32)
+        ensures { (bodies : map.FinMap nat_cmp Bounds) → KeepsMerged bodies self.old → KeepsMerged (map.remove bodies slot) self.new }
+    {
+        if let Some(merged) = &mut self.merged {
+            merged.take(slot);
+        }
     }
 
     // Copies all boxes, in the order of the buckets of the cells in which they stand.
     fn fill_cells(&mut self, kept: &KeptBoxes, cells: &CellTable) -> Result<(), NoMemory>
         requires low { self.old.floor < LEVELS }
         requires standing { AreStanding kept.now self.old.floor cells.now }
-        ensures { OnOk result (HasBuckets kept.now self.new) }
+        ensures filled { OnOk result (HasBuckets kept.now self.new) }
+        ensures same { self.new.merged ≡ self.old.merged }
     {
         self.list.fill(cells)?;
         list_boxes(kept.boxes(), self.list.slots(), &mut self.entries)?;

@@ -40,8 +40,7 @@ const LISTED_FROM: u32 = 1_024;
 /// Each level costs a search some nine rows of cells. So where the hull of all boxes has cells to spare, boxes of low levels
 /// are copied as if they lay at a higher one: a box is shorter than the cells of each level from its own on. Of two boxes the
 /// one whose copy stands first then finds their pair; in a search by pieces their own cells decide, and a raised box looks at
-/// all cells beside it. Another table of cells is made for that, and kept: the next time those slots alone are moved in it
-/// whose cells there have changed.
+/// all cells beside it. Another table of cells is made for that, and kept: from then on each change is made there too.
 ///
 /// A ray or a segment is followed through the cells of a level: their block is cut in two again and again about the line's
 /// path, and a part that the line misses is passed by. The block reaches no further than a hull, which grows with each box
@@ -165,7 +164,7 @@ impl BroadPhase for HierGrid {
         ensures answer { result ≡ Ok tt }
         ensures bodies { self.new ≡ map.insert self.old slot body }
     {
-        self.listing.expire();
+        self.listing.put(slot, &body);
         self.kept.put(slot, body);
         Ok(())
     }
@@ -177,7 +176,7 @@ impl BroadPhase for HierGrid {
         ensures answer { result ≡ Ok tt }
         ensures bodies { self.new ≡ map.insert self.old slot body }
     {
-        self.listing.expire();
+        self.listing.put(slot, &body);
         self.kept.set(slot, body);
         Ok(())
     }
@@ -186,7 +185,7 @@ impl BroadPhase for HierGrid {
         requires present { map.contains_key self.old slot ≡ true }
         ensures gone { self.new ≡ map.remove self.old slot }
     {
-        self.listing.expire();
+        self.listing.take(slot);
         self.kept.take(slot);
     }
 

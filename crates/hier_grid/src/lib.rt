@@ -20,6 +20,7 @@ mod leveled_boxes;
 mod line_path;
 mod list_search;
 mod listing;
+mod merged_cells;
 mod near_cells;
 mod nearby;
 mod pair_search;

@@ -1,9 +1,12 @@
-ghost use Rattle.std.specs.Prelude.{◌≡◌, true, false, is_some, IfSome, OnOk};
+ghost use Rattle.std.specs.Prelude.{◌≡◌, ◌<◌, is_some, IfSome};
+ghost use Rattle.std.specs.FinMap as map;
+ghost use Rattle.std.specs.Ordering.{nat_cmp};
+ghost use Rattle.fixed_box.specs.Bounds.{Bounds};
 ghost use Rattle.hier_grid.specs.Buckets.{IsListing};
 
 use crate::bucket_boxes::BucketBoxes;
 use crate::kept_boxes::KeptBoxes;
-use fixed_box::NoMemory;
+use fixed_box::{FBox, NoMemory, SLOTS};
 use std::alloc::Global;
 
 /// All boxes by bucket, and whether they are the boxes as they are now.
@@ -16,7 +19,7 @@ pub(crate) struct Listing {
 impl Listing {
     /// Nothing is listed. It takes no memory.
     pub(crate) fn new(alloc: Global) -> Listing
-        ensures { result.fresh ≡ false }
+        ensures { (bodies : map.FinMap nat_cmp Bounds) → IsListing bodies result }
     {
         Listing {
             boxes: BucketBoxes::new(alloc),
@@ -24,11 +27,21 @@ impl Listing {
         }
     }
 
-    /// Marks that a box changes.
-    pub(crate) fn expire(&mut self)
-        ensures { self.new.fresh ≡ false }
+    /// A slot gets a box, in place of one that it may have.
+    pub(crate) fn put(&mut self, slot: u32, body: &FBox)
+        requires { slot < SLOTS }
+        ensures { (bodies : map.FinMap nat_cmp Bounds) → IsListing bodies self.old → IsListing (map.insert bodies slot body.now) self.new }
     {
         self.fresh = false;
+        self.boxes.put(slot, body);
+    }
+
+    /// A slot has no box any more.
+    pub(crate) fn take(&mut self, slot: u32)
+        ensures { (bodies : map.FinMap nat_cmp Bounds) → IsListing bodies self.old → IsListing (map.remove bodies slot) self.new }
+    {
+        self.fresh = false;
+        self.boxes.take(slot);
     }
 
     /// Copies all boxes where that pays, if any has changed since it was done last.

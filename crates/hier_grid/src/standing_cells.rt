@@ -34,8 +34,8 @@ fn settle_cell(boxes: &SlotBoxes, slot: u32, floor: u8, cells: &mut CellTable)
     }
 }
 
-// Gives a slot a key, in place of the one that it has.
-fn set_key(cells: &mut CellTable, slot: u32, key: CellKey)
+/// Gives a slot a key, in place of the one that it has.
+pub(crate) fn set_key(cells: &mut CellTable, slot: u32, key: CellKey)
     requires small { slot < SLOTS }
     requires level { key.level < LEVELS }
     ensures { cells.new ≡ map.insert cells.old slot key }
@@ -47,8 +47,8 @@ fn set_key(cells: &mut CellTable, slot: u32, key: CellKey)
     }
 }
 
-// Takes a slot's key away, if it has one.
-fn drop_key(cells: &mut CellTable, slot: u32)
+/// Takes a slot's key away, if it has one.
+pub(crate) fn drop_key(cells: &mut CellTable, slot: u32)
     ensures { cells.new ≡ map.remove cells.old slot }
 {
     match cells.key_of(slot) {

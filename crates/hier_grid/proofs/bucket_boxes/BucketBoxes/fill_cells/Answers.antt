@@ -18,8 +18,8 @@ list_boxes-requires c k d l =
     ∙ sym (same_standing c.args.kept.now c.args.self.now.floor cells (get_or slots k 0) c.requires.standing)
     ∙ c.in_ok-fill.ensures.ok.present k within
 
-pub returns : goal.returns
-returns c = record {
+pub returns-clause-filled : goal.returns-clause-filled
+returns-clause-filled c = record {
   cells = c.args.cells.now;
   low = c.requires.low;
   keyed = c.requires.standing;

@@ -4,4 +4,4 @@ use Rattle.hier_grid.specs.Buckets.{HasBuckets}
 use Rattle.hier_grid.proofs.pair_search.PairSearch.new.Goals as goal
 
 pub new-requires-clause-filled : goal.new-requires-clause-filled
-new-requires-clause-filled c = subst (HasBuckets c.args.kept.now) (sym c.in-Some.ensures.same) (c.requires (sym c.in-Some.ensures.fresh))
+new-requires-clause-filled c = subst (HasBuckets c.args.kept.now) (sym c.in-Some.ensures.same) (c.requires.listed (sym c.in-Some.ensures.fresh))
