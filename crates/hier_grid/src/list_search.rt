@@ -49,8 +49,8 @@ impl ListSearch<'_> {
     }
 
     /// Finds the pairs of all boxes, each from the box whose cell comes first as they stand here, and answers how many boxes
-    /// were compared. They are searched in the order of their buckets, so that a search reads much of what the one before it
-    /// read.
+    /// were compared. Two boxes of a level that is scanned, or of cells that share a bucket, may both find their pair. They
+    /// are searched in the order of their buckets, so that a search reads much of what the one before it read.
     pub(crate) fn find_all(&self, found: &mut Findings) -> Result<u64, NoMemory>
         ensures { OnOk result (FindsAll self.now.bodies found.new.pairs.items) }
     {

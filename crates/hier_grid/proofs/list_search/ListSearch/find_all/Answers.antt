@@ -40,7 +40,8 @@ boxes-preserved c =
     let more = take (length rest - 1) (drop 1 rest) in
     let new = c.find_standing.new.found.pairs.items in
     let IsThere : SlotBox → Type 0 = λ e. get bodies e.slot ≡ Some e.body in
-    let here : get bodies own.slot ≡ Some own.body = subst IsThere (sym c.own-item.is) (c.boxes.invariant.right 0 own (omega (arith, c.in-len1-up.len_at_least))) in
+    let here : get bodies own.slot ≡ Some own.body =
+    subst IsThere (sym c.own-item.is) (c.boxes.invariant.right 0 own (omega (arith, c.in-len1-up.len_at_least))) in
     let search_of = c.in_ok-find_standing.ensures in
     let done : FindsFor cell bodies own.slot new = λ body mine. subst (λ b. FindsFrom cell bodies own.slot b new) (some_is (sym here ∙ mine))
     (λ q b e m other due. search_of.found q b e due m other refl) in

@@ -41,5 +41,7 @@ returns c =
     record {
       sound = all.sound;
       more = all.more;
-      found = λ q b e at m other any. all.found q b e (at, (let above = c.self.invariant.1.above q b (ap (λ (v : Standing). get v.bodies q) c.self.view_is ∙ e) in omega (arith, c.levels-test.false, above))) m other any;
+      found = λ q b e at m other any.
+          let above = c.self.invariant.1.above q b (ap (λ (v : Standing). get v.bodies q) c.self.view_is ∙ e) in
+          all.found q b e (at, omega (arith, c.levels-test.false, above)) m other any;
     }
