@@ -403,7 +403,7 @@ fn written_with_faults<R: Threads + Sync + Abort>(
 ) -> Result<(), Fail> {
     for structure in ["sap", "tree"] {
         let list = list_of(alloc, &["play", "--with", structure, "--workers", "4"])?;
-        let done = faulty_for(rt, alloc, &list, scene, failing, report, status);
+        let done = faulty_for(rt, alloc, &list, scene, failing, (report, status));
         drop(list);
         done?;
     }
@@ -416,12 +416,12 @@ fn faulty_for<R: Threads + Sync + Abort>(
     words: &[String],
     scene: &[u8],
     failing: (&[u32], &[u32]),
-    report: &[u8],
-    status: Status,
+    wanted: (&[u8], Status),
 ) -> Result<(), Fail> {
     let mut source = MemSource::new(alloc, scene, 1, failing.0)?;
     let mut sink = MemSink::new(alloc, 1, failing.1)?;
     let answer = broadplay(rt, alloc, words, &mut source, &mut sink);
+    let (report, status) = wanted;
     same_bytes(rt, sink.bytes(), report);
     same_status(rt, answer, status);
     Ok(())
