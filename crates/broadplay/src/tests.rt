@@ -1,3 +1,5 @@
+//! Tests of the whole program in memory: its reports, statuses and faults.
+
 ghost use Rattle.std.specs.Prelude.{◌≡◌, ◌≤◌};
 ghost use Rattle.broad_index.specs.Fresh.{IsFresh};
 ghost use Rattle.scene_lines.specs.declared.TheConstants.{MOST_LINES};

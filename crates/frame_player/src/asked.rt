@@ -1,3 +1,5 @@
+//! A query that may wait for its answer, and what it asks the index.
+
 ghost use Rattle.std.specs.Prelude.{◌≡◌, ◌++◌, OnOk, OnErr};
 ghost use Rattle.broad_index.specs.Found.{found};
 ghost use Rattle.live_table.specs.Bodies.{bodies_of};

@@ -1,3 +1,5 @@
+//! The status with which a run over the lines of a scene ends.
+
 ghost use Rattle.std.specs.Prelude.{◌≡◌, ◌≢◌};
 ghost use Rattle.play_rules.specs.declared.status.Status.TheVariants.{Usage};
 ghost use Rattle.frame_player.specs.Ending.{after_fault, ended};

@@ -1,3 +1,5 @@
+//! The text of a frame: its line and those of its events.
+
 ghost use Rattle.std.specs.Prelude.{◌++◌, flat_map};
 ghost use Rattle.pair_report.specs.PairReport.{frame_line, told_line};
 ghost use Rattle.frame_player.specs.FrameText.{shown_number};

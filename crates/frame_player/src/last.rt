@@ -1,3 +1,5 @@
+//! The last line of a report.
+
 ghost use Rattle.std.specs.Prelude.{◌≡◌, ◌++◌, OnOk, OnErr};
 ghost use Rattle.frame_player.specs.Ending.{last_line, status_of};
 

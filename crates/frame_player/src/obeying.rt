@@ -1,3 +1,5 @@
+//! One line obeyed: a query waits, and any other line comes after the answers that are owed.
+
 ghost use Rattle.std.specs.Prelude.{◌≡◌, ◌++◌, Bool, false, Ok, OnOk, OnErr};
 ghost use Rattle.live_queries.specs.Queries.{nearest_to};
 ghost use Rattle.pair_report.specs.PairReport.{near_line};

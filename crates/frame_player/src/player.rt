@@ -1,3 +1,5 @@
+//! The player's world, and what each command makes of it.
+
 ghost use Rattle.std.specs.Prelude.{◌≡◌, ◌≢◌, ◌++◌, ◌<◌, Bool, false, Some, length, Ok, OnOk, OnErr, IfOk};
 ghost use Rattle.fixed_box.specs.declared.TheConstants.{SLOTS};
 ghost use Rattle.live_table.specs.Table.{IsTable};

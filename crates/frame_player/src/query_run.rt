@@ -1,3 +1,5 @@
+//! A run of queries that are answered together, by several threads where it pays.
+
 ghost use Rattle.std.specs.Prelude.{◌≡◌, ◌≤◌, ◌++◌, ◌∷◌, [], false, length, map, OnOk};
 ghost use Rattle.broad_index.specs.Found.{found};
 ghost use Rattle.live_table.specs.Bodies.{bodies_of};

@@ -1,3 +1,5 @@
+//! A report on its way: the text that isn't written yet, and the sink.
+
 ghost use Rattle.std.specs.Prelude.{◌≡◌, [], length, OnOk, option_map};
 ghost use Rattle.frame_player.specs.Outlet.{IsSentBy};
 

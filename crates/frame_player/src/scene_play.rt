@@ -1,3 +1,5 @@
+//! The play of a scene over any broad phase, from a source to a sink.
+
 ghost use Rattle.std.specs.Prelude.{◌≡◌, ◌≢◌, ◌-◌, ◌^◌, ◌<◌, ◌≤◌, ◌++◌, [], true, false, length};
 ghost use Rattle.std.specs.Prelude.{IfOk, IfErr, OnOk, OnErr, IfSome, option_map};
 ghost use Rattle.broad_index.specs.Fresh.{IsFresh};

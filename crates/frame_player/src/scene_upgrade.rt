@@ -1,3 +1,5 @@
+//! A scene written as one of version 2, line by line.
+
 ghost use Rattle.std.specs.Prelude.{◌≡◌, ◌≢◌, ◌++◌, ◌-◌, ◌^◌, ◌<◌, ◌≤◌, [], Bool, Option, true, IfOk, IfErr, IfSome, OnErr};
 ghost use Rattle.scene_lines.specs.SceneLines.{lines};
 ghost use Rattle.scene_words.specs.Printed.{line_of};

@@ -1,3 +1,5 @@
+//! What a play is handed: threads, gate, options and limits.
+
 ghost use Rattle.std.specs.Prelude.{◌≤◌};
 ghost use Rattle.scene_lines.specs.declared.TheConstants.{MOST_LINES};
 ghost use Rattle.work_pieces.specs.declared.TheConstants.{MOST_WORKERS};

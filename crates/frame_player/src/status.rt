@@ -1,3 +1,5 @@
+//! The options and the limits of a play.
+
 /// How a scene is played.
 #[derive(Clone, Copy, Debug, PartialEq, Eq)]
 pub struct Options {

@@ -1,3 +1,5 @@
+//! A whole text written to a sink in as many writes as it takes.
+
 ghost use Rattle.std.specs.Prelude.{◌≡◌, [], length, OnOk, option_map};
 ghost use Rattle.frame_player.specs.Outlet.{outlet, IsSent};
 

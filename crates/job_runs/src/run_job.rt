@@ -1,3 +1,5 @@
+//! The top call: a job is run over the structure that it names, from a source to a sink.
+
 ghost use Rattle.std.specs.Prelude.{◌≡◌, ◌≢◌, ◌↔◌, ◌-◌, ◌^◌, ◌<◌, ◌≤◌, true, map, string_bytes, None};
 ghost use Rattle.play_rules.specs.declared.status.Status.TheVariants.{Usage};
 ghost use Rattle.play_rules.specs.Outcome.{ends};

@@ -1,3 +1,5 @@
+//! The command line read as a job, or as none.
+
 ghost use Rattle.std.specs.Prelude.{◌≡◌, ◌≤◌, true, map, string_bytes, IfSome};
 ghost use Rattle.work_pieces.specs.declared.TheConstants.{MOST_WORKERS};
 ghost use Rattle.job_words.specs.JobWords.{job, drill_job, drill_of, upgrade_job, with_options, job_of, IsLoad};

@@ -1,3 +1,5 @@
+//! Rays, casts and nearest boxes worked out by hand, in the order in which they are told.
+
 ghost use Rattle.std.specs.Prelude.{◌≡◌, pos, negsuc, [], ◌∷◌, ◌++◌, take, drop};
 ghost use Rattle.broad_index.specs.declared.query.Query.TheVariants.{Along};
 ghost use Rattle.live_table.specs.Example.{under};

@@ -1,3 +1,5 @@
+//! Slots that a search found, made into the handles of their live boxes.
+
 ghost use Rattle.std.specs.Prelude.{◌≡◌, ◌++◌, ℕ, take, vec_len, OnOk, OnErr};
 ghost use Rattle.std.specs.List.{filter_map};
 ghost use Rattle.live_queries.specs.Beside.{handle_at};

@@ -1,3 +1,5 @@
+//! A slot that is met on a way, ordered by the place where that is so first.
+
 use ray_slabs::Entry;
 
 // The slot of a box that is met on the way, by where that is so first. Of two at one place the lower slot comes first.

@@ -1,3 +1,5 @@
+//! The live boxes that meet a query and are in one of the groups asked for, in order of slots.
+
 ghost use Rattle.std.specs.Prelude.{◌≡◌, ◌++◌, take, vec_len, OnOk, OnErr};
 ghost use Rattle.std.specs.List.{filter_map};
 ghost use Rattle.live_table.specs.Bodies.{bodies_of};

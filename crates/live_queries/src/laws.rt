@@ -1,3 +1,5 @@
+//! What is known of the pairs and of the ordered queries of a table, for proofs.
+
 ghost use Rattle.std.specs.Prelude.{◌≡◌, ◌↔◌, ◌*◌, ◌≤◌, ℕ, true, ◌&&◌, List, Option, map, filter, length};
 ghost use Rattle.std.specs.List.{Contains};
 ghost use Rattle.std.specs.List.Sorted.{IsPermutation, IsSorted};

@@ -1,3 +1,5 @@
+//! The live boxes nearest to a point, among those of some groups.
+
 ghost use Rattle.std.specs.Prelude.{◌≡◌, ◌≤◌, ◌++◌, false, OnOk, OnErr};
 ghost use Rattle.std.specs.FinMap.{get};
 ghost use Rattle.fixed_box.specs.declared.TheConstants.{SLOTS};

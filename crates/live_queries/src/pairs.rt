@@ -1,3 +1,5 @@
+//! The pairs of live boxes that meet and may pair: the filter behind the broad phase.
+
 ghost use Rattle.std.specs.Prelude.{◌≡◌, ◌++◌, take, vec_len, OnOk, OnErr};
 ghost use Rattle.std.specs.List.{filter_map};
 ghost use Rattle.live_table.specs.Bodies.{bodies_of};

@@ -1,3 +1,5 @@
+//! What goes a way on which it meets boxes: a ray or a cast, and the place where it meets one.
+
 ghost use Rattle.std.specs.Prelude.{Option};
 ghost use Rattle.fixed_box.specs.Bounds.{Bounds};
 ghost use Rattle.ray_slabs.specs.Crossing.{Fraction};

@@ -1,3 +1,5 @@
+//! The text of a made scene: the load of the drill.
+
 ghost use Rattle.std.specs.Prelude.{◌≡◌, ◌≤◌, ◌++◌, take, vec_len, OnOk, OnErr};
 ghost use Rattle.fixed_box.specs.declared.TheConstants.{SLOTS};
 ghost use Rattle.made_scene.specs.declared.TheConstants.{MOST_FRAMES};

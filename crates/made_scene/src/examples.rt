@@ -1,3 +1,5 @@
+//! A made scene of one box and one frame, worked out by hand.
+
 ghost use Rattle.std.specs.Prelude.{◌≡◌, ◌++◌, codes};
 ghost use Rattle.made_scene.specs.MadeScene.{made_text};
 

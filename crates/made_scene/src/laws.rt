@@ -1,3 +1,5 @@
+//! What is known of the lines of made scenes, for proofs.
+
 ghost use Rattle.std.specs.Prelude.{true, ◌≡◌, ◌≤◌, ◌+◌, ◌*◌, ℕ, length};
 ghost use Rattle.std.specs.List.{All};
 ghost use Rattle.fixed_box.specs.declared.TheConstants.{SLOTS};

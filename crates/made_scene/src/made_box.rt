@@ -1,3 +1,5 @@
+//! A box, its masks and its steps, made from words of the random generator.
+
 ghost use Rattle.std.specs.Prelude.{◌≡◌, ◌<◌, ◌+◌, ◌*◌, ◌/◌, ◌%◌, pos, neg_ℤ, ◌+ℤ◌, ◌≤ℤ◌, IsTrue};
 ghost use Rattle.fixed_box.specs.Point.{is_at_most};
 ghost use Rattle.made_scene.specs.MadeScene.{word, later, made_bounds, made_masks, next_bounds, next_masks, past_box, step, stepped, moved};

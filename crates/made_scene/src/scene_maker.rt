@@ -1,3 +1,5 @@
+//! The maker of a scene: its boxes by slot, and the lines that add, move and replace them.
+
 ghost use Rattle.std.specs.Prelude.{Bool, ◌≡◌, ◌++◌, ◌≤◌, ◌<◌, ◌%◌, length, slice_index, take, vec_len, OnOk, OnErr};
 ghost use Rattle.fixed_box.specs.declared.TheConstants.{SLOTS};
 ghost use Rattle.made_scene.specs.declared.TheConstants.{MOST_FRAMES};

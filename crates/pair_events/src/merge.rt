@@ -1,3 +1,5 @@
+//! The difference of two rising lists of pairs, told as begin, stay and over by one merge.
+
 ghost use Rattle.std.specs.Prelude.{◌≡◌, ◌≤◌, ◌++◌, [], ◌∷◌, List, true, length, take, vec_len, IfOk, OnOk, OnErr};
 ghost use Rattle.pair_events.specs.declared.hpair.HPair.{HPair};
 ghost use Rattle.pair_events.specs.PairEvents.{same_pair, kept_or_begun, ended, events, precedes, rises, begins_at};

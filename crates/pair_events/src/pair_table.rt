@@ -1,3 +1,5 @@
+//! The pair cache of a frame: the pairs of the last frame, and the turn to those of the next.
+
 ghost use Rattle.std.specs.Prelude.{◌≡◌, ◌++◌, [], true, IfOk, OnOk, OnErr};
 ghost use Rattle.pair_events.specs.PairEvents.{events, is_in_order};
 

@@ -1,3 +1,5 @@
+//! What becomes of a pair from one frame to the next: begin, stay or over.
+
 use crate::HPair;
 
 /// What became of a pair since the last frame.

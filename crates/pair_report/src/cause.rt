@@ -1,3 +1,5 @@
+//! The causes for which a line of a scene is refused.
+
 /// Why a line of a scene is refused.
 #[derive(Clone, Copy, Debug, PartialEq, Eq)]
 pub enum Cause {

@@ -1,3 +1,5 @@
+//! The text of a handle, in bytes of fixed size.
+
 ghost use Rattle.std.specs.Prelude.{◌≡◌, ◌≤◌, take, length, IfSome};
 ghost use Rattle.pair_report.specs.PairReport.{handle_text};
 

@@ -1,3 +1,5 @@
+//! A cache of the texts of handles by slot, since a handle is told again and again.
+
 ghost use Rattle.std.specs.Prelude.{◌≡◌, ◌++◌, OnOk, OnErr, IfSome};
 ghost use Rattle.pair_report.specs.PairReport.{told_line};
 

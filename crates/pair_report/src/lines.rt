@@ -1,3 +1,5 @@
+//! The lines of a report that tell one thing: a box, a frame, an event, a mark, the end.
+
 ghost use Rattle.std.specs.Prelude.{◌≡◌, ◌+◌, ◌≤◌, ◌++◌, length, codes, decimal, OnOk, OnErr};
 ghost use Rattle.pair_report.specs.PairReport.{handle_text, add_line, stale_line, frame_line, event_text, told_line, exchanges_line};
 ghost use Rattle.pair_report.specs.PairReport.{mark_line, back_line, nomark_line, end_line, cause_text, refused_line};

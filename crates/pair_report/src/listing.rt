@@ -1,3 +1,5 @@
+//! The lines of a report that list boxes: what a query, a cast or the nearest found.
+
 ghost use Rattle.std.specs.Prelude.{◌≡◌, ◌≤◌, ◌++◌, length, take, vec_len, codes, decimal, OnOk, OnErr};
 ghost use Rattle.pair_report.specs.PairReport.{handle_text, handles_text, listing_text, kind_text};
 ghost use Rattle.pair_report.specs.PairReport.{hits_line, cast_line, near_line};

@@ -1,3 +1,5 @@
+//! The line of an event in copies of known length, which most lines of a report are.
+
 ghost use Rattle.std.specs.Prelude.{◌≡◌, ◌+◌, ◌≤◌, ◌++◌, ◌∷◌, [], length, take, vec_len, OnOk, OnErr, codes};
 ghost use Rattle.pair_report.specs.PairReport.{handle_text, event_text};
 

@@ -1,3 +1,5 @@
+//! Tests of the text of each line, and of the cache of the texts of handles.
+
 use super::*;
 use broad_index::QKind;
 use live_table::Handle;

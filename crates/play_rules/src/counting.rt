@@ -1,3 +1,5 @@
+//! How large the numbers of a world can be after so many lines, for proofs.
+
 ghost use Rattle.std.specs.Prelude.{◌≡◌, ◌≢◌, ℕ, ◌+◌, ◌<◌, ◌^◌, Bool, true, List, Option, Some};
 ghost use Rattle.box_world.specs.Answers.{add_refusal, shift_refusal, frame_refusal};
 ghost use Rattle.box_world.specs.World.{World as Boxes, beginning};

@@ -1,3 +1,5 @@
+//! That a scene of printed commands is played to its end, for proofs.
+
 ghost use Rattle.std.specs.Prelude.{◌≡◌, ℕ, ◌≤◌, Bool, true, is_some, List, length};
 ghost use Rattle.std.specs.List.{All};
 ghost use Rattle.scene_lines.specs.SceneLines.{lines};

@@ -1,3 +1,5 @@
+//! That the replies to a part of a scene begin its report, for proofs.
+
 ghost use Rattle.std.specs.Prelude.{ℕ, Bool, List, true, false};
 ghost use Rattle.scene_lines.specs.SceneLines.{lines, IsPrefix};
 ghost use Rattle.play_rules.specs.Play.{played, report};

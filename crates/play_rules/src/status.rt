@@ -1,3 +1,5 @@
+//! How a play or an upgrade may end.
+
 use pair_report::Cause;
 
 /// How a play ended, or the upgrade of a scene.

@@ -1,3 +1,5 @@
+//! That a scene which is upgraded has the same report, for proofs, with rows worked out by hand.
+
 ghost use Rattle.std.specs.Prelude.{◌≡◌, ℕ, Bool, List, [], true, codes};
 ghost use Rattle.pair_report.specs.declared.cause.Cause.TheVariants as cause;
 ghost use Rattle.scene_lines.specs.SceneLines.{lines};

@@ -1,3 +1,5 @@
+//! Scenes of version 2 and their reports, worked out by hand.
+
 ghost use Rattle.std.specs.Prelude.{◌≡◌, true, false, codes};
 ghost use Rattle.scene_lines.specs.SceneLines.{lines};
 ghost use Rattle.play_rules.specs.Play.{report};

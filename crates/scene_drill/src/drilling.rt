@@ -1,3 +1,5 @@
+//! The drill: a scene is made, played and summed up.
+
 ghost use Rattle.std.specs.Prelude.{◌≡◌, ◌-◌, ◌^◌, ◌<◌, ◌≤◌, true, IfOk};
 ghost use Rattle.broad_index.specs.Fresh.{IsFresh};
 ghost use Rattle.fixed_box.specs.declared.TheConstants.{SLOTS};

@@ -1,3 +1,5 @@
+//! What a drill is made of: seed, boxes, frames, and how it is played.
+
 use frame_player::Options;
 
 /// The load of a drill: a made scene of so many boxes and frames.

@@ -1,3 +1,5 @@
+//! A decimal word read as a number.
+
 ghost use Rattle.std.specs.Prelude.{◌≡◌, ◌<◌, ◌^◌};
 ghost use Rattle.scene_drill.specs.Summary.{number};
 

@@ -1,3 +1,5 @@
+//! Lines and words cut off the front of a report.
+
 ghost use Rattle.std.specs.Prelude.{◌≡◌, ◌+◌, [], ◌∷◌, length, IfSome, MatchOption};
 ghost use Rattle.memchr.specs.Find.{is_byte};
 ghost use Rattle.std.specs.List.{slice_split, before_first, after_first};

@@ -1,3 +1,5 @@
+//! The summary of a report, one number a line.
+
 ghost use Rattle.std.specs.Prelude.{◌≡◌, ◌++◌, take, vec_len, OnOk, OnErr};
 ghost use Rattle.scene_drill.specs.Summary.{row, summary};
 ghost use Rattle.scene_drill.specs.Tally.{rows, tally_text};

@@ -1,3 +1,5 @@
+//! The counts of a report, line by line.
+
 ghost use Rattle.std.specs.Prelude.{◌≡◌, ◌^◌, ◌∷◌, []};
 ghost use Rattle.scene_drill.specs.Summary.{lines, is_answer_word};
 ghost use Rattle.scene_drill.specs.Tally.{IsWithin, plus, tally_of};

@@ -1,3 +1,5 @@
+//! Lines cut out of bytes, worked out by hand.
+
 ghost use Rattle.std.specs.Prelude.{◌≡◌, ◌+◌, [], ◌∷◌, ◌++◌, true, false, codes, replicate};
 ghost use Rattle.scene_lines.specs.Next.{answer_at};
 ghost use Rattle.scene_lines.specs.SceneLines.{lines};

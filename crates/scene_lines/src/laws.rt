@@ -1,3 +1,5 @@
+//! What is known of cutting bytes into lines, and the limits of a scene, for proofs.
+
 ghost use Rattle.std.specs.Prelude.{◌≡◌, ◌+◌, ◌<◌, ◌≤◌, ℕ, List, [], ◌∷◌, ◌++◌, length, take, true, false, Option};
 ghost use Rattle.std.specs.List.{count_by};
 ghost use Rattle.scene_lines.specs.declared.TheConstants.{BUFFER_LEN, LONGEST_LINE, MOST_LINES};

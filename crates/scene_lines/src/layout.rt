@@ -1,3 +1,5 @@
+//! Where the last line and the bytes behind it stand in the buffer, and how room is made.
+
 ghost use Rattle.std.specs.Prelude.{◌≡◌, ◌+◌, ◌<◌, ◌≤◌, length, slice_range};
 ghost use Rattle.scene_lines.specs.Layout.{IsLaidOut};
 ghost use Rattle.scene_lines.specs.declared.TheConstants.{LONGEST_LINE};

@@ -1,3 +1,5 @@
+//! The read buffer: the last line that was cut, and the bytes behind it.
+
 ghost use Rattle.std.specs.Prelude.{◌≡◌, ◌+◌, ◌<◌, ◌≤◌, ◌↔◌, true, false, [], length, take, drop, vec_len, IsTrue, IfOk, OnOk, OnErr, IfSome, MatchResult};
 ghost use Rattle.play_io.specs.Source.{TakesNext, IsReadOf, ReadCount, CountsFault};
 ghost use Rattle.scene_lines.specs.Reading.{coming};

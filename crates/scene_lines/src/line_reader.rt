@@ -1,3 +1,5 @@
+//! The reader of lines: it cuts them out of a source, counts them and keeps their limits.
+
 ghost use Rattle.std.specs.Prelude.{◌≡◌, ◌≢◌, ◌+◌, ◌-◌, ◌^◌, ◌<◌, ◌≤◌, ◌∷◌, [], length, true, false, IfOk, IfSome, option_map, nat_lt, if◌then◌else◌};
 ghost use Rattle.scene_lines.specs.Next.{answer_at, number_after, is_last, OnLine, OnLast, OnFault, UnlessFault};
 ghost use Rattle.scene_lines.specs.Reading.{coming, IsSound};

@@ -1,3 +1,5 @@
+//! The answers of the reader of lines.
+
 /// What a reader of lines answers.
 #[derive(Clone, Copy, Debug, PartialEq, Eq)]
 pub enum Next {

@@ -1,3 +1,5 @@
+//! Whether a command may stand where it stands, and the cause if it may not.
+
 ghost use Rattle.std.specs.Prelude.{◌≡◌, Ok, Err};
 ghost use Rattle.play_rules.specs.Readable.{allowed_in, cause_of, reads_under, unless_full};
 ghost use Rattle.scene_steps.specs.Step.{passes_unless};

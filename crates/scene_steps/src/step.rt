@@ -1,3 +1,5 @@
+//! The next step of a run over the lines of a scene: a command, or why there is none.
+
 ghost use Rattle.std.specs.Prelude.{◌≡◌, ◌+◌, ◌-◌, ◌^◌, ◌<◌, ◌≤◌, [], length, true, false, option_map, Ok, IfOk, IfSome};
 ghost use Rattle.scene_lines.specs.Reading.{coming};
 ghost use Rattle.scene_lines.specs.SceneLines.{lines, past_line};

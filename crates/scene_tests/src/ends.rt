@@ -1,3 +1,5 @@
+//! Sources and sinks over std's readers and writers, with devices that fail.
+
 use play_io::{
     Failed, FileSink, FileSource, HonestSink, HonestSource, MemSink, MemSource, Sink, SinkFault,
     Source,

@@ -1,3 +1,5 @@
+//! The reader of lines over sources that hand bytes out in pieces, or fail.
+
 ghost use Rattle.std.specs.Prelude.{◌≡◌, ◌-◌, ◌^◌, ◌<◌, false};
 
 use play_io::{FileSource, HonestSource, MemSource, Source};

@@ -1,3 +1,5 @@
+//! Made scenes against the reference of the generator.
+
 use made_scene::drill_scene;
 use rand_core::utils::NextWord;
 use rand_pcg::Lcg64Xsh32;

@@ -1,3 +1,5 @@
+//! Plays whose index runs out of memory in each of its calls in turn.
+
 ghost use Rattle.std.specs.Prelude.{◌≤◌};
 ghost use Rattle.work_pieces.specs.declared.TheConstants.{MOST_WORKERS};
 

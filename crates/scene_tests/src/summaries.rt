@@ -1,3 +1,5 @@
+//! Summaries of reports.
+
 use scene_drill::put_summary;
 use std::test::Fail;
 

@@ -1,3 +1,5 @@
+//! Lines read as commands, as one table, and printed again.
+
 use fixed_box::{FBox, Fix, Point};
 use live_table::{Group, Handle, Masks};
 use ray_slabs::{Ray, Seg, WPoint};

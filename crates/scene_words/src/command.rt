@@ -1,3 +1,5 @@
+//! The commands of a scene, as values.
+
 use crate::Version;
 use box_cast::Cast;
 use fixed_box::{FBox, Point};

@@ -1,3 +1,5 @@
+//! The fast path of the parser: the lines of a play, read in one pass without cutting words first.
+
 ghost use Rattle.std.specs.Prelude.{◌≡◌, ◌≤◌, true, length, Ok, Some, IfSome};
 ghost use Rattle.std.specs.List.{prefix_len};
 ghost use Rattle.scene_words.specs.declared.command.Command.TheVariants.{Add, Move};

@@ -1,3 +1,5 @@
+//! The fields of the fast path: numbers, points, boxes, masks and handles off the front of a line.
+
 ghost use Rattle.std.specs.Prelude.{◌≡◌, ◌+◌, ◌≤◌, ◌<◌, ◌^◌, [], true, length, take, drop, Ok, Some, IfSome};
 ghost use Rattle.std.specs.Char.{is_digit};
 ghost use Rattle.std.specs.List.{prefix_len, list_all};

@@ -1,3 +1,5 @@
+//! A command printed as a line that reads back as it.
+
 ghost use Rattle.std.specs.Prelude.{◌≡◌, ℕ, List, ◌+◌, ◌^◌, ◌<◌, ◌≤◌, ◌++◌, ◌∷◌, [], length, true, decimal, Ok, OnOk, OnErr};
 ghost use Rattle.std.specs.List.{All, join_with_byte};
 ghost use Rattle.fixed_box.specs.Fix.{show};

@@ -1,3 +1,5 @@
+//! The words that may end a line of version 2: owner, fixed and entry.
+
 ghost use Rattle.std.specs.Prelude.{◌≡◌, ◌≤◌, None, length, take, reverse, option_map};
 ghost use Rattle.scene_words.specs.declared.verb.Verb.TheVariants as verb;
 ghost use Rattle.scene_words.specs.SceneWords.{words};

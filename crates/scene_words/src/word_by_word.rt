@@ -1,3 +1,5 @@
+//! The whole parser: a line read word by word, with the first fault of one that is no command.
+
 ghost use Rattle.std.specs.Prelude.{◌≡◌, ◌≤◌, length, take, IfOk, option_map};
 ghost use Rattle.scene_words.specs.declared.verb.Verb.TheVariants as verb;
 ghost use Rattle.scene_words.specs.Tails.{tail_of};

@@ -1,3 +1,5 @@
+//! Tests of the drill: its summaries, by structure and by number of workers.
+
 ghost use Rattle.std.specs.Prelude.{◌<◌, ◌≤◌};
 ghost use Rattle.work_pieces.specs.declared.TheConstants.{MOST_WORKERS};
 

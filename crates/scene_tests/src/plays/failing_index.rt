@@ -1,3 +1,5 @@
+//! A plain index that runs out of memory in one of its calls.
+
 ghost use Rattle.std.specs.Prelude.{◌≡◌, ◌||◌, false, IfOk, refl};
 ghost use Rattle.broad_index.specs.Fresh.{IsFresh};
 
