@@ -56,11 +56,6 @@ module _ {X : Type 0} (cmp : X → X → Ordering) (o : IsTotalOrder cmp) where
       All-cons (λ y. is_lt (cmp y (get_or front k d)) ≡ false) x back (split.0 k d l)
       (λ j e m. chain cmp o (get_or front k d) x (get_or back j e) (split.0 k d l) (split.1 j e m))
 
-  -- A member that a list is split around: what stands before it, put in order, is the front of all in order,
-  pub split_before : (front : List X) (x : X) (back : List X) → IsSplitAround cmp front x back
-      → take (length front) (ordered_by cmp (front ++ x ∷ back)) ≡ ordered_by cmp front
-  split_before front x back split = front_ordered front (x ∷ back) (split_each front x back split)
-
   split_all : (front : List X) (x : X) (back : List X) → IsSplitAround cmp front x back
       → All (λ y. All (λ z. is_lt (cmp z y) ≡ false) back) (front ++ x ∷ [])
   split_all front x back split =
@@ -68,7 +63,7 @@ module _ {X : Type 0} (cmp : X → X → Ordering) (o : IsTotalOrder cmp) where
       (λ k d l j e m. chain cmp o (get_or front k d) x (get_or back j e) (split.0 k d l) (split.1 j e m))
       (λ j e m. split.1 j e m)
 
-  -- and so with it.
+  -- A member that a list is split around: what stands before it and it, put in order, are the front of all in order.
   pub split_ordered : (front : List X) (x : X) (back : List X) → IsSplitAround cmp front x back
       → take (length front + 1) (ordered_by cmp (front ++ x ∷ back)) ≡ ordered_by cmp (front ++ x ∷ [])
   split_ordered front x back split =

@@ -1,13 +1,12 @@
 -- Serves proofs alone: the least of some members under a total order.
 use Rattle.std.proofs.Common.{◌≡◌, refl, sym, ap, subst, ◌∙◌, Bool, true, false, cond, ◌||◌, List, [], ◌∷◌, inl, inr}
-use Rattle.std.specs.List.{fold, list_any, All, AllByRecursion, Contains}
+use Rattle.std.specs.List.{fold, list_any, AllByRecursion}
 use Rattle.std.specs.declared.cmp.Ordering.{Ordering}
 use Rattle.std.specs.declared.cmp.Ordering.TheVariants.{Less, Equal, Greater}
 use Rattle.std.specs.Ordering.{is_lt, is_gt, ordering_reverse, ord_min}
 use Rattle.std.specs.Cmp.{IsTotalOrder}
 use Rattle.std.proofs.lemmas.Bool.{cases_Bool}
 use Rattle.std.proofs.lemmas.Cmp.{upto, tied_itself}
-use Rattle.std.proofs.lemmas.List.Elements.{All-from_recursion, recursion_from_All, All-contains_itself}
 
 -- neither of two tests passes
 both_fail : (x y : Bool) → x ≡ false → y ≡ false → (x || y) ≡ false
@@ -69,19 +68,3 @@ one_of cmp P a (x ∷ xs) h all = one_of cmp P (ord_min cmp a x) xs (either (is_
     either : (b : Bool) → P (cond b x a)
     either true = all.0
     either false = h
-
--- the same in words for members
-none_passes : {X : Type 0} (p : X → Bool) (xs : List X) → list_any p xs ≡ false → AllByRecursion (λ x. p x ≡ false) xs
-none_passes p [] e = tt
-none_passes p (x ∷ xs) e = (first_fails (p x) (list_any p xs) e, none_passes p xs (last_fails (p x) (list_any p xs) e))
-
-pub least_below : {X : Type 0} (cmp : X → X → Ordering) → IsTotalOrder cmp → (x : X) (xs : List X)
-    → All (λ y. is_gt (cmp (fold (ord_min cmp) x xs) y) ≡ false) (x ∷ xs)
-least_below cmp o x xs =
-    All-from_recursion (λ y. is_gt (cmp (fold (ord_min cmp) x xs) y) ≡ false) (x ∷ xs)
-    (none_passes (λ y. is_gt (cmp (fold (ord_min cmp) x xs) y)) (x ∷ xs) (none_below cmp o x xs))
-
-pub least_member : {X : Type 0} (cmp : X → X → Ordering) (x : X) (xs : List X) → Contains (x ∷ xs) (fold (ord_min cmp) x xs)
-least_member cmp x xs =
-    let all : AllByRecursion (Contains (x ∷ xs)) (x ∷ xs) = recursion_from_All (Contains (x ∷ xs)) (x ∷ xs) (All-contains_itself (x ∷ xs)) in
-    one_of cmp (Contains (x ∷ xs)) x xs all.0 all.1

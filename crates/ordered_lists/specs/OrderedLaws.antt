@@ -1,16 +1,15 @@
 -- Serves proofs alone: what holds of a list put in order, whatever its members and whichever the order.
-use Rattle.std.proofs.Common.{◌≡◌, refl, sym, ap, subst, ◌∙◌, Bool, true, false, cond, List, [], ◌∷◌, map, filter, length, inl, inr}
+use Rattle.std.proofs.Common.{◌≡◌, refl, sym, ap, subst, ◌∙◌, Bool, true, false, cond, List, [], ◌∷◌, filter, length, inl, inr}
 use Rattle.std.specs.List.{AllByRecursion, Contains}
 use Rattle.std.specs.List.Sorted.{IsPermutation}
 use Rattle.std.specs.declared.cmp.Ordering.{Ordering}
 use Rattle.std.specs.declared.cmp.Ordering.TheVariants.{Equal}
-use Rattle.std.specs.Ordering.{is_lt, is_eq, on}
+use Rattle.std.specs.Ordering.{is_lt, is_eq}
 use Rattle.std.specs.Cmp.{IsTotalOrder}
 use Rattle.std.proofs.lemmas.Bool.{cases_Bool}
 use Rattle.std.proofs.lemmas.List.Sorted.{IsPermutation-refl, IsPermutation-cons, IsPermutation-trans, IsPermutation-middle, IsPermutation-sym}
 use Rattle.std.proofs.lemmas.List.Sorted.{length_permutation}
 use Rattle.std.proofs.lemmas.List.Sorted.{Contains-permutation}
-use Rattle.std.proofs.lemmas.List.Elements.{recursion_from_All, All-contains_itself}
 use Rattle.ordered_lists.specs.Ordered.{placed, ordered_by}
 use Rattle.ordered_lists.specs.Ascending.{Ascends, filtered_ascends, one_order, chain, not_back, equal_is, kept, left_out}
 
@@ -138,23 +137,3 @@ module _ {X : Type 0} (c d : X → X → Ordering) (P : X → Type 0) (agree : (
   pub ordered_alike : (xs : List X) → AllByRecursion P xs → ordered_by c xs ≡ ordered_by d xs
   ordered_alike [] all = refl
   ordered_alike (x ∷ xs) all = placed_alike x (ordered_by c xs) all.0 (ordered_all c P xs all.1) ∙ ap (placed d x) (ordered_alike xs all.1)
-
-placed_map : {X Y : Type 0} (cmp : Y → Y → Ordering) (f : X → Y) (x : X) (ys : List X) → map f (placed (on f cmp) x ys) ≡ placed cmp (f x) (map f ys)
-placed_map cmp f x [] = refl
-placed_map cmp f x (y ∷ ys) =
-    elim (is_lt (cmp (f y) (f x))) as (λ t. map f (cond t (y ∷ placed (on f cmp) x ys) (x ∷ y ∷ ys))
-    ≡ cond t (f y ∷ placed cmp (f x) (map f ys)) (f x ∷ f y ∷ map f ys)) [
-      | true ↦ ap (λ l. f y ∷ l) (placed_map cmp f x ys)
-      | false ↦ refl
-    ]
-
--- The images of a list put in order by them are its images put in order.
-pub ordered_map : {X Y : Type 0} (cmp : Y → Y → Ordering) (f : X → Y) (xs : List X) → map f (ordered_by (on f cmp) xs) ≡ ordered_by cmp (map f xs)
-ordered_map cmp f [] = refl
-ordered_map cmp f (x ∷ xs) = placed_map cmp f x (ordered_by (on f cmp) xs) ∙ ap (placed cmp (f x)) (ordered_map cmp f xs)
-
--- The same for each order that stands among a list's members as another among their images.
-pub ordered_images : {X Y : Type 0} (c : X → X → Ordering) (d : Y → Y → Ordering) (f : X → Y) (xs : List X)
-    → ((x y : X) → Contains xs x → Contains xs y → c x y ≡ d (f x) (f y)) → map f (ordered_by c xs) ≡ ordered_by d (map f xs)
-ordered_images c d f xs agree =
-    ap (map f) (ordered_alike c (on f d) (Contains xs) agree xs (recursion_from_All (Contains xs) xs (All-contains_itself xs))) ∙ ordered_map d f xs

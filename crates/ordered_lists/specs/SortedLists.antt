@@ -1,5 +1,5 @@
 -- Serves proofs alone: what std's sorts give is the list put in order, in std's words for a sorted list, and back.
-use Rattle.std.proofs.Common.{◌≡◌, ℕ, zero, suc, ◌+◌, ◌<◌, ◌≤◌, refl, sym, ap, subst, ◌∙◌, Bool, true, false, cond, not, ◌&&◌, List, [], ◌∷◌, map}
+use Rattle.std.proofs.Common.{◌≡◌, ℕ, zero, suc, ◌+◌, ◌<◌, ◌≤◌, refl, sym, ap, subst, ◌∙◌, Bool, true, false, cond, not, ◌&&◌, List, [], ◌∷◌}
 use Rattle.std.proofs.Common.{filter, length, take, get_or, arith, add-one, inl, inr}
 use Rattle.std.specs.List.{All, AllByRecursion, Contains}
 use Rattle.std.specs.List.Sorted.{IsPermutation, IsSorted, IsStable, ties}
@@ -8,7 +8,7 @@ use Rattle.std.specs.declared.cmp.Ordering.TheVariants.{Less, Equal, Greater}
 use Rattle.std.specs.Ordering.{is_lt, is_gt, is_eq}
 use Rattle.std.specs.Cmp.{IsTotalOrder}
 use Rattle.std.proofs.lemmas.Bool.{cases_Bool}
-use Rattle.std.proofs.lemmas.List.Sorted.{sorted_far, ranks_by, All-permutation, IsPermutation-map, IsPermutation-trans, sum_by-IsPermutation}
+use Rattle.std.proofs.lemmas.List.Sorted.{sorted_far, ranks_by, All-permutation, IsPermutation-trans, sum_by-IsPermutation}
 use Rattle.std.proofs.lemmas.List.Elements.{recursion_from_All, All-from_recursion, All-contains_itself}
 use Rattle.std.proofs.lemmas.List.Sums.{length-filter}
 use Rattle.ordered_lists.specs.Ordered.{ordered_by, TiesAreOne, IsFront}
@@ -100,27 +100,6 @@ module _ {X : Type 0} (cmp : X → X → Ordering) (o : IsTotalOrder cmp) where
   pub only_members : (xs ys : List X) → TiesAreOne cmp xs → IsPermutation xs ys → ordered_by cmp ys ≡ ordered_by cmp xs
   only_members xs ys exact moved =
       only_ascending xs (ordered_by cmp ys) exact (IsPermutation-trans xs ys (ordered_by cmp ys) moved (ordered_moves cmp ys)) (ordered_ascends cmp o ys)
-
--- ---- a sort by an order that stands among a list's members as another among their images
-
-module _ {X Y : Type 0} (c : X → X → Ordering) (d : Y → Y → Ordering) (f : X → Y) (P : X → Type 0) (agree : (x y : X) → P x → P y → c x y ≡ d (f x) (f y)) where
-  above_image : (x : X) (ys : List X) → P x → AllByRecursion P ys → AllByRecursion (λ y. is_lt (c y x) ≡ false) ys
-      → AllByRecursion (λ y. is_lt (d y (f x)) ≡ false) (map f ys)
-  above_image x [] h all rise = tt
-  above_image x (y ∷ ys) h all rise = (sym (ap is_lt (agree y x all.0 h)) ∙ rise.0, above_image x ys h all.1 rise.1)
-
-  images_ascend : (ys : List X) → AllByRecursion P ys → Ascends c ys → Ascends d (map f ys)
-  images_ascend [] all rise = tt
-  images_ascend (y ∷ ys) all rise = (above_image y ys all.0 all.1 rise.0, images_ascend ys all.1 rise.1)
-
--- The images of a sorted list are the images put in order, also where members that tie differ, if their images don't.
-pub sorted_images : {X Y : Type 0} (c : X → X → Ordering) (d : Y → Y → Ordering) → IsTotalOrder c → IsTotalOrder d → (f : X → Y) (xs ys : List X)
-    → ((x y : X) → Contains xs x → Contains xs y → c x y ≡ d (f x) (f y)) → TiesAreOne d (map f xs) → IsPermutation xs ys → IsSorted c ys
-    → map f ys ≡ ordered_by d (map f xs)
-sorted_images c d oc od f xs ys agree exact moved sorted =
-    only_ascending d od (map f xs) (map f ys) exact (IsPermutation-map f xs ys moved)
-    (images_ascend c d f (Contains xs) agree ys (recursion_from_All (Contains xs) ys (All-permutation (Contains xs) xs ys moved (All-contains_itself xs)))
-    (sorted_ascends c oc ys sorted))
 
 -- The first so many in a rising order are those of the list put in order where members that tie are one.
 pub front_is : {X : Type 0} (cmp : X → X → Ordering) → IsTotalOrder cmp → (want : ℕ) (xs front : List X) → IsFront cmp want xs front → TiesAreOne cmp xs

@@ -1,20 +1,9 @@
+//! The first so many members of a list in rising order, chosen before they are sorted.
 ghost use Rattle.std.specs.Prelude.{◌≡◌, ◌+◌, ◌<◌, ◌≤◌, ◌++◌, min, take, length, vec_len, vec_capacity};
 ghost use Rattle.std.specs.Prelude.{OnOk, OnErr, IsOk, List};
 ghost use Rattle.ordered_lists.specs.Ordered.{ordered_by, TiesAreOne, IsFront};
 
 use std::alloc::AllocError;
-
-/// Keeps the first `want` members in rising order, or all if there are fewer. It takes no memory, and sorts all of
-/// them: where far more than `want` are there, [`push_front_in_order`] is faster.
-pub fn keep_front_in_order<T: Ord + Drop>(items: &mut Vec<T>, want: usize)
-    ensures ordered { TiesAreOne T.cmp items.old.items → items.new.items ≡ take want (ordered_by T.cmp items.old.items) }
-    ensures front { IsFront T.cmp want items.old.items items.new.items }
-    ensures len { vec_len items.new ≡ min want (vec_len items.old) }
-    ensures capacity { vec_capacity items.new ≡ vec_capacity items.old }
-{
-    items.sort_unstable();
-    items.truncate(want);
-}
 
 /// Appends the first `want` members in rising order, or all if there are fewer. Those are chosen before they are
 /// sorted, so that it takes about `n + want log want` comparisons. Afterwards `items` is in no stated order.

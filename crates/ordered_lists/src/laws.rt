@@ -1,8 +1,9 @@
+//! What holds of a list put in order, as laws for proofs, and worked examples of it.
 ghost use Rattle.std.specs.Prelude.{◌≡◌, ℕ, ◌+◌, ◌≤◌, Bool, true, false, List, [], ◌∷◌, ◌++◌, map, filter, take, length};
-ghost use Rattle.std.specs.List.{All, Contains, fold};
+ghost use Rattle.std.specs.List.{All, Contains};
 ghost use Rattle.std.specs.List.Sorted.{IsPermutation, IsSorted, IsStable, IsSplitAround};
 ghost use Rattle.std.specs.declared.cmp.Ordering.{Ordering};
-ghost use Rattle.std.specs.Ordering.{is_lt, is_gt, on, then_cmp, nat_cmp, ord_min};
+ghost use Rattle.std.specs.Ordering.{is_lt, on, then_cmp, nat_cmp};
 ghost use Rattle.std.specs.Cmp.{IsTotalOrder};
 ghost use Rattle.ordered_lists.specs.Ordered.{ordered_by, TiesAreOne, IsFront};
 
@@ -36,24 +37,6 @@ pub fn order_laws<T>()
     ensures bounded { (cmp : T → T → Ordering) → IsTotalOrder cmp → (p : T → Bool) →
         ((x y : T) → is_lt (cmp y x) ≡ false → p y ≡ true → p x ≡ true) → (want : ℕ) (xs : List T) →
         want ≤ length (filter p xs) → take want (ordered_by cmp xs) ≡ take want (ordered_by cmp (filter p xs)) }
-{}
-
-/// Laws of a list's images put in order, for proofs, with nothing to run, for an order that stands among the list's
-/// members as another among their images.
-pub fn image_laws<T, U>()
-    ensures mapped { (c : T → T → Ordering) (d : U → U → Ordering) (f : T → U) (xs : List T) →
-        ((x y : T) → Contains xs x → Contains xs y → c x y ≡ d (f x) (f y)) →
-        map f (ordered_by c xs) ≡ ordered_by d (map f xs) }
-    ensures sorted { (c : T → T → Ordering) (d : U → U → Ordering) → IsTotalOrder c → IsTotalOrder d →
-        (f : T → U) (xs ys : List T) → ((x y : T) → Contains xs x → Contains xs y → c x y ≡ d (f x) (f y)) →
-        TiesAreOne d (map f xs) → IsPermutation xs ys → IsSorted c ys → map f ys ≡ ordered_by d (map f xs) }
-{}
-
-/// Laws of the least of one or more members, for proofs, with nothing to run: it is one of them, and none is less.
-pub fn least_laws<T>()
-    ensures member { (cmp : T → T → Ordering) (x : T) (xs : List T) → Contains (x ∷ xs) (fold (ord_min cmp) x xs) }
-    ensures least { (cmp : T → T → Ordering) → IsTotalOrder cmp → (x : T) (xs : List T) →
-        All (λ y. is_gt (cmp (fold (ord_min cmp) x xs) y) ≡ false) (x ∷ xs) }
 {}
 
 // Numbers with one that stands twice, and places with a tie.

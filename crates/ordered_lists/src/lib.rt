@@ -5,9 +5,9 @@ mod front;
 mod laws;
 mod order;
 
-pub use front::{keep_front_in_order, push_front_in_order};
-pub use laws::{image_laws, least_laws, order_laws};
-pub use order::{put_in_order, put_in_order_stably};
+pub use front::push_front_in_order;
+pub use laws::order_laws;
+pub use order::put_in_order;
 
 #[cfg(test)]
 mod tests;

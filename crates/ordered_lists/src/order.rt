@@ -1,4 +1,5 @@
-ghost use Rattle.std.specs.Prelude.{◌≡◌, vec_capacity, OnOk, OnErr};
+//! A list put in rising order by std's unstable sort.
+ghost use Rattle.std.specs.Prelude.{◌≡◌, vec_capacity};
 ghost use Rattle.std.specs.List.Sorted.{IsPermutation, IsSorted};
 ghost use Rattle.ordered_lists.specs.Ordered.{ordered_by, TiesAreOne};
 
@@ -13,14 +14,4 @@ pub fn put_in_order<T: Ord>(items: &mut Vec<T>)
     ensures capacity { vec_capacity items.new ≡ vec_capacity items.old }
 {
     items.sort_unstable();
-}
-
-/// Puts members in rising order, and those that tie stay as they stand. It takes room for half of them; where there is
-/// none, nothing has changed.
-pub fn put_in_order_stably<T: Ord>(items: &mut Vec<T>) -> Result<(), AllocError>
-    ensures ok { OnOk result (items.new.items ≡ ordered_by T.cmp items.old.items) }
-    ensures err { OnErr result (items.new.items ≡ items.old.items) }
-    ensures capacity { vec_capacity items.new ≡ vec_capacity items.old }
-{
-    items.sort()
 }

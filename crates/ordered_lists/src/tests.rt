@@ -1,3 +1,4 @@
+//! Ties, and how many members the front has.
 use super::*;
 use std::test::Fail;
 
@@ -5,15 +6,6 @@ use std::test::Fail;
 #[derive(Clone, Copy, Debug, PartialEq, Eq, PartialOrd, Ord, Drop)]
 struct Reached {
     at: u64,
-    slot: u32,
-}
-
-// The same, where the order sees the place alone.
-#[derive(Clone, Copy, Drop)]
-#[derive_where(Debug, PartialEq, Eq, PartialOrd, Ord)]
-struct Placed {
-    at: u64,
-    #[derive_where(skip(EqHashOrd))]
     slot: u32,
 }
 
@@ -36,30 +28,6 @@ fn ties_of_place_are_broken_by_slot(rt: HostRuntime) -> Result<(), Fail> {
     assert_eq!(rt; reached[0].slot, 2);
     assert_eq!(rt; reached[1].slot, 7);
     assert_eq!(rt; reached[2].slot, 1);
-    Ok(())
-}
-
-#[test]
-fn a_stable_order_leaves_ties_as_they_stand(rt: HostRuntime) -> Result<(), Fail> {
-    let mut placed = vec![in rt.alloc();
-        Placed { at: 4, slot: 7 },
-        Placed { at: 9, slot: 1 },
-        Placed { at: 4, slot: 2 },
-    ]?;
-    put_in_order_stably(&mut placed)?;
-    assert_eq!(rt; placed[0].slot, 7);
-    assert_eq!(rt; placed[1].slot, 2);
-    assert_eq!(rt; placed[2].slot, 1);
-    Ok(())
-}
-
-#[test]
-fn the_front_is_kept(rt: HostRuntime) -> Result<(), Fail> {
-    let mut numbers: Vec<u32> = vec![in rt.alloc(); 3, 1, 2, 1, 3]?;
-    keep_front_in_order(&mut numbers, 3);
-    assert_eq!(rt; numbers.as_slice(), [1, 1, 2].as_slice());
-    keep_front_in_order(&mut numbers, 9);
-    assert_eq!(rt; numbers.as_slice(), [1, 1, 2].as_slice());
     Ok(())
 }
 
