@@ -1,13 +1,13 @@
 -- Two rising lists merged.
-use Rattle.std.proofs.Common.{◌≡◌, ℕ, ◌≤◌, ◌-◌, Bool, true, false, ◌&&◌, ◌||◌, ◌==◌, nat_lt, List, [], ◌∷◌, ◌++◌, append_assoc, length}
-use Rattle.std.proofs.Common.{take, drop, get_or, refl, sym, ap, ◌∙◌, arith, subst}
+use Rattle.std.proofs.Common.{◌≡◌, ℕ, ◌≤◌, Bool, true, false, ◌&&◌, ◌||◌, ◌==◌, nat_lt, List, [], ◌∷◌, ◌++◌, append_assoc, length}
+use Rattle.std.proofs.Common.{get_or, refl, sym, ap, ◌∙◌, arith, subst}
 use Rattle.std.specs.List.{list_all}
 use Rattle.std.specs.Cmp.{first_so, second_so}
 use Rattle.std.specs.Cmp.Derive.{both_true}
-use Rattle.std.proofs.Math.Seq.{take-length}
 use Rattle.std.proofs.lemmas.Bool.Decides.{nat_tests}
 use Rattle.std.proofs.lemmas.List.Folds.{list_any-append}
 use Rattle.broad_index.specs.declared.pair.Pair.{Pair}
+use Rattle.slot_lists.specs.Patterns.{rest_of, rest_is}
 use Rattle.slot_lists.specs.RisingLaws.{all_weaker}
 use Rattle.broad_index.specs.Near.{precedes, rises}
 use Rattle.broad_index.specs.Members.{same_pair, has_pair}
@@ -39,15 +39,9 @@ rises_without (z ∷ zs) ys y u = both_true (behind zs (first_so _ _ u)) (rises_
     behind [] a = second_so _ _ a
     behind (w ∷ ws) a = both_true (first_so _ _ a) (behind ws (second_so _ _ a))
 
--- a list's first pair, and what a pattern leaves of it
+-- a list's first pair
 abbrev pub head : List Pair → Pair
 head ps = get_or ps 0 (record { a = 0; b = 0 })
-
-abbrev pub rest_of : List Pair → List Pair
-rest_of ps = take (length ps - 1) (drop 1 ps)
-
-pub rest_is : (x : Pair) (xs : List Pair) → take (length (x ∷ xs) - 1) (drop 1 (x ∷ xs)) ≡ xs
-rest_is x xs = let n : length (x ∷ xs) - 1 ≡ length xs = omega arith in ap (λ k. take k xs) n ∙ take-length xs
 
 or_moves : (a b c d : Bool) → ((a || (b || false)) || (c || d)) ≡ (a || ((b || c) || d))
 or_moves true b c d = refl

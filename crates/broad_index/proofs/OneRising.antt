@@ -1,10 +1,11 @@
 -- Rising lists of slots or of pairs that have the same members are one list.
-use Rattle.std.proofs.Common.{◌≡◌, ℕ, ◌<◌, true, ◌&&◌, ◌==◌, nat_lt, List, refl, ap, ◌∙◌, arith, inl, inr, ◌⊎◌}
-use Rattle.std.proofs.lemmas.Bool.{eq-eqb, eqb-true, and_parts, and_from, or_cases, ltb-true}
+use Rattle.std.proofs.Common.{◌≡◌, ℕ, ◌<◌, true, ◌&&◌, ◌==◌, nat_lt, List, refl, arith, inl, inr, ◌⊎◌}
+use Rattle.std.proofs.lemmas.Bool.{eq-eqb, eqb-true, and_parts, or_cases, ltb-true}
 use Rattle.slot_lists.specs.RisingLaws.{Tells, one_rising}
 use Rattle.broad_index.specs.declared.pair.Pair.{Pair}
 use Rattle.broad_index.specs.Near.{precedes, rises}
 use Rattle.broad_index.specs.Members.{same_pair, has_pair, has_slot, slots_rise}
+use Rattle.broad_index.specs.PairLaws.{is_same, self_same}
 
 slots_tell : Tells (λ x y. x == y) nat_lt
 slots_tell = record {
@@ -26,14 +27,6 @@ orders p q h = record {
     | inr e ↦ let r = and_parts (p.a == q.a) (nat_lt p.b q.b) e in inr (eqb-true p.a q.a r.0, ltb-true p.b q.b r.1)
   ];
 }
-
-pub is_same : (p q : Pair) → same_pair p q ≡ true → p ≡ q
-is_same p q h =
-    let r = and_parts (p.a == q.a) (p.b == q.b) h in ap (λ x. record { a = x; b = p.b }) (eqb-true p.a q.a r.0)
-    ∙ ap (λ y. record { a = q.a; b = y }) (eqb-true p.b q.b r.1)
-
-pub self_same : (p : Pair) → same_pair p p ≡ true
-self_same p = and_from (p.a == p.a) (p.b == p.b) (eq-eqb p.a p.a refl) (eq-eqb p.b p.b refl)
 
 asymmetric : (p q : Pair) → precedes p q ≡ true → precedes q p ≡ true → ⊥
 asymmetric p q h g = elim (orders p q h).either as (λ _. ⊥) [

@@ -3,9 +3,9 @@ use Rattle.std.proofs.Common.{◌≡◌, ℕ, ◌<◌, Bool, true, false, cond, 
 use lib.Dec.{eqb}
 use Rattle.std.specs.List.{list_all, list_any, dedup, dedup_from, AllByRecursion}
 use Rattle.std.specs.List.Sorted.{IsPermutation, IsSorted, IsStrictlySortedBy}
-use Rattle.std.specs.Ordering.{nat_cmp, is_eq, eq_by_cmp, ordering_then}
+use Rattle.std.specs.Ordering.{nat_cmp, eq_by_cmp}
 use Rattle.std.specs.declared.cmp.Ordering.{Ordering}
-use Rattle.std.specs.declared.cmp.Ordering.TheVariants.{Less, Equal, Greater}
+use Rattle.std.specs.declared.cmp.Ordering.TheVariants.{Less}
 use Rattle.std.specs.Cmp.{IsTotalOrder, ranked}
 use Rattle.std.specs.Cmp.Derive.{both_true}
 use Rattle.std.proofs.lemmas.Bool.{cases_Bool}
@@ -19,7 +19,7 @@ use Rattle.broad_index.specs.Near.{precedes, rises}
 use Rattle.broad_index.specs.PairOrder.{pair_cmp}
 use Rattle.broad_index.specs.Members.{same_pair, slots_rise}
 use Rattle.fixed_box.proofs.Numbers.{eq_cmp}
-use Rattle.broad_index.proofs.OneRising.{is_same}
+use Rattle.broad_index.specs.PairLaws.{pair_ties, less_precedes}
 
 or_twice : (a b : Bool) → (a || b) ≡ (a || (a || b))
 or_twice true b = refl
@@ -77,45 +77,6 @@ and_turned false false = refl
 pub same_either_way : declared_same ≡ same_pair
 same_either_way = λ i p q. and_turned (p.b == q.b) (p.a == q.a) i
 
-pair_ties : (p q : Pair) → same_pair p q ≡ eq_by_cmp pair_cmp p q
-pair_ties p q =
-    ap (λ b. b && (p.b == q.b)) (sym (eq_cmp p.a q.a)) ∙ ap (λ b. eq_by_cmp nat_cmp p.a q.a && b) (sym (eq_cmp p.b q.b))
-    ∙ both (nat_cmp p.a q.a) (nat_cmp p.b q.b)
-  where
-    both : (r s : Ordering) → (is_eq r && is_eq s) ≡ is_eq (ordering_then r s)
-    both Less s = refl
-    both Equal s = refl
-    both Greater s = refl
-
-pair_less : (p q : Pair) → pair_cmp p q ≡ Less → precedes p q ≡ true
-pair_less p q h = elim (nat_cmp p.a q.a) as (λ r. r ≡ nat_cmp p.a q.a → ordering_then r (nat_cmp p.b q.b) ≡ Less → precedes p q ≡ true) [
-  | Less ↦ λ e _. ap (λ b. b || (p.a == q.a && nat_lt p.b q.b)) (nat_less p.a q.a (sym e))
-  | Equal ↦ λ e g. second p.a q.a p.b q.b (ranked p.a q.a Equal e) (nat_less p.b q.b g)
-  | Greater ↦ λ _ g. cc
-] refl h
-  where
-    second : (a c b d : ℕ) → a ≡ c → nat_lt b d ≡ true → (nat_lt a c || (a == c && nat_lt b d)) ≡ true
-    second a c b d e l = grind (arith, nat_tests)
-
 pub pairs_settled : (xs : List Pair) → IsSorted pair_cmp xs → rises (dedup same_pair xs) ≡ true
 pairs_settled xs sorted =
-    rises_settled pair_cmp precedes pair_less (then_total (on_total (λ p. p.a) nat_cmp_total) (on_total (λ p. p.b) nat_cmp_total)) same_pair pair_ties xs sorted
-
-pub less_precedes : (p q : Pair) → Less ≡ pair_cmp p q → precedes p q ≡ true
-less_precedes p q e = pair_less p q (sym e)
-
-pub greater_precedes : (p q : Pair) → Greater ≡ pair_cmp p q → precedes q p ≡ true
-greater_precedes p q h = elim (nat_cmp p.a q.a) as (λ r. r ≡ nat_cmp p.a q.a → Greater ≡ ordering_then r (nat_cmp p.b q.b) → precedes q p ≡ true) [
-  | Less ↦ λ _ g. cc
-  | Equal ↦ λ e g. second q.a p.a q.b p.b (sym (ranked p.a q.a Equal e)) (ranked p.b q.b Greater g)
-  | Greater ↦ λ e _. first q.a p.a q.b p.b (ranked p.a q.a Greater e)
-] refl h
-  where
-    second : (a c b d : ℕ) → a ≡ c → b < d → (nat_lt a c || (a == c && nat_lt b d)) ≡ true
-    second a c b d e l = grind (arith, nat_tests)
-
-    first : (a c b d : ℕ) → a < c → (nat_lt a c || (a == c && nat_lt b d)) ≡ true
-    first a c b d l = grind (arith, nat_tests)
-
-pub equal_is : (p q : Pair) → Equal ≡ pair_cmp p q → p ≡ q
-equal_is p q h = is_same p q (pair_ties p q ∙ sym (ap is_eq h))
+    rises_settled pair_cmp precedes less_precedes (then_total (on_total (λ p. p.a) nat_cmp_total) (on_total (λ p. p.b) nat_cmp_total)) same_pair pair_ties xs sorted

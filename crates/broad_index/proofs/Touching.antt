@@ -16,7 +16,7 @@ use Rattle.broad_index.specs.Members.{same_pair, has_pair, has_slot, both_meet, 
 use Rattle.broad_index.specs.Touched.{ordered, ordered_pairs, gathered_with, stays, Renewed}
 use Rattle.broad_index.proofs.MapMembers.{not_eq}
 use Rattle.fixed_box.proofs.Bools.{and_false, and_comm}
-use Rattle.broad_index.proofs.OneRising.{is_same}
+use Rattle.broad_index.specs.PairLaws.{is_same}
 use Rattle.broad_index.proofs.Answering.{near_is}
 
 one_lower : (s k a b : ℕ) → s < k → (a == s && b == k) ≡ (nat_lt a b && ((a == s && b == k) || (b == s && a == k)))

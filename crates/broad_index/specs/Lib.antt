@@ -7,6 +7,7 @@ pub mod Index
 pub mod Members
 pub mod Near
 pub mod NearRises
+pub mod PairLaws
 pub mod PairOrder
 pub mod Reach
 pub mod Regions

@@ -1,3 +1,4 @@
+//! What each structure promises: changes of boxes by slots, the pairs that meet, and queries.
 ghost use Rattle.std.specs.Prelude.{◌≡◌, ℕ, ◌+◌, ◌<◌, ◌≤◌, ◌^◌, ◌++◌, Bool, true, false, List};
 ghost use Rattle.std.specs.Prelude.{[], length, All, OnOk, OnErr, IfOk, IfSome};
 ghost use Rattle.std.specs.Ordering.{nat_cmp};
@@ -50,6 +51,10 @@ pub trait BroadPhase {
     ghost spent: { Self → Bool };
 
     ghost COUNTS: { Bool };
+
+    /// Whether memory may run out in `add` or `shift`. A structure that reserves all it needs when it is made says false,
+    /// and is never spent.
+    ghost RUNS_OUT: { Bool };
 
     /// The number of exchanges since the index was made or last cleared.
     ghost exchanges: { Self → ℕ };
@@ -214,6 +219,9 @@ pub trait BroadPhase {
 
     /// An index that doesn't count has no exchanges.
     ghost uncounted: { (index : Self) → COUNTS ≡ false → exchanges index ≡ 0 };
+
+    /// An index whose changes can't run out of memory is never spent.
+    ghost lasting: { (index : Self) → RUNS_OUT ≡ false → spent index ≡ false };
 
     /// The pairs rise by `a` and then by `b`, each before all later ones.
     ghost pairs_rise: { (index : Self) → rises (near (bodies index)) ≡ true } = { λ index. near_rises (bodies index) };

@@ -1,7 +1,9 @@
+//! What the clauses of this crate say together, as laws for the proofs of structures.
 ghost use Rattle.std.specs.Prelude.{◌≡◌, ℕ, ◌*◌, ◌≤◌, length, Bool, true, false, ◌&&◌, ◌||◌, ◌==◌, List, [], ◌∷◌, ◌++◌, map, filter, Some};
 ghost use Rattle.std.specs.List.{zip};
 ghost use Rattle.std.specs.List.Sorted.{IsPermutation};
 ghost use Rattle.std.specs.Ordering.{nat_cmp};
+ghost use Rattle.std.specs.declared.cmp.Ordering.TheVariants.{Less, Equal, Greater};
 ghost use Rattle.std.specs.FinMap.{FinMap, entries, get, empty, insert, remove, contains_key, from_entries};
 ghost use Rattle.fixed_box.specs.Bounds.{Bounds};
 ghost use Rattle.fixed_box.specs.declared.TheConstants.{SLOTS};
@@ -11,8 +13,9 @@ ghost use Rattle.broad_index.specs.declared.query.Query.{Query};
 ghost use Rattle.broad_index.specs.Exchanges.{passed_by_add, passed_by_shift};
 ghost use Rattle.broad_index.specs.Found.{found, found_of};
 ghost use Rattle.broad_index.specs.Held.{Holds, apart};
-ghost use Rattle.broad_index.specs.Members.{has_pair, has_slot, slots_rise, is_near, is_found, is_reached};
-ghost use Rattle.broad_index.specs.Near.{near, rises};
+ghost use Rattle.broad_index.specs.Members.{same_pair, has_pair, has_slot, slots_rise, is_near, is_found, is_reached};
+ghost use Rattle.broad_index.specs.Near.{near, precedes, rises};
+ghost use Rattle.broad_index.specs.PairOrder.{pair_cmp};
 ghost use Rattle.broad_index.specs.Searched.{AreReached};
 ghost use Rattle.broad_index.specs.Touched.{gathered_with, stays, AreKept, AreMarked, Renewed};
 
@@ -34,6 +37,16 @@ pub fn member_laws()
         → ((k : ℕ) → has_slot slots k ≡ is_found bodies query k) → slots ≡ found bodies query }
     ensures is_reach { (bodies : FinMap nat_cmp Bounds) (slot : ℕ) (slots : List ℕ) → slots_rise slots ≡ true
         → ((k : ℕ) → has_slot slots k ≡ is_reached bodies slot k) → slots ≡ reach bodies slot }
+{}
+
+/// What the test by which a list has a pair tells, and what the order by which pairs are sorted and merged does. It does
+/// nothing.
+pub fn order_laws()
+    ensures same { (p q : Pair) → same_pair p q ≡ true → p ≡ q }
+    ensures itself { (p : Pair) → same_pair p p ≡ true }
+    ensures less { (p q : Pair) → pair_cmp p q ≡ Less → precedes p q ≡ true }
+    ensures equal { (p q : Pair) → pair_cmp p q ≡ Equal → p ≡ q }
+    ensures greater { (p q : Pair) → pair_cmp p q ≡ Greater → precedes q p ≡ true }
 {}
 
 /// What is found among the entries of a map in any order, and how they stay its entries while it changes. It does nothing.

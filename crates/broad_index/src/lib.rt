@@ -18,13 +18,13 @@ mod slot_search;
 
 pub use broad_phase::BroadPhase;
 pub use gather::{join_pieces, push_ordered_pairs};
-pub use laws::{exchange_laws, holding_laws, keeping_laws, member_laws};
+pub use laws::{exchange_laws, holding_laws, keeping_laws, member_laws, order_laws};
 pub use pair::Pair;
-pub use pair_seeker::PairSeeker;
+pub use pair_seeker::{NoSeeker, PairSeeker};
 pub use plain_index::PlainIndex;
 pub use query::{QKind, Query};
 pub use rising::{push_rising_pairs, push_rising_slots, renew_pairs, settle_pairs};
-pub use seeker::{NoSeeker, Seeker};
+pub use seeker::Seeker;
 pub use sharing::{FEWEST_SOUGHT, pays_threads};
 pub use slot_search::seek_many;
 pub use work_pieces::{Gate, NoGate};

@@ -1,3 +1,4 @@
+//! A search for pairs by several threads, each over a piece of the slots.
 ghost use Rattle.std.specs.Prelude.{◌≡◌, ℕ, ◌^◌, ◌<◌, ◌≤◌, true, List, length, All, IfOk};
 ghost use Rattle.std.specs.Ordering.{nat_cmp};
 ghost use Rattle.std.specs.FinMap as map;
@@ -6,7 +7,7 @@ ghost use Rattle.broad_index.specs.declared.pair.Pair.{Pair};
 ghost use Rattle.work_pieces.specs.Runs.{InRuns};
 ghost use Rattle.work_pieces.specs.declared.TheConstants.{MOST_WORKERS};
 
-use crate::{NoSeeker, Pair};
+use crate::Pair;
 use fixed_box::NoMemory;
 use std::alloc::Global;
 use std::thread::Threads;
@@ -26,6 +27,10 @@ pub trait PairSeeker {
         requires present { All (λ slot. map.contains_key (bodies self.now) slot ≡ true) slots.now }
         ensures { IfOk result (λ found. seeks self.now slots.now found.0.items found.1) };
 }
+
+/// A seeker with no box, for an index that isn't searched from several threads.
+#[derive(Clone, Copy, Debug, Drop)]
+pub struct NoSeeker;
 
 impl PairSeeker for NoSeeker {
     ghost bodies = { λ _. map.empty };

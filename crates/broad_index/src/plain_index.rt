@@ -1,3 +1,4 @@
+//! The plainest broad phase: a list of boxes in which each pair is tested.
 ghost use Rattle.std.specs.Prelude.{◌≡◌, true, false, if◌then◌else◌, Ok, Err, IfOk, refl};
 ghost use Rattle.std.specs.FinMap as map;
 ghost use Rattle.broad_index.specs.Fresh.{IsFresh};
@@ -49,6 +50,8 @@ impl BroadPhase for PlainIndex {
 
     ghost COUNTS = { false };
 
+    ghost RUNS_OUT = { true };
+
     ghost exchanges = { λ _. 0 };
 
     // It changes nothing.
@@ -57,6 +60,8 @@ impl BroadPhase for PlainIndex {
     type Shared = NoSeeker;
 
     ghost uncounted = { λ _ _. refl };
+
+    ghost lasting = { λ _ lasts. absurd cc };
 
     fn add(&mut self, slot: u32, body: FBox) -> Result<(), NoMemory> {
         if self.spent {

@@ -1,4 +1,5 @@
-ghost use Rattle.std.specs.Prelude.{◌≡◌, ℕ, ◌++◌, true, Option, None, OnOk, OnErr, IfOk, IfSome};
+//! A search for what one box overlaps, that several threads may make at once.
+ghost use Rattle.std.specs.Prelude.{◌≡◌, ℕ, ◌++◌, true, Option, OnOk, OnErr, IfOk, IfSome};
 ghost use Rattle.std.specs.Ordering.{nat_cmp};
 ghost use Rattle.std.specs.FinMap as map;
 ghost use Rattle.fixed_box.specs.Bounds.{Bounds};
@@ -21,18 +22,4 @@ pub trait Seeker {
         ensures ok { OnOk result (out.new.items ≡ out.old.items ++ reach (bodies self.now) slot) }
         ensures cost { IfOk result (λ number. IfSome (costs self.now) (λ cost. number ≡ cost slot)) }
         ensures err { OnErr result (out.new.items ≡ out.old.items) };
-}
-
-/// A seeker with no box, for an index that isn't searched from several threads.
-#[derive(Clone, Copy, Debug, Drop)]
-pub struct NoSeeker;
-
-impl Seeker for NoSeeker {
-    ghost bodies = { λ _. map.empty };
-
-    ghost costs = { λ _. None };
-
-    fn seek(&self, _slot: u32, _out: &mut Vec<u32>) -> Result<u32, NoMemory> {
-        unreachable!()
-    }
 }

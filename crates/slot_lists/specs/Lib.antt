@@ -1,5 +1,6 @@
 pub mod LinkLaws
 pub mod Links
+pub mod Patterns
 pub mod Present
 pub mod Rising
 pub mod RisingLaws

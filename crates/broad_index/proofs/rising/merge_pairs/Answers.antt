@@ -2,7 +2,7 @@
 use Rattle.std.proofs.Common.{◌||◌, sym, ◌∙◌}
 use Rattle.broad_index.specs.Members.{has_pair}
 use Rattle.broad_index.proofs.Merging.{Merges, head, step_left, step_right, step_same, has_three}
-use Rattle.broad_index.proofs.Settled.{less_precedes, greater_precedes, equal_is}
+use Rattle.broad_index.specs.PairLaws.{less_precedes, greater_precedes, equal_is}
 use Rattle.broad_index.proofs.rising.merge_pairs.Goals as goal
 
 pub merge-preserved-in-Less : goal.merge-preserved-in-Less
@@ -13,7 +13,7 @@ merge-preserved-in-Less c =
     let s =
     step_left c.merge.out.items c.merge.left.now c.merge.right.now
     (λ p. has_pair c.args.xs.now p || has_pair c.args.ys.now p) c.in-len1-up.len_at_least c.in-len1-up-right.len_at_least
-    (less_precedes (head c.merge.left.now) (head c.merge.right.now) (sym c.in-Less.is ∙ c.cmp.ensures)) m
+    (less_precedes (head c.merge.left.now) (head c.merge.right.now) (sym c.cmp.ensures ∙ c.in-Less.is)) m
     in
     record {
       left_up = rw c.in_ok-push-in-Less.ensures.items s.left_up;
@@ -29,7 +29,7 @@ merge-preserved-in-Greater c =
     let s =
     step_right c.merge.out.items c.merge.left.now c.merge.right.now
     (λ p. has_pair c.args.xs.now p || has_pair c.args.ys.now p) c.in-len1-up.len_at_least c.in-len1-up-right.len_at_least
-    (greater_precedes (head c.merge.left.now) (head c.merge.right.now) (sym c.in-Greater.is ∙ c.cmp.ensures)) m
+    (greater_precedes (head c.merge.left.now) (head c.merge.right.now) (sym c.cmp.ensures ∙ c.in-Greater.is)) m
     in
     record {
       left_up = rw c.in_ok-push-in-Greater.ensures.items s.left_up;
@@ -45,7 +45,7 @@ merge-preserved c =
     let s =
     step_same c.merge.out.items c.merge.left.now c.merge.right.now
     (λ p. has_pair c.args.xs.now p || has_pair c.args.ys.now p) c.in-len1-up.len_at_least c.in-len1-up-right.len_at_least
-    (equal_is (head c.merge.left.now) (head c.merge.right.now) (sym c.in-Equal.is ∙ c.cmp.ensures)) m
+    (equal_is (head c.merge.left.now) (head c.merge.right.now) (sym c.cmp.ensures ∙ c.in-Equal.is)) m
     in
     record { left_up = s.left_up; right_up = s.right_up; members = s.members }
 

@@ -4,7 +4,7 @@ use Rattle.std.specs.List.{dedup}
 use Rattle.std.proofs.lemmas.List.Filters.{dedup_is}
 use Rattle.broad_index.specs.Near.{rises}
 use Rattle.broad_index.specs.Members.{same_pair, has_pair}
-use Rattle.broad_index.proofs.OneRising.{is_same}
+use Rattle.broad_index.specs.PairLaws.{is_same}
 use Rattle.broad_index.proofs.Settled.{declared_same, same_either_way, any_settled, pairs_settled}
 use Rattle.broad_index.proofs.rising.settle_pairs.Goals as goal
 
