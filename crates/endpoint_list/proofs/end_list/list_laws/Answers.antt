@@ -1,5 +1,5 @@
 -- By induction on the list, and by its cases.
-use Rattle.endpoint_list.proofs.NodeLemmas.{first_split, has_split, has_middle}
+use Rattle.endpoint_list.specs.NodeLaws.{first_split, has_split, has_middle}
 use Rattle.endpoint_list.proofs.end_list.list_laws.Goals as goal
 
 pub returns-clause-cut : goal.returns-clause-cut
