@@ -17,7 +17,7 @@ use Rattle.overlap_count.specs.Counts.{count_of, IsCounts}
 use Rattle.overlap_count.specs.FullPairs.{pairs_with, pairs_below, full_pairs}
 use Rattle.overlap_count.specs.SlotCounts.{bits_of, pairs_of_bits, is_marked, IsTable}
 use Rattle.overlap_count.proofs.SetLemmas.{get_or-bits_of}
-use Rattle.broad_index.proofs.OneRising.{self_same}
+use Rattle.broad_index.specs.PairLaws.{self_same}
 use Rattle.fixed_box.proofs.Numbers.{plus_one}
 
 -- ---- the pairs of a word
