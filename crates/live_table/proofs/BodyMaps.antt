@@ -16,10 +16,10 @@ use Rattle.fixed_box.specs.Bounds.{Bounds}
 use Rattle.live_table.specs.declared.handle.Handle.{Handle}
 use Rattle.live_table.specs.declared.live.Live.{Live}
 use Rattle.live_table.specs.declared.masks.Masks.{Masks}
-use Rattle.live_table.specs.Entries.{slot_of, has, live_at, entry_at, entered, with_body, with_masks, without, rises, IsLeastFree}
+use Rattle.live_table.specs.Entries.{slot_of, has, live_at, entry_at, entered, with_body, with_masks, without, rises}
 use Rattle.live_table.specs.Bodies.{slots_with_bodies, bodies_of, body_of}
 use Rattle.live_table.specs.declared.group.Group.{Group}
-use Rattle.live_table.specs.Table.{Table, IsTable, IsVacated, next_handle, after_give, after_set_box, after_set_masks, after_put_back}
+use Rattle.live_table.specs.Table.{Table, IsTable, IsVacated, IsLeastFree, next_handle, after_give, after_set_box, after_set_masks, after_put_back}
 use Rattle.fixed_box.proofs.Bools.{cond_not, true_to}
 use Rattle.fixed_box.proofs.Numbers.{less, equal, greater, lt_of}
 
@@ -71,9 +71,9 @@ free_slots (e ∷ es) slot free = both_true (differs (slot_of e) slot (free 0 e 
     differs : (x y : ℕ) → x ≢ y → not (nat_eq x y) ≡ true
     differs x y h = grind (arith, nat_tests)
 
-insert-entered : (es : List Live) (new : Live) → rises es ≡ true → rises (entered new es) ≡ true → IsLeastFree (slot_of new) es
+insert-entered : (es : List Live) (new : Live) → rises es ≡ true → rises (entered new es) ≡ true → All (λ o. slot_of o ≢ slot_of new) es
     → insert (bodies_of es) (slot_of new) new.body ≡ bodies_of (entered new es)
-insert-entered es new r s free = put_indexed es (entered new es) (slot_of new) new.body r s (put_entered es new (free_slots es (slot_of new) free.free))
+insert-entered es new r s free = put_indexed es (entered new es) (slot_of new) new.body r s (put_entered es new (free_slots es (slot_of new) free))
 
 absent_slot : (es : List Live) (slot : ℕ) → list_all (λ o. not (nat_eq (slot_of o) slot)) es ≡ true → find nat_cmp slot (slots_with_bodies es) ≡ None
 absent_slot [] slot free = refl
@@ -88,9 +88,9 @@ absent_slot (e ∷ es) slot free = rw (apart slot (slot_of e) (first_so _ _ free
       | false ↦ λ ge. let gt : x < k = grind (arith, nat_tests, differ k x h) in ap is_eq (greater k x gt)
     ] refl
 
-indexed_absent : (es : List Live) (slot : ℕ) → rises es ≡ true → IsLeastFree slot es → contains_key (bodies_of es) slot ≡ false
+indexed_absent : (es : List Live) (slot : ℕ) → rises es ≡ true → All (λ o. slot_of o ≢ slot) es → contains_key (bodies_of es) slot ≡ false
 indexed_absent es slot r free =
-    ap is_some (get-from_sorted nat_cmp (slots_with_bodies es) slot (sorted es r) ∙ absent_slot es slot (free_slots es slot free.free))
+    ap is_some (get-from_sorted nat_cmp (slots_with_bodies es) slot (sorted es r) ∙ absent_slot es slot (free_slots es slot free))
 
 -- a live box's handle
 abbrev lives : Handle → List Live → Bool
@@ -144,7 +144,7 @@ put_body h body (e ∷ es) r some =
           (ap (λ xs. (slot_of e, e.body) ∷ xs) (put_body h body es (second_so _ _ r) later))
     ] refl some
 
-insert-with_body : (h : Handle) (body : Bounds) (es : List Live) → rises es ≡ true → rises (with_body h body es) ≡ true → lives h es ≡ true
+pub insert-with_body : (h : Handle) (body : Bounds) (es : List Live) → rises es ≡ true → rises (with_body h body es) ≡ true → lives h es ≡ true
     → insert (bodies_of es) h.slot body ≡ bodies_of (with_body h body es)
 insert-with_body h body es r s some = put_indexed es (with_body h body es) h.slot body r s (put_body h body es r some)
 
@@ -157,11 +157,11 @@ found_slot h (e ∷ es) r some =
       | false ↦ λ _ later. rw (greater h.slot (slot_of e) (lives_above h es (slot_of e) later (first_so _ _ r))) (found_slot h es (second_so _ _ r) later)
     ] refl some
 
-indexed_present : (h : Handle) (es : List Live) → rises es ≡ true → lives h es ≡ true → contains_key (bodies_of es) h.slot ≡ true
+pub indexed_present : (h : Handle) (es : List Live) → rises es ≡ true → lives h es ≡ true → contains_key (bodies_of es) h.slot ≡ true
 indexed_present h es r some = ap is_some (get-from_sorted nat_cmp (slots_with_bodies es) h.slot (sorted es r)) ∙ found_slot h es r some
 
 -- other masks change no box
-bodies_of-with_masks : (h : Handle) (masks : Masks) (es : List Live) → bodies_of (with_masks h masks es) ≡ bodies_of es
+pub bodies_of-with_masks : (h : Handle) (masks : Masks) (es : List Live) → bodies_of (with_masks h masks es) ≡ bodies_of es
 bodies_of-with_masks h masks es = ap (λ xs. from_sorted {R = nat_cmp} xs) (same es)
   where
     same : (es : List Live) → slots_with_bodies (with_masks h masks es) ≡ slots_with_bodies es
@@ -197,7 +197,7 @@ left_out h (e ∷ es) r some =
           (ap (λ xs. (slot_of e, e.body) ∷ xs) (left_out h es (second_so _ _ r) later))
     ] refl some
 
-remove-bodies_of : (h : Handle) (es : List Live) → rises es ≡ true → lives h es ≡ true → remove (bodies_of es) h.slot ≡ bodies_of (without h es)
+pub remove-bodies_of : (h : Handle) (es : List Live) → rises es ≡ true → lives h es ≡ true → remove (bodies_of es) h.slot ≡ bodies_of (without h es)
 remove-bodies_of h es r some =
     let xs = slots_with_bodies es in
     let left : T (is_sorted nat_cmp (where_key nat_cmp (other_than h.slot) xs)) = is_sorted-where_key nat_cmp (other_than h.slot) xs (sorted es r) in
@@ -209,7 +209,7 @@ remove-bodies_of h es r some =
     ∙ ap (λ ys. from_sorted {R = nat_cmp} ys) (left_out h es r some)
 
 -- no entry has the slot that no live box has
-vacated_slots : (slot : ℕ) (es : List Live) → live_at slot es ≡ None → list_all (λ o. not (nat_eq (slot_of o) slot)) es ≡ true
+pub vacated_slots : (slot : ℕ) (es : List Live) → live_at slot es ≡ None → list_all (λ o. not (nat_eq (slot_of o) slot)) es ≡ true
 vacated_slots slot [] free = refl
 vacated_slots slot (e ∷ es) free =
     elim (nat_eq (slot_of e) slot) as (λ t. cond t (Some e) (live_at slot es) ≡ None → not t && list_all (λ o. not (nat_eq (slot_of o) slot)) es ≡ true) [
@@ -218,7 +218,7 @@ vacated_slots slot (e ∷ es) free =
     ] free
 
 -- a box that is put back
-insert-put_back : (es : List Live) (live : Live) → rises es ≡ true → rises (entered live es) ≡ true → live_at (slot_of live) es ≡ None
+pub insert-put_back : (es : List Live) (live : Live) → rises es ≡ true → rises (entered live es) ≡ true → live_at (slot_of live) es ≡ None
     → insert (bodies_of es) (slot_of live) live.body ≡ bodies_of (entered live es)
 insert-put_back es live r s free = put_indexed es (entered live es) (slot_of live) live.body r s (put_entered es live (vacated_slots (slot_of live) es free))
 
@@ -227,16 +227,16 @@ indexed_vacated es slot r free =
     ap is_some (get-from_sorted nat_cmp (slots_with_bodies es) slot (sorted es r) ∙ absent_slot es slot (vacated_slots slot es free))
 
 -- the same of tables, as the clauses of the calls say it
-pub given_absent : (t : Table) (slot : ℕ) → IsTable t → IsLeastFree slot t.entries → contains_key (bodies_of t.entries) slot ≡ false
-given_absent t slot is free = indexed_absent t.entries slot is.rising free
+pub given_absent : (t : Table) (slot : ℕ) → IsTable t → IsLeastFree slot t → contains_key (bodies_of t.entries) slot ≡ false
+given_absent t slot is free = indexed_absent t.entries slot is.rising free.free
 
-pub given_bodies : (t u : Table) (handle : Handle) (body : Bounds) (masks : Masks) (group : Group) → IsTable t → IsTable u → IsLeastFree handle.slot t.entries
+pub given_bodies : (t u : Table) (handle : Handle) (body : Bounds) (masks : Masks) (group : Group) → IsTable t → IsTable u → IsLeastFree handle.slot t
     → handle ≡ next_handle t → u ≡ after_give t body masks group → bodies_of u.entries ≡ insert (bodies_of t.entries) handle.slot body
 given_bodies t u handle body masks group is_t is_u free next given =
     let new : Live = record { handle = next_handle t; body = body; masks = masks; group = group } in
     let rising : rises (entered new t.entries) ≡ true = subst (λ v. rises v.entries ≡ true) given is_u.rising in
     ap (λ v. bodies_of v.entries) given
-    ∙ sym (insert-entered t.entries new is_t.rising rising (subst (λ k. IsLeastFree k.slot t.entries) next free))
+    ∙ sym (insert-entered t.entries new is_t.rising rising (subst (λ k. All (λ o. slot_of o ≢ k.slot) t.entries) next free.free))
     ∙ ap (λ k. insert (bodies_of t.entries) k.slot body) (sym next)
 
 pub found_present : (t : Table) (handle : Handle) (live : Live) → IsTable t → Some live ≡ entry_at handle t.entries

@@ -10,8 +10,8 @@ use Rattle.live_table.specs.declared.group.Group.{Group}
 use Rattle.live_table.specs.declared.handle.Handle.{Handle}
 use Rattle.live_table.specs.declared.live.Live.{Live}
 use Rattle.live_table.specs.declared.masks.Masks.{Masks}
-use Rattle.live_table.specs.Entries.{slot_of, has, live_at, entry_at, least_free, entered, changed, without, rises, IsLeastFree}
-use Rattle.live_table.specs.Table.{Table, IsTable, IsVacated, raised, lowered, next_handle, after_give, after_set_box}
+use Rattle.live_table.specs.Entries.{slot_of, has, live_at, entry_at, entered, changed, without, rises}
+use Rattle.live_table.specs.Table.{Table, IsTable, IsVacated, least_free, IsLeastFree, raised, lowered, next_handle, after_give, after_set_box}
 use Rattle.live_table.specs.Table.{after_set_masks, after_take, after_ungive, after_put_back}
 use Rattle.live_table.proofs.EntryLemmas.{Above, above_from, above_so, entered_first, live_above, has_not, changed_above, without_above}
 
@@ -52,20 +52,20 @@ lowered-raised gives slot lt =
     let at : get_or (raised gives slot) slot 0 - 1 ≡ get_or gives slot 0 = omega (arith, get_or-set_same gives slot (get_or gives slot 0 + 1) 0 lt) in
     ap (set (raised gives slot) slot) at ∙ set-set gives slot (get_or gives slot 0 + 1) (get_or gives slot 0) ∙ set-get_or gives slot 0
 
-pub given_back : (t : Table) (body : Bounds) (masks : Masks) (group : Group) → IsTable t → IsLeastFree (least_free t.entries) t.entries
-    → least_free t.entries < SLOTS → after_ungive (after_give t body masks group) (next_handle t) ≡ t
+pub given_back : (t : Table) (body : Bounds) (masks : Masks) (group : Group) → IsTable t → IsLeastFree (least_free t) t
+    → least_free t < SLOTS → after_ungive (after_give t body masks group) (next_handle t) ≡ t
 given_back t body masks group is free small =
     let new : Live = record { handle = next_handle t; body = body; masks = masks; group = group } in
     let es : without (next_handle t) (entered new t.entries) ≡ t.entries = without-entered (next_handle t) new t.entries refl free.free in
-    let gs : lowered (raised t.gives (least_free t.entries)) (least_free t.entries) ≡ t.gives =
-    lowered-raised t.gives (least_free t.entries) (omega (arith, is.slots, small)) in
+    let gs : lowered (raised t.gives (least_free t)) (least_free t) ≡ t.gives =
+    lowered-raised t.gives (least_free t) (omega (arith, is.slots, small)) in
     same es gs
   where
     same : {es fs : List Live} {gs hs : List ℕ} → es ≡ fs → gs ≡ hs
         → ◌≡◌ {A = Table} (record { entries = es; gives = gs }) (record { entries = fs; gives = hs })
     same {es} {fs} {gs} {hs} e g = ap (λ xs. record { entries = xs; gives = gs }) e ∙ ap (λ ns. record { entries = fs; gives = ns }) g
 
-pub given_live : (t : Table) (body : Bounds) (masks : Masks) (group : Group) → IsLeastFree (least_free t.entries) t.entries
+pub given_live : (t : Table) (body : Bounds) (masks : Masks) (group : Group) → IsLeastFree (least_free t) t
     → is_some (entry_at (next_handle t) (after_give t body masks group).entries) ≡ true
 given_live t body masks group free =
     entry-entered (next_handle t) (record { handle = next_handle t; body = body; masks = masks; group = group }) t.entries refl free.free
@@ -120,7 +120,7 @@ pub masked_live : (t : Table) (h : Handle) (masks : Masks) → is_some (entry_at
 masked_live t h masks = live-changed h (λ e. record e { masks = masks }) (λ e. e) (λ e. refl) t.entries
 
 -- what all entries meet, the one that is found meets
-all_found : (P : Live → Type 0) (h : Handle) (es : List Live) (live : Live) → All P es → entry_at h es ≡ Some live → P live
+pub all_found : (P : Live → Type 0) (h : Handle) (es : List Live) (live : Live) → All P es → entry_at h es ≡ Some live → P live
 all_found P h [] live all found = absurd (cc)
 all_found P h (e ∷ es) live all found =
     elim (has h e) as (λ t. cond t (Some e) (entry_at h es) ≡ Some live → P live) [

@@ -1,11 +1,12 @@
 -- What `ungive` and `put_back` make of the slots, and of the table.
-use Rattle.std.proofs.Common.{◌≡◌, ℕ, ◌+◌, ◌<◌, Bool, true, false, List, Some, None, is_none, length, get_or, set, refl, sym, ap, ◌∙◌, arith, ◌-◌, length-set}
-use Rattle.std.proofs.Common.{inl, inr, slice_index}
+use Rattle.std.proofs.Common.{◌≡◌, ℕ, ◌+◌, ◌<◌, Bool, true, false, List, Some, None, length, get_or, set, refl, sym, ap, ◌∙◌, arith, ◌-◌, length-set}
+use Rattle.std.proofs.Common.{inl, inr, slice_index, lt-ltb}
 use Rattle.std.specs.Option.{option_to_list}
 use Rattle.std.proofs.lemmas.Bool.{cases_lt}
 use Rattle.std.proofs.lemmas.List.{get_or_past}
 use Rattle.fixed_box.specs.Bounds.{meets}
 use Rattle.fixed_box.specs.Space.{space}
+use Rattle.live_table.specs.declared.TheConstants.{MOST_GIVES}
 use Rattle.live_table.specs.declared.handle.Handle.{Handle}
 use Rattle.live_table.specs.declared.live.Live.{Live}
 use Rattle.live_table.specs.declared.slot.Slot.{Slot}
@@ -14,7 +15,7 @@ use Rattle.live_table.specs.Slots.{entries_of, gives_of, never_given, IsPlaced, 
 use Rattle.live_table.specs.Table.{after_ungive, after_put_back}
 use Rattle.live_table.proofs.PlacedSlots.{live_in, live_at_is, within_from_live, table_in}
 use Rattle.live_table.proofs.SlotCounts.{len_set, sum_set, gives_at, gives_set, gives_stay}
-use Rattle.live_table.proofs.WrittenSlot.{enter_set, take_set, placed_set, marked_set}
+use Rattle.live_table.proofs.WrittenSlot.{enter_set, take_set, placed_set, bound_set, with_box, without_box, marked_set}
 
 -- a slot with a box was given
 pub was_given : (slots : List Slot) (i : ℕ) (e : Live) → IsPlaced 0 slots → live_in slots i ≡ Some e → 0 < (get_or slots i never_given).gives
@@ -27,8 +28,10 @@ kept_ungive slots freed len given i s e kept live gives is =
     let lt : i < length slots = within_from_live slots i e live in record {
       few = omega (arith, length-set slots i s, kept.few);
       placed = placed_set 0 i slots s kept.placed lt (λ g at. absurd (cc));
+      bound = bound_set slots i s kept.bound lt (omega (arith, gives, kept.bound i));
       marks = length-set freed i true ∙ kept.marks;
-      marked = λ k. marked_set slots freed i k s true lt (omega (arith, kept.marks, kept.few)) (sym (ap is_none is)) (λ _. kept.marked k);
+      marked = λ k. marked_set slots freed i k s true lt (omega (arith, kept.marks, kept.few))
+          (sym (lt-ltb s.gives MOST_GIVES (omega (arith, gives, kept.bound i))) ∙ without_box s is) (λ _. kept.marked k);
       counted =
           let before : length (option_to_list (live_in slots i)) ≡ 1 = rw live refl in
           let after : length (option_to_list s.live) ≡ 0 = rw is refl in
@@ -71,9 +74,10 @@ kept_put_back slots freed len given s e kept lt free gives newest is in_space = 
         ap (λ g. g.handle.generation + 1) (sym same) ∙ newest,
         ap (λ g. meets space g.body) (sym same) ∙ in_space,
       ));
+  bound = bound_set slots (slot_of e) s kept.bound lt (omega (arith, gives, kept.bound (slot_of e)));
   marks = length-set freed (slot_of e) false ∙ kept.marks;
   marked = λ k.
-      marked_set slots freed (slot_of e) k s false lt (omega (arith, kept.marks, kept.few)) (sym (ap is_none is)) (λ _. kept.marked k);
+      marked_set slots freed (slot_of e) k s false lt (omega (arith, kept.marks, kept.few)) (sym (with_box s e is)) (λ _. kept.marked k);
   counted =
       let before : length (option_to_list (live_in slots (slot_of e))) ≡ 0 = rw free refl in
       let after : length (option_to_list s.live) ≡ 1 = rw is refl in

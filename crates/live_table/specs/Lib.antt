@@ -1,5 +1,6 @@
 pub mod Bits
 pub mod Bodies
+pub mod Changes
 pub mod Entries
 pub mod Example
 pub mod Pairing

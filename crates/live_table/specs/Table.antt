@@ -1,15 +1,16 @@
 -- A table of live boxes, as clauses see it, and what each call makes of it.
-use Rattle.std.specs.Prelude.{◌≡◌, ℕ, ◌+◌, ◌-◌, ◌<◌, ◌≤◌, IsTrue, None, List, [], length, replicate, slice_index, slice_set}
+use Rattle.std.specs.Prelude.{◌≡◌, ◌≢◌, ◌⊎◌, ℕ, ◌+◌, ◌-◌, ◌<◌, ◌≤◌, IsTrue, None, List, [], length, replicate, slice_index, slice_set}
 use Rattle.std.specs.FinMap.{entries as listing}
-use Rattle.std.specs.List.{All}
+use Rattle.std.specs.List.{All, Any}
 use Rattle.fixed_box.specs.Bounds.{Bounds, meets}
 use Rattle.fixed_box.specs.declared.TheConstants.{SLOTS}
+use Rattle.live_table.specs.declared.TheConstants.{MOST_GIVES}
 use Rattle.live_table.specs.declared.group.Group.{Group}
 use Rattle.live_table.specs.declared.handle.Handle.{Handle}
 use Rattle.live_table.specs.declared.masks.Masks.{Masks}
 use Rattle.live_table.specs.declared.live.Live.{Live}
 use Rattle.live_table.specs.Bodies.{slots_with_bodies, bodies_of}
-use Rattle.live_table.specs.Entries.{slot_of, live_at, least_free, entered, with_body, with_masks, without, rises}
+use Rattle.live_table.specs.Entries.{slot_of, live_at, least_from, entered, with_body, with_masks, without, rises}
 use Rattle.fixed_box.specs.Space.{space}
 
 -- The live boxes in order of their slots, and how often each of the `SLOTS` slots was given.
@@ -29,15 +30,25 @@ raised gives slot = slice_set gives slot (slice_index gives slot + 1)
 abbrev pub lowered : List ℕ → ℕ → List ℕ
 lowered gives slot = slice_set gives slot (slice_index gives slot - 1)
 
+-- the least slot that is free: no entry has it, and it was given fewer than `MOST_GIVES` times; `SLOTS` where there is none
+abbrev pub least_free : Table → ℕ
+least_free t = least_from 0 t.gives t.entries
+
+-- The slot is free, and each lower one has an entry or was given `MOST_GIVES` times.
+pub record IsLeastFree (slot : ℕ) (t : Table) : Type 0 where
+  pub free : All (λ entry. slot_of entry ≢ slot) t.entries
+  pub few : slice_index t.gives slot < MOST_GIVES
+  pub least : (lower : ℕ) → lower < slot → Any (λ entry. slot_of entry ≡ lower) t.entries ⊎ (MOST_GIVES ≤ slice_index t.gives lower)
+
 -- the handle of the next box: the least free slot, and how often that was given
 abbrev pub next_handle : Table → Handle
-next_handle t = record { slot = least_free t.entries; generation = slice_index t.gives (least_free t.entries) }
+next_handle t = record { slot = least_free t; generation = slice_index t.gives (least_free t) }
 
 -- a new box under the next handle, whose slot was given once more
 abbrev pub after_give : Table → Bounds → Masks → Group → Table
 after_give t body masks group = record {
   entries = entered (record { handle = next_handle t; body = body; masks = masks; group = group }) t.entries;
-  gives = raised t.gives (least_free t.entries);
+  gives = raised t.gives (least_free t);
 }
 
 -- the handle's box is another

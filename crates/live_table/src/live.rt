@@ -1,3 +1,5 @@
+//! A live box, and which two may pair.
+
 ghost use Rattle.std.specs.Prelude.{◌≡◌};
 ghost use Rattle.live_table.specs.Pairing.{may};
 

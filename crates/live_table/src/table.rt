@@ -1,15 +1,17 @@
-ghost use Rattle.std.specs.Prelude.{◌≡◌, ◌+◌, ◌<◌, ◌↔◌, true, false, length, IfOk, OnOk, OnErr, IsErr, is_ok, is_some};
+//! The table of live boxes: each call looks a handle up, or changes one slot.
+
+ghost use Rattle.std.specs.Prelude.{◌≡◌, ◌+◌, ◌<◌, ◌↔◌, true, false, length, IfOk, OnOk, OnErr, IsErr, IfSome, IsNone, is_ok, is_some};
 ghost use Rattle.std.specs.FinMap.{insert, remove, get, contains_key, empty};
 ghost use Rattle.std.specs.List.{sum};
 ghost use Rattle.std.specs.Result.{result_ok};
 ghost use Rattle.live_table.specs.Bodies.{bodies_of, body_of};
-ghost use Rattle.live_table.specs.Entries.{slot_of, live_at, entry_at, IsLeastFree};
+ghost use Rattle.live_table.specs.Entries.{slot_of, live_at, entry_at};
 ghost use Rattle.live_table.specs.Table.{empty_table, next_handle, after_give, after_set_box, after_set_masks, after_take, after_ungive, after_put_back};
-ghost use Rattle.live_table.specs.Table.{IsTable, IsVacated};
+ghost use Rattle.live_table.specs.Table.{IsTable, IsVacated, least_free, IsLeastFree};
 
 use crate::freed_slots::FreedSlots;
-use crate::slot::{Slot, open_slot};
-use crate::{Full, Group, Handle, Live, Masks, Stale};
+use crate::slot::{Slot, gives_so_far, least_open, open_slot};
+use crate::{Full, Group, Handle, Live, MOST_GIVES, Masks, Stale};
 use fixed_box::{FBox, NoMemory, SLOTS, space_law};
 use std::alloc::Global;
 use std::marker::Model;
@@ -24,7 +26,7 @@ pub struct LiveTable {
     slots: Vec<Slot>,
     freed: FreedSlots,
     len: u32,
-    given: u32,
+    given: u64,
 }
 
 impl Model for LiveTable {
@@ -63,9 +65,8 @@ impl LiveTable {
         self.len
     }
 
-    /// How many gives were `Ok` and weren't undone by `ungive`, those of boxes that were taken since among them. It is for
-    /// callers of `give`, which asks for a number below 4,294,967,295.
-    pub fn given(&self) -> u32
+    /// How many gives were `Ok` and weren't undone by `ungive`, those of boxes that were taken since among them.
+    pub fn given(&self) -> u64
         ensures { result ≡ sum self.now.gives }
     {
         self.given
@@ -104,17 +105,33 @@ impl LiveTable {
         }
     }
 
-    /// Gives a box the least slot that no live box has. `Full` comes where `SLOTS` boxes are live.
+    /// The handle that the next box gets. `None` comes where no slot is free.
+    pub fn next(&self) -> Option<Handle>
+        ensures handle { IfSome result (λ handle. handle ≡ next_handle self.now) }
+        ensures full { IsNone result ↔ (least_free self.now ≡ SLOTS) }
+
+        // What follows for the handle.
+        ensures small { IfSome result (λ handle. handle.slot < SLOTS) }
+        ensures free { IfSome result (λ handle. IsLeastFree handle.slot self.now) }
+        ensures absent { IfSome result (λ handle. contains_key (bodies_of self.now.entries) handle.slot ≡ false) }
+    {
+        let slot = least_open(&self.slots, &self.freed)?;
+        let generation = gives_so_far(&self.slots, slot);
+        Some(Handle { slot, generation })
+    }
+
+    /// Gives a box the least slot that no live box has and that was given fewer than `MOST_GIVES` times. `Full` comes where
+    /// there is none. While fewer gives than that were counted in all, it comes where `SLOTS` boxes are live.
     pub fn give(&mut self, body: FBox, masks: Masks, group: Group) -> Result<Handle, Full>
-        requires { sum self.old.gives < 4294967295 }
         ensures handle { IfOk result (λ handle. handle ≡ next_handle self.old) }
         ensures given { OnOk result (self.new ≡ after_give self.old body masks group) }
-        ensures full { IsErr result ↔ (length self.old.entries ≡ SLOTS) }
+        ensures full { IsErr result ↔ (least_free self.old ≡ SLOTS) }
+        ensures few { sum self.old.gives < MOST_GIVES → (IsErr result ↔ (length self.old.entries ≡ SLOTS)) }
         ensures err { OnErr result (self.new ≡ self.old) }
 
         // What follows for the handle, for the map of the boxes, for the number of gives and for the table.
         ensures small { IfOk result (λ handle. handle.slot < SLOTS) }
-        ensures free { IfOk result (λ handle. IsLeastFree handle.slot self.old.entries) }
+        ensures free { IfOk result (λ handle. IsLeastFree handle.slot self.old) }
         ensures absent { IfOk result (λ handle. contains_key (bodies_of self.old.entries) handle.slot ≡ false) }
         ensures bodies { IfOk result (λ handle. bodies_of self.new.entries ≡ insert (bodies_of self.old.entries) handle.slot body) }
         ensures count { OnOk result (sum self.new.gives ≡ sum self.old.gives + 1) }
@@ -172,7 +189,7 @@ impl LiveTable {
         Ok(())
     }
 
-    /// Takes the handle's box out. Its slot is free again.
+    /// Takes the handle's box out. Its slot is free again, if it was given fewer than `MOST_GIVES` times.
     pub fn take(&mut self, handle: Handle) -> Result<Live, Stale>
         ensures found { result_ok result ≡ entry_at handle self.old.entries }
         ensures handle { IfOk result (λ live. live.handle ≡ handle) }
@@ -185,8 +202,10 @@ impl LiveTable {
         ensures table { IsTable self.new }
     {
         let taken = self.find(handle)?;
-        self.slots[handle.slot as usize].live = None;
-        self.freed.put(handle.slot);
+        let place = &mut self.slots[handle.slot as usize];
+        place.live = None;
+        let again = place.gives < MOST_GIVES;
+        self.freed.set(handle.slot, again);
         self.len -= 1;
         Ok(taken)
     }

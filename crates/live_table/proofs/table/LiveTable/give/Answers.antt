@@ -6,13 +6,13 @@ use Rattle.fixed_box.specs.declared.TheConstants.{SLOTS}
 use Rattle.live_table.specs.declared.masks.Masks.{Masks}
 use Rattle.live_table.specs.declared.group.Group.{Group}
 use Rattle.live_table.specs.declared.slot.Slot.{Slot}
-use Rattle.live_table.specs.Entries.{IsLeastFree}
-use Rattle.live_table.specs.Slots.{opened, entries_of, gives_of, IsKept, IsLeastVacant}
-use Rattle.live_table.specs.Table.{next_handle, after_give, IsTable}
+use Rattle.live_table.specs.Slots.{opened, gives_of, IsKept, IsLeastVacant}
+use Rattle.live_table.specs.Table.{next_handle, after_give, least_free, IsLeastFree, IsTable}
+use Rattle.live_table.proofs.FreeSlots.{all_live}
 use Rattle.live_table.proofs.PlacedSlots.{table_in}
-use Rattle.live_table.proofs.SlotCounts.{len_full, len_le, gives_le}
+use Rattle.live_table.proofs.SlotCounts.{len_le, sum_few}
 use Rattle.live_table.proofs.KeptTable.{table_of}
-use Rattle.live_table.proofs.OpenedSlot.{not_full, opened_place, least_free_so}
+use Rattle.live_table.proofs.OpenedSlot.{not_full, opened_place, least_free_is, least_free_so, none_free_is, vacant_few}
 use Rattle.live_table.proofs.GivenSlot.{next_is, given_is, kept_give, give_sum}
 use Rattle.live_table.proofs.BodyMaps.{given_absent, given_bodies}
 use Rattle.live_table.proofs.table.LiveTable.give.Goals as goal
@@ -36,9 +36,13 @@ kept_filled slots items freed marks len given slot place body masks group kept l
 pub returns-in_default-clause-full : goal.returns-in_default-clause-full
 returns-in_default-clause-full c =
     let slots = c.self.inside.slots.items in
-    let full : length (entries_of slots) ≡ SLOTS = len_full slots c.in_default.ensures.live
-    ∙ omega (arith, c.in_default.ensures.full, c.self.inside.slots.ok.0) in
-    (λ _. ap (λ t. length t.entries) (sym c.self.view_is) ∙ full, λ _. refl)
+    let whole : length slots ≡ SLOTS = omega (arith, c.in_default.ensures.full, c.self.inside.slots.ok.0) in
+    let full : least_free (table_in slots) ≡ SLOTS = none_free_is slots c.self.invariant.1.placed whole c.in_default.ensures.live in
+    (λ _. ap least_free (sym c.self.view_is) ∙ full, λ _. refl)
+
+pub returns-in_default-clause-few : goal.returns-in_default-clause-few
+returns-in_default-clause-few c few =
+    (λ none. all_live c.args.self.now (subst IsTable c.self.view_is (table_of c.self.invariant.1)) few ((returns-in_default-clause-full c).0 none), λ _. refl)
 
 pub returns-in_default-clause-table : goal.returns-in_default-clause-table
 returns-in_default-clause-table c = subst (λ items. IsTable (table_in items)) (sym c.in_default.ensures.slots_stay) (table_of c.self.invariant.1)
@@ -47,10 +51,13 @@ pub overflow_add-place : goal.overflow_add-place
 overflow_add-place c =
     let gives = opened_place c.self.inside.slots.items c.open_slot.new.slots.items c.in-Some.slot c.index_mut-place.result.now c.in-Some.ensures.least
     c.in-Some.ensures.opened c.index_mut-place.ensures.value in
-    omega (arith, gives, gives_le c.self.inside.slots.items c.in-Some.slot, ap (λ t. sum t.gives) c.self.view_is, c.requires)
+    omega (arith, gives, vacant_few c.self.inside.slots.items c.in-Some.slot c.in-Some.ensures.least)
 
 pub overflow_add-self : goal.overflow_add-self
 overflow_add-self c = omega (arith, c.self.invariant.1.counted, len_le c.self.inside.slots.items, c.self.invariant.1.few)
+
+pub overflow_add-self-2 : goal.overflow_add-self-2
+overflow_add-self-2 c = omega (arith, c.self.invariant.1.summed, sum_few c.self.inside.slots.items c.self.invariant.1.bound c.self.invariant.1.few)
 
 pub invariant_of-self-2 : goal.invariant_of-self-2
 invariant_of-self-2 c = (
@@ -82,12 +89,18 @@ returns-clause-given c =
 
 pub returns-clause-full : goal.returns-clause-full
 returns-clause-full c =
+    let slots = c.self.inside.slots.items in
+    let slot : least_free (table_in slots) ≡ c.in-Some.slot = least_free_is slots c.in-Some.slot c.self.invariant.1.placed c.in-Some.ensures.least in
+    (λ e. cc, λ full. absurd (omega (arith, ap least_free c.self.view_is, slot, c.in-Some.ensures.least.small, full)))
+
+pub returns-clause-few : goal.returns-clause-few
+returns-clause-few c few =
     let room = not_full c.self.inside.slots.items c.in-Some.slot c.in-Some.ensures.least c.self.invariant.1.few in
     (λ e. cc, λ full. absurd (omega (arith, room, ap (λ t. length t.entries) c.self.view_is, full)))
 
 pub returns-clause-free : goal.returns-clause-free
 returns-clause-free c =
-    subst (λ t. IsLeastFree c.in-Some.slot t.entries) c.self.view_is
+    subst (IsLeastFree c.in-Some.slot) c.self.view_is
     (least_free_so c.self.inside.slots.items c.in-Some.slot c.self.invariant.1.placed c.in-Some.ensures.least)
 
 pub returns-clause-count : goal.returns-clause-count
