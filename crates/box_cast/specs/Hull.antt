@@ -8,10 +8,10 @@ use Rattle.fixed_box.specs.declared.point.Point.{Point}
 abbrev pub moved_point : Point → Point → Point
 moved_point p v = record { x = saturate_signed w32 (p.x +ℤ v.x); y = saturate_signed w32 (p.y +ℤ v.y); z = saturate_signed w32 (p.z +ℤ v.z) }
 
--- both corners moved
-abbrev pub moved : Bounds → Point → Bounds
-moved c v = record { lo = moved_point c.lo v; hi = moved_point c.hi v }
+-- a box displaced, as far as 32 bits go
+abbrev pub displaced : Bounds → Point → Bounds
+displaced c v = record { lo = moved_point c.lo v; hi = moved_point c.hi v }
 
 -- the least box that encloses the box before it is moved and after
 abbrev pub cast_hull : Bounds → Point → Bounds
-cast_hull c v = hull c (moved c v)
+cast_hull c v = hull c (displaced c v)

@@ -63,27 +63,6 @@ fraction_step whole fraction scale count b ds h =
     ∙ ap (λ x. number_if (is_run 9 (count + 1) ds) whole x (scale * 10 ^ suc (length ds))) v
     ∙ ap (λ x. number_if (is_run 9 (count + 1) ds) whole (digits_value_after 10 (10 * fraction + (b - 48)) ds) x) s
 
-pub fraction_stops : (whole fraction scale count b : ℕ) (ds : List ℕ) → is_ascii_digit b ≡ false → fraction_after whole fraction scale count (b ∷ ds) ≡ None
-fraction_stops whole fraction scale count b ds h = ap (λ r. number_if r whole (digits_value_after 10 fraction (b ∷ ds)) (scale * 10 ^ length (b ∷ ds)))
-    (run_stops 9 count b ds h)
-
-pub fraction_full : (whole fraction scale b : ℕ) (ds : List ℕ) → fraction_after whole fraction scale 9 (b ∷ ds) ≡ None
-fraction_full whole fraction scale b ds = ap (λ r. number_if r whole (digits_value_after 10 fraction (b ∷ ds)) (scale * 10 ^ length (b ∷ ds))) (run_full 9 b ds)
-
-pub fraction_starts : (whole : ℕ) (ds : List ℕ) → fraction_after whole 0 1 0 ds ≡ with_fraction whole ds
-fraction_starts whole ds =
-    ap (λ n. number_if (nat_le 1 n && nat_le n 9 && all_ascii_digits ds) whole (digits_value 10 ds) (1 * 10 ^ length ds)) (zero-add (length ds))
-    ∙ ap (λ s. number_if (is_numeral 9 ds) whole (digits_value 10 ds) s) (omega arith)
-
-pub fraction_ends : (whole fraction scale count : ℕ) → 0 < count → count ≤ 9
-    → fraction_after whole fraction scale count [] ≡ Some (record { whole = whole; fraction = fraction; scale = scale })
-fraction_ends whole fraction scale count low high =
-    let r : is_run 9 count [] ≡ true = grind (arith, nat_tests) in
-    ap (λ x. number_if x whole fraction (scale * 1)) r ∙ ap (λ s. Some (record { whole = whole; fraction = fraction; scale = s })) (omega arith)
-
-pub fraction_missing : (whole fraction scale : ℕ) → fraction_after whole fraction scale 0 [] ≡ None
-fraction_missing whole fraction scale = refl
-
 -- a text without a point is one part, and one with a point is no text of digits
 data Split (text : List ℕ) (parts : List (List ℕ)) : Type 0 where
   undivided : parts ≡ text ∷ [] → Split text parts
@@ -170,13 +149,6 @@ decimal_full n b text h =
     ap (λ t. decimal_after n 10 (cond t ([] ∷ slice_split is_point text) (onto_first b (slice_split is_point text)))) (digit_no_point b h)
     ∙ stop_parts n 10 b (slice_split is_point text) (λ ds. run_full 10 b ds)
 
-pub decimal_ends : (n count : ℕ) → 0 < count → count ≤ 10 → decimal_after n count (slice_split is_point [])
-    ≡ Some (record { whole = n; fraction = 0; scale = 1 })
-decimal_ends n count low high = let r : is_run 10 count [] ≡ true = grind (arith, nat_tests) in ap (λ x. number_if x n 0 1) r
-
-pub decimal_missing : (n : ℕ) → decimal_after n 0 (slice_split is_point []) ≡ None
-decimal_missing n = refl
-
 -- nothing read yet: what the parts mean
 alone : (ds : List ℕ) (b : Bool) → option_map decimal_of (if b then Some (record { whole = ds; fraction = [] }) else None)
     ≡ number_if b (digits_value 10 ds) 0 1
@@ -209,13 +181,6 @@ pub fraction_step_at : (whole fraction scale count : ℕ) (text : List ℕ) → 
 fraction_step_at whole fraction scale count [] some h = absurd (omega arith)
 fraction_step_at whole fraction scale count (b ∷ bs) some h =
     fraction_step whole fraction scale count b bs h ∙ ap (fraction_after whole (10 * fraction + (b - 48)) (scale * 10) (count + 1)) (sym (rest_of b bs))
-
-pub decimal_step_at : (n count : ℕ) (text : List ℕ) → 1 ≤ length text → is_ascii_digit (get_or text 0 0) ≡ true
-    → decimal_after n count (slice_split is_point text) ≡ decimal_after (10 * n + (get_or text 0 0 - 48)) (count + 1)
-    (slice_split is_point (take (length text - 1) (drop 1 text)))
-decimal_step_at n count [] some h = absurd (omega arith)
-decimal_step_at n count (b ∷ bs) some h =
-    decimal_step n count b bs h ∙ ap (λ ys. decimal_after (10 * n + (b - 48)) (count + 1) (slice_split is_point ys)) (sym (rest_of b bs))
 
 pub decimal_point_at : (n count : ℕ) (text : List ℕ) → 1 ≤ length text → get_or text 0 0 ≡ 46 → 0 < count → count ≤ 10
     → decimal_after n count (slice_split is_point text) ≡ with_fraction n (take (length text - 1) (drop 1 text))

@@ -1,10 +1,9 @@
 -- The text of a raw number, put piece by piece.
-use Rattle.std.proofs.Common.{◌≡◌, ℕ, zero, suc, ◌+◌, ◌-◌, ◌/◌, ◌%◌, ◌^◌, ◌<◌, ◌≤◌, ℤ, pos, negsuc, ◌<ℤ◌, ◌≤ℤ◌, List, [], ◌∷◌, length, decimal, refl}
-use Rattle.std.proofs.Common.{sym, ap, subst, ◌∙◌, arith, unsigned_abs}
+use Rattle.std.proofs.Common.{◌≡◌, ℕ, zero, suc, ◌+◌, ◌-◌, ◌/◌, ◌%◌, ◌^◌, ◌<◌, ◌≤◌, List, [], ◌∷◌, length, decimal, refl}
+use Rattle.std.proofs.Common.{sym, ap, subst, ◌∙◌, arith}
 use Rattle.std.proofs.lemmas.List.{length_push}
 use Rattle.std.proofs.lemmas.Fmt.{decimal_step, length-decimal-le}
-use Rattle.std.proofs.lemmas.Int.{ints}
-use Rattle.fixed_box.specs.Fix.{show, show_magnitude, last_digits, hundred_thousandths}
+use Rattle.fixed_box.specs.Fix.{show_magnitude, last_digits, hundred_thousandths}
 use Rattle.fixed_box.specs.Puts.{Puts}
 use Rattle.fixed_box.proofs.PutsThen.{puts_then}
 
@@ -37,11 +36,3 @@ length_units a small = length-decimal-le 5 (hundred_thousandths a / 100000) (ome
 pub puts_magnitude : (a b c d : List ℕ) (i j k l q : ℕ) → Puts a b i j (decimal (q / 100000)) → Puts b c j k (46 ∷ [])
     → Puts c d k l (last_digits 5 (q % 100000)) → Puts a d i l (show_magnitude q)
 puts_magnitude a b c d i j k l q units point fraction = puts_then a b d i j l _ _ units (puts_then b c d j k l _ _ point fraction)
-
-pub show_negative : (r : ℤ) → r <ℤ pos 0 → show r ≡ 45 ∷ show_magnitude (hundred_thousandths (unsigned_abs r))
-show_negative (pos n) less = absurd (omega (arith, ints))
-show_negative (negsuc n) less = refl
-
-pub show_other : (r : ℤ) → pos 0 ≤ℤ r → show r ≡ show_magnitude (hundred_thousandths (unsigned_abs r))
-show_other (pos n) le = refl
-show_other (negsuc n) le = absurd (omega (arith, ints))

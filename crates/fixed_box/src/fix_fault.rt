@@ -1,3 +1,4 @@
+//! The two reasons why a text is no coordinate.
 /// Why a text is no coordinate.
 #[derive(Clone, Copy, Debug, PartialEq, Eq)]
 pub enum FixFault {

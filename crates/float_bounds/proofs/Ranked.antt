@@ -9,7 +9,7 @@ use Rattle.std.proofs.Math.Nat.{pow-suc}
 use Rattle.std.proofs.Math.Pow.{pow_mono}
 use Rattle.float_bounds.specs.declared.float_fault.FloatFault.{FloatFault}
 use Rattle.float_bounds.specs.declared.format.Format.{Format}
-use Rattle.float_bounds.specs.declared.parts.Parts.{Parts}
+use Rattle.float_bounds.specs.declared.parts.FloatParts.{FloatParts}
 use Rattle.float_bounds.specs.Value.{value_of, value, and_then, signed, is_negative, biased_exponent, fraction_of}
 use Rattle.float_bounds.specs.Rank.{rank}
 use Rattle.fixed_box.proofs.Numbers.{test_of_le}
@@ -148,7 +148,7 @@ size_at f bits = record {
   size = refl;
 }
 
-chosen : (t : Bool) (fault : FloatFault) (p : Parts) (v : ℤ) → and_then (λ p. Ok (value_of p)) (cond t (Err fault) (Ok p)) ≡ Ok v → v ≡ value_of p
+chosen : (t : Bool) (fault : FloatFault) (p : FloatParts) (v : ℤ) → and_then (λ p. Ok (value_of p)) (cond t (Err fault) (Ok p)) ≡ Ok v → v ≡ value_of p
 chosen true fault p v e = absurd (cc)
 chosen false fault p v e = cc
 

@@ -8,10 +8,9 @@ use Rattle.std.proofs.lemmas.Int.{ints}
 use Rattle.std.proofs.lemmas.Nat.{div-mul-add, mod-mul-add, div-add-mod', mod_below}
 use Rattle.std.proofs.Math.Nat.{min-eq_left, zero-div, zero-mod}
 use Rattle.fixed_box.specs.Fix.{floor_div}
-use Rattle.float_bounds.specs.declared.float_fault.FloatFault.{FloatFault}
 use Rattle.float_bounds.specs.declared.float_fault.FloatFault.TheVariants.{OutOfRange}
 use Rattle.float_bounds.specs.declared.format.Format.{Format}
-use Rattle.float_bounds.specs.declared.parts.Parts.{Parts}
+use Rattle.float_bounds.specs.declared.parts.FloatParts.{FloatParts}
 use Rattle.float_bounds.specs.Format.{raw_step}
 use Rattle.float_bounds.specs.Value.{parts_of, value_of, and_then, signed}
 use Rattle.float_bounds.specs.Rounding.{ceil_div, within_range, fix_below, fix_above}
@@ -88,23 +87,16 @@ rounded_above false m d n positive e =
     ap within_range (ceil_positive m d positive) ∙ sym (ap (λ k. within_range (signed false k)) e ∙ stopped false (div_ceil m d))
 
 -- a float is rounded by its parts
-pub below_by_parts : (f : Format) (bits : ℕ) (p : Parts) (n : ℕ) → 0 < raw_step f → parts_of f bits ≡ Ok p
+pub below_by_parts : (f : Format) (bits : ℕ) (p : FloatParts) (n : ℕ) → 0 < raw_step f → parts_of f bits ≡ Ok p
     → n ≡ min (cond p.negative (div_ceil (p.significand * 2 ^ p.exponent) (raw_step f)) (p.significand * 2 ^ p.exponent / raw_step f)) (2 ^ 32)
     → fix_below f bits ≡ within_range (signed p.negative n)
 below_by_parts f bits p n positive e magnitude =
     ap (λ r. and_then (λ v. within_range (floor_div v (raw_step f))) (and_then (λ p. Ok (value_of p)) r)) e
     ∙ rounded_below p.negative (p.significand * 2 ^ p.exponent) (raw_step f) n positive magnitude
 
-pub above_by_parts : (f : Format) (bits : ℕ) (p : Parts) (n : ℕ) → 0 < raw_step f → parts_of f bits ≡ Ok p
+pub above_by_parts : (f : Format) (bits : ℕ) (p : FloatParts) (n : ℕ) → 0 < raw_step f → parts_of f bits ≡ Ok p
     → n ≡ min (cond p.negative (p.significand * 2 ^ p.exponent / raw_step f) (div_ceil (p.significand * 2 ^ p.exponent) (raw_step f))) (2 ^ 32)
     → fix_above f bits ≡ within_range (signed p.negative n)
 above_by_parts f bits p n positive e magnitude =
     ap (λ r. and_then (λ v. within_range (ceil_div v (raw_step f))) (and_then (λ p. Ok (value_of p)) r)) e
     ∙ rounded_above p.negative (p.significand * 2 ^ p.exponent) (raw_step f) n positive magnitude
-
--- a fault of the parts is that of the rounded float
-pub below_fault : (f : Format) (bits : ℕ) (fault : FloatFault) → parts_of f bits ≡ Err fault → fix_below f bits ≡ Err fault
-below_fault f bits fault e = ap (λ r. and_then (λ v. within_range (floor_div v (raw_step f))) (and_then (λ p. Ok (value_of p)) r)) e
-
-pub above_fault : (f : Format) (bits : ℕ) (fault : FloatFault) → parts_of f bits ≡ Err fault → fix_above f bits ≡ Err fault
-above_fault f bits fault e = ap (λ r. and_then (λ v. within_range (ceil_div v (raw_step f))) (and_then (λ p. Ok (value_of p)) r)) e

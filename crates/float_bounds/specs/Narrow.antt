@@ -1,5 +1,5 @@
 -- Serves proofs alone: which formats the code takes.
-use Rattle.std.specs.Prelude.{ℕ, ◌+◌, ◌≤◌}
+use Rattle.std.specs.Prelude.{◌+◌, ◌≤◌}
 use Rattle.float_bounds.specs.declared.format.Format.{Format}
 
 -- the bits fit 64, and a raw unit is a whole number of least numbers

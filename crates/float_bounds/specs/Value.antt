@@ -5,7 +5,7 @@ use Rattle.std.specs.Prelude.{if◌then◌else◌}
 use Rattle.float_bounds.specs.declared.float_fault.FloatFault.{FloatFault}
 use Rattle.float_bounds.specs.declared.float_fault.FloatFault.TheVariants.{NotANumber, OutOfRange}
 use Rattle.float_bounds.specs.declared.format.Format.{Format}
-use Rattle.float_bounds.specs.declared.parts.Parts.{Parts}
+use Rattle.float_bounds.specs.declared.parts.FloatParts.{FloatParts}
 
 -- the lowest bits, the trailing significand
 abbrev pub fraction_of : Format → ℕ → ℕ
@@ -34,7 +34,7 @@ and_then next (Ok a) = next a
 and_then next (Err fault) = Err fault
 
 -- The parts of a finite number. Under the greatest biased exponent there is none: an infinity, or a NaN where the trailing significand isn't 0.
-abbrev pub parts_of : Format → ℕ → Result Parts FloatFault
+abbrev pub parts_of : Format → ℕ → Result FloatParts FloatFault
 parts_of f bits =
     if biased_exponent f bits == 2 ^ f.exponent_bits - 1 then Err (if fraction_of f bits == 0 then OutOfRange else NotANumber)
     else Ok (record { negative = is_negative f bits; significand = significand_of f bits; exponent = exponent_of f bits })
@@ -44,7 +44,7 @@ abbrev pub signed : Bool → ℕ → ℤ
 signed negative n = if negative then neg_ℤ (pos n) else pos n
 
 -- so many least numbers as parts say
-abbrev pub value_of : Parts → ℤ
+abbrev pub value_of : FloatParts → ℤ
 value_of p = signed p.negative (p.significand * 2 ^ p.exponent)
 
 -- The value of a float in least numbers of its format: a whole number, or the fault where the float has none.

@@ -1,3 +1,4 @@
+//! A float rounded down, or up, to a raw number, from its bits in either format.
 ghost use Rattle.std.specs.Prelude.{◌≡◌, ◌*◌, ◌/◌, ◌^◌, ◌≤◌, min, if◌then◌else◌};
 ghost use Rattle.std.specs.Int.{div_ceil};
 ghost use Rattle.float_bounds.specs.Narrow.{IsNarrow};
@@ -6,7 +7,7 @@ ghost use Rattle.float_bounds.specs.Rounding.{fix_below, fix_above};
 
 use crate::FloatFault;
 use crate::format::{BINARY32, BINARY64, Format};
-use crate::parts::{Parts, parts_of};
+use crate::parts::{FloatParts, parts_of};
 use crate::scale::{away_from_zero, signed, toward_zero};
 use fixed_box::Fix;
 
@@ -64,7 +65,7 @@ pub(crate) fn fix_above(format: &Format, bits: u64) -> Result<Fix, FloatFault>
 }
 
 // The magnitude of a number that is rounded toward the lower side: a negative one is rounded away from zero.
-fn lower_magnitude(number: &Parts, step: u32) -> u64
+fn lower_magnitude(number: &FloatParts, step: u32) -> u64
     ensures value { result ≡ min (if number.now.negative
         then div_ceil (number.now.significand * 2 ^ number.now.exponent) (2 ^ step)
         else number.now.significand * 2 ^ number.now.exponent / 2 ^ step) (2 ^ 32) }
@@ -78,7 +79,7 @@ fn lower_magnitude(number: &Parts, step: u32) -> u64
 }
 
 // The magnitude of a number that is rounded toward the upper side: a negative one is rounded toward zero.
-fn upper_magnitude(number: &Parts, step: u32) -> u64
+fn upper_magnitude(number: &FloatParts, step: u32) -> u64
     ensures value { result ≡ min (if number.now.negative
         then number.now.significand * 2 ^ number.now.exponent / 2 ^ step
         else div_ceil (number.now.significand * 2 ^ number.now.exponent) (2 ^ step)) (2 ^ 32) }

@@ -1,3 +1,4 @@
+//! The reasons why floats give no coordinate or no box.
 /// Why floating-point numbers give no coordinate, or no box.
 #[derive(Clone, Copy, Debug, PartialEq, Eq)]
 pub enum FloatFault {

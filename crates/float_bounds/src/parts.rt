@@ -1,3 +1,4 @@
+//! The bits of a float taken apart into sign, significand and exponent.
 ghost use Rattle.std.specs.Prelude.{◌≡◌, ◌==◌, if◌then◌else◌};
 ghost use Rattle.float_bounds.specs.Narrow.{IsNarrow};
 ghost use Rattle.float_bounds.specs.Value.{parts_of, is_negative};
@@ -7,14 +8,14 @@ use crate::format::Format;
 
 // A finite number: so many of the format's least positive number, `significand * 2^exponent`, with a sign.
 #[derive(Clone, Copy)]
-pub(crate) struct Parts {
+pub(crate) struct FloatParts {
     pub negative: bool,
     pub significand: u64,
     pub exponent: u32,
 }
 
 // Takes the bits of a float apart.
-pub(crate) fn parts_of(format: &Format, bits: u64) -> Result<Parts, FloatFault>
+pub(crate) fn parts_of(format: &Format, bits: u64) -> Result<FloatParts, FloatFault>
     requires { IsNarrow format.now }
     ensures { result ≡ parts_of format.now bits }
 {
@@ -25,7 +26,7 @@ pub(crate) fn parts_of(format: &Format, bits: u64) -> Result<Parts, FloatFault>
     if biased == exponents - 1 {
         return Err(unfinite(fraction));
     }
-    Ok(Parts {
+    Ok(FloatParts {
         negative: is_negative(format, bits),
         // a normal number has a first bit that is not stored
         significand: if biased == 0 {

@@ -1,3 +1,4 @@
+//! One test: each public call rounds outwards, on 0.1 and -0.1 in both formats.
 use super::*;
 use fixed_box::{FBox, Fix, Point};
 use std::test::Fail;

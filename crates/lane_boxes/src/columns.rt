@@ -1,10 +1,11 @@
+//! Boxes in six columns, one for each coordinate: changed in place, and scanned for those that overlap a box.
 ghost use Rattle.std.specs.Prelude.{◌≡◌, ◌≢◌, ℕ, ◌+◌, ◌-◌, ◌<◌, ◌≤◌, ◌^◌, [], ◌∷◌, ◌++◌, OnOk, OnErr, length, take, drop, vec_len};
 ghost use Rattle.std.specs.Prelude.{insert, remove, swap_remove, slice_set, slice_index_or};
 ghost use Rattle.fixed_box.specs.Bounds.{Bounds, meets, holds};
 ghost use Rattle.lane_boxes.specs.Places.{places, next_eight};
 
 use crate::LANES;
-use crate::axis::Axis;
+use crate::axis_columns::AxisColumns;
 use crate::places::push_places;
 use crate::span::Span;
 use fixed_box::{FBox, NoMemory, Point, box_laws};
@@ -25,9 +26,9 @@ use std::marker::Model;
 /// ```
 #[derive(Drop)]
 pub struct Columns {
-    x: Axis,
-    y: Axis,
-    z: Axis,
+    x: AxisColumns,
+    y: AxisColumns,
+    z: AxisColumns,
     // No axis has less room.
     spare: usize,
 }
@@ -49,9 +50,9 @@ impl Columns {
         ensures { result.boxes ≡ [] }
     {
         Columns {
-            x: Axis::new(alloc),
-            y: Axis::new(alloc),
-            z: Axis::new(alloc),
+            x: AxisColumns::new(alloc),
+            y: AxisColumns::new(alloc),
+            z: AxisColumns::new(alloc),
             spare: 0,
         }
     }

@@ -1,7 +1,7 @@
 //! Boxes in six columns, tested eight at a time by the lanes of vectors, and packets of eight boxes that are tested at once.
 #![tactic(auto)]
 
-mod axis;
+mod axis_columns;
 mod columns;
 mod laws;
 mod packet;

@@ -1,3 +1,4 @@
+//! A packet of eight boxes in lanes, tested at once against one box.
 ghost use Rattle.std.specs.Prelude.{◌≡◌, int_le, length, map, FitsSigned};
 ghost use Rattle.std.specs.Int.{w32};
 ghost use Rattle.std.specs.Simd.Lanes.{Each1};

@@ -1,3 +1,4 @@
+//! The places of the bits that are set in a mask of eight lanes.
 ghost use Rattle.std.specs.Prelude.{◌≡◌, ◌<◌, ◌≤◌, ◌^◌, ◌++◌, All, OnOk, take, vec_len};
 ghost use Rattle.lane_boxes.specs.Bits.{set_places};
 

@@ -1,3 +1,4 @@
+//! Which calls of a source or sink in memory are to fail.
 ghost use Rattle.std.specs.Prelude.{◌≡◌};
 ghost use Rattle.play_io.specs.Memory.{fails_at};
 

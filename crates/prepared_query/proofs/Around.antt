@@ -2,7 +2,7 @@
 use Rattle.std.proofs.Common.{◌≡◌, sym, ◌∙◌, ℕ, Bool, true, false, ◌&&◌, ◌||◌, zero, suc, ℤ, pos, negsuc, neg_ℤ, ◌+ℤ◌, ◌-ℤ◌, ◌≤ℤ◌, int_le, int_lt, arith}
 use Rattle.std.proofs.lemmas.Int.{ints, clamps}
 use Rattle.std.specs.Int.{int_min, int_max, saturate_signed, w32}
-use Rattle.ray_slabs.specs.Mirrored.{Axis, mirrored, is_ahead, is_on_way}
+use Rattle.ray_slabs.specs.Mirrored.{MirroredSlab, mirrored, is_ahead, is_on_way}
 use Rattle.ray_slabs.specs.FirstLaws.{test_of_lt}
 use Rattle.ray_slabs.specs.ProductLaws.{same_le}
 use Rattle.fixed_box.proofs.Bools.{same_bool, and_comm}
@@ -10,7 +10,7 @@ use Rattle.fixed_box.proofs.Numbers.{le_of_test, test_of_le, stopped_low, stoppe
 use Rattle.prepared_query.specs.Prepared.{end_on}
 
 -- The line comes to the slab by its end, if it has one.
-abbrev pub is_met : Bool → Axis → Bool
+abbrev pub is_met : Bool → MirroredSlab → Bool
 is_met true a = is_on_way a
 is_met false a = is_ahead a
 

@@ -7,7 +7,7 @@ use Rattle.std.proofs.lemmas.List.Folds.{list_all-append}
 use Rattle.ray_slabs.specs.Crossing.{Slab, Fraction, fits, fits_ray, fits_seg}
 use Rattle.ray_slabs.specs.First.{entries, entries_by, latest}
 use Rattle.ray_slabs.specs.FirstLaws.{test_of_lt}
-use Rattle.ray_slabs.specs.Mirrored.{Axis, mirrored_by, mirrored, enter, leave, at_most, is_ahead, is_on_way}
+use Rattle.ray_slabs.specs.Mirrored.{MirroredSlab, mirrored_by, mirrored, enter, leave, at_most, is_ahead, is_on_way}
 use Rattle.ray_slabs.proofs.Order.{scaled, unscaled, le_of_test, test_of_le, by_middle}
 use Rattle.ray_slabs.proofs.Passing.{all_of, implied, implied_by_two}
 use Rattle.fixed_box.proofs.Bools.{and_left, and_right}
@@ -40,7 +40,7 @@ near_on_way near way p q hq hw hp le =
 -- a slab that the line is in, from 0 on
 pub ahead : (t : Fraction) (s : Slab) → pos 0 <ℤ t.den → pos 0 ≤ℤ t.num → fits t s ≡ true → is_ahead (mirrored s) ≡ true
 ahead t s ht hn f =
-    let a : Axis = mirrored s in
+    let a : MirroredSlab = mirrored s in
     let from : (a.near *ℤ t.den) ≤ℤ (t.num *ℤ a.way) = le_of_test (a.near *ℤ t.den) (t.num *ℤ a.way) (come s t f) in
     let to : (t.num *ℤ a.way) ≤ℤ (a.far *ℤ t.den) = le_of_test (t.num *ℤ a.way) (a.far *ℤ t.den) (not_left s t f) in
     all_of (int_le (pos 0) a.far) (int_lt (pos 0) a.way || int_le a.near (pos 0))
@@ -50,7 +50,7 @@ ahead t s ht hn f =
 -- and up to 1
 pub on_way : (t : Fraction) (s : Slab) → pos 0 <ℤ t.den → pos 0 ≤ℤ t.num → t.num ≤ℤ t.den → fits t s ≡ true → is_on_way (mirrored s) ≡ true
 on_way t s ht hn hd f =
-    let a : Axis = mirrored s in
+    let a : MirroredSlab = mirrored s in
     let from : (a.near *ℤ t.den) ≤ℤ (t.num *ℤ a.way) = le_of_test (a.near *ℤ t.den) (t.num *ℤ a.way) (come s t f) in
     let to : (t.num *ℤ a.way) ≤ℤ (a.far *ℤ t.den) = le_of_test (t.num *ℤ a.way) (a.far *ℤ t.den) (not_left s t f) in
     all_of (int_le (pos 0) a.far) (int_le a.near a.way)
@@ -59,7 +59,7 @@ on_way t s ht hn hd f =
 
 ahead_on_way : (s : Slab) → is_on_way (mirrored s) ≡ true → is_ahead (mirrored s) ≡ true
 ahead_on_way s e =
-    let a : Axis = mirrored s in
+    let a : MirroredSlab = mirrored s in
     let le : a.near ≤ℤ a.way = le_of_test a.near a.way (and_right (int_le (pos 0) a.far) (int_le a.near a.way) e) in
     all_of (int_le (pos 0) a.far) (int_lt (pos 0) a.way || int_le a.near (pos 0)) (and_left (int_le (pos 0) a.far) (int_le a.near a.way) e)
     (starts_in a.near a.way (pos 1) (pos 1) (omega (arith, ints)) (way_low s) (omega (arith, ints)))
@@ -91,7 +91,7 @@ all_entries T (s ∷ ss) e =
 in_time : (ss : List Slab) (b : Slab) → is_ahead (mirrored b) ≡ true → list_all (λ a. at_most (enter (mirrored a)) (leave (mirrored b))) ss ≡ true
     → at_most (latest start ss) (leave (mirrored b)) ≡ true
 in_time ss b h pairs =
-    let m : Axis = mirrored b in
+    let m : MirroredSlab = mirrored b in
     let far : pos 0 ≤ℤ m.far = le_of_test (pos 0) m.far (and_left (int_le (pos 0) m.far) (int_lt (pos 0) m.way || int_le m.near (pos 0)) h) in
     one_of (λ t. at_most t (leave m) ≡ true) start (flat_map entries ss) (test_of_le (pos 0 *ℤ m.way) (m.far *ℤ pos 1) (omega (arith, ints)))
     (all_entries (λ t. at_most t (leave m)) ss pairs)

@@ -1,8 +1,9 @@
+//! The slab test of a line and a box, by pairs of axes.
 ghost use Rattle.std.specs.Prelude.{◌≡◌, pos, ◌^◌, ◌≤ℤ◌};
 ghost use Rattle.ray_slabs.specs.Mirrored.{all_overlap, meet_ahead, meet_on_way, latest_by};
 
 use crate::Entry;
-use crate::axis::Axis;
+use crate::mirrored_slab::MirroredSlab;
 
 // A line and a box on the three axes.
 //
@@ -10,9 +11,9 @@ use crate::axis::Axis;
 // ahead of its start, for a segment no farther than its end, and each two slabs overlap.
 #[derive(Drop)]
 pub(crate) struct Axes {
-    pub x: Axis,
-    pub y: Axis,
-    pub z: Axis,
+    pub x: MirroredSlab,
+    pub y: MirroredSlab,
+    pub z: MirroredSlab,
 }
 
 impl Axes {

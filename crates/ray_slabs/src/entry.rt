@@ -1,3 +1,4 @@
+//! Where a ray enters a box: an exact fraction of its direction, ordered by value.
 ghost use Rattle.std.specs.Prelude.{◌≡◌, pos, ◌^◌, ◌≤ℤ◌, refl};
 ghost use Rattle.std.specs.Cmp.{partial_equiv_from_equiv, partial_order_from_agreeing_total};
 ghost use Rattle.std.specs.Ordering.{as_partial_cmp, eq_by_cmp};
@@ -7,7 +8,7 @@ ghost use Rattle.ray_slabs.specs.First.{value_cmp};
 ghost use Rattle.ray_slabs.specs.FirstLaws.{value_total};
 ghost use Rattle.ray_slabs.specs.Mirrored.{is_before, later_by};
 
-use crate::axis::{Axis, product};
+use crate::mirrored_slab::{MirroredSlab, product};
 use std::cmp::Ordering;
 use std::marker::Model;
 
@@ -41,12 +42,12 @@ impl Entry {
     }
 
     // The later of it and where the line comes to the slab, and itself where the line runs along the slab.
-    pub(crate) fn later_by(self, axis: &Axis) -> Entry
-        requires { axis.now.way ≤ℤ pos (2 ^ 34) }
-        ensures { result ≡ later_by self axis.now }
+    pub(crate) fn later_by(self, slab: &MirroredSlab) -> Entry
+        requires { slab.now.way ≤ℤ pos (2 ^ 34) }
+        ensures { result ≡ later_by self slab.now }
     {
-        if self.is_before(axis) {
-            let (num, den) = axis.entry();
+        if self.is_before(slab) {
+            let (num, den) = slab.entry();
             Entry { num, den }
         } else {
             self
@@ -54,10 +55,10 @@ impl Entry {
     }
 
     // Whether the line comes to the slab no sooner. Where it runs along the slab it comes to no face.
-    fn is_before(&self, axis: &Axis) -> bool
-        ensures { result ≡ is_before self.now axis.now }
+    fn is_before(&self, slab: &MirroredSlab) -> bool
+        ensures { result ≡ is_before self.now slab.now }
     {
-        let (near, way) = axis.entry();
+        let (near, way) = slab.entry();
         way > 0 && product(self.num, way) <= product(near, self.den)
     }
 

@@ -3,8 +3,8 @@
 #![tactic(auto)]
 
 mod axes;
-mod axis;
 mod entry;
+mod mirrored_slab;
 mod ray;
 mod seg;
 mod wbox;

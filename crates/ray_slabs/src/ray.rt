@@ -1,3 +1,4 @@
+//! A ray against a box: whether it meets it and where it enters, with the laws and worked examples of both.
 ghost use Rattle.std.specs.Prelude.{◌≡◌, ◌↔◌, pos, ◌^◌, ◌≤ℤ◌, IsTrue, true, false, SomeIff};
 ghost use Rattle.std.specs.declared.cmp.Ordering.TheVariants.{Less, Equal};
 ghost use Rattle.std.specs.List.{Contains};
@@ -10,7 +11,7 @@ ghost use Rattle.ray_slabs.specs.Mirrored.{on_x, on_y, on_z};
 ghost use Rattle.ray_slabs.specs.Examples.{at, opposite, between};
 
 use crate::axes::Axes;
-use crate::axis::Axis;
+use crate::mirrored_slab::MirroredSlab;
 use crate::{Entry, WBox, WPoint};
 
 /// A half line from a point on, in raw units. A direction of zero on all axes makes it that point alone.
@@ -72,9 +73,9 @@ fn axes(ray: &Ray, body: &WBox) -> Axes
 {
     let (lo, hi) = (body.lo(), body.hi());
     Axes {
-        x: Axis::of_ray(ray.from.x(), ray.dir.x(), lo.x(), hi.x()),
-        y: Axis::of_ray(ray.from.y(), ray.dir.y(), lo.y(), hi.y()),
-        z: Axis::of_ray(ray.from.z(), ray.dir.z(), lo.z(), hi.z()),
+        x: MirroredSlab::of_ray(ray.from.x(), ray.dir.x(), lo.x(), hi.x()),
+        y: MirroredSlab::of_ray(ray.from.y(), ray.dir.y(), lo.y(), hi.y()),
+        z: MirroredSlab::of_ray(ray.from.z(), ray.dir.z(), lo.z(), hi.z()),
     }
 }
 
