@@ -1,0 +1,38 @@
+-- The box lies in its skin, the old one or a new one.
+use Rattle.std.proofs.Common.{◌≡◌, ◌&&◌, true, sym, ap, ◌∙◌, subst}
+use Rattle.std.proofs.lemmas.Bool.{true≢false}
+use Rattle.std.specs.FinMap.{contains_key, insert}
+use Rattle.fixed_box.proofs.Bools.{and_false}
+use Rattle.skin_index.specs.Skins.{is_inside, AreSkins}
+use Rattle.skin_index.proofs.Skins.{skins_moved, skins_put}
+use Rattle.skin_index.proofs.skinned.SkinnedBroadPhase.shift.Goals as goal
+
+pub invariant_of-self : goal.invariant_of-self
+invariant_of-self g c =
+    let s = c.self.inside in
+    let skins = g.B.BroadPhase.bodies s.index in
+    let there : contains_key s.bodies c.args.slot ≡ true =
+    ap (λ v. contains_key v.bodies c.args.slot) c.self.view_is
+    ∙ c.requires.present (ap (λ b. g.B.BroadPhase.RUNS_OUT && b) (sym (ap (λ v. v.spent) c.self.view_is) ∙ c.if-self.false)
+    ∙ and_false g.B.BroadPhase.RUNS_OUT) in
+    let within = ap (λ o. is_inside o c.args.body) (sym (c.box_of.ensures.held (c.self.invariant.same_spent ∙ c.if-self.false)))
+    ∙ sym c.is_inside.ensures ∙ c.if-is_inside.true in
+    record {
+      same_spent = c.self.invariant.same_spent;
+      held = λ sound. subst (λ m. AreSkins m skins) (sym c.set.ensures)
+          (skins_moved s.bodies skins (c.self.invariant.held sound) c.args.slot c.args.body there within);
+      near_is = c.self.invariant.near_is;
+    }
+
+pub invariant_of-self-in-Ok : goal.invariant_of-self-in-Ok
+invariant_of-self-in-Ok g c =
+    let s = c.self.inside in
+    let old = g.B.BroadPhase.bodies s.index in
+    let before = ap (λ m. insert m c.args.slot c.skin_of.result) c.clear_exchanges.ensures.bodies in
+    record {
+      same_spent = c.in-Ok.ensures.sound ∙ sym c.if-self.false;
+      held = λ sound. subst (λ m. AreSkins c.set-in-Ok.new.self m) (sym (c.in-Ok.ensures.ok ∙ before))
+          (subst (λ m. AreSkins m (insert old c.args.slot c.skin_of.result)) (sym c.set-in-Ok.ensures)
+          (skins_put s.bodies old (c.self.invariant.held sound) c.args.slot c.args.body c.skin_of.result c.skin_of.ensures));
+      near_is = λ sound fresh. absurd (true≢false fresh);
+    }

@@ -1,0 +1,8 @@
+//! A broad phase over another one, which hears of a box only when it leaves its skin, an enlarged box around it.
+#![tactic(auto)]
+
+mod filtering;
+mod skin;
+mod skinned;
+
+pub use skinned::Skinned;
