@@ -1,4 +1,5 @@
 //! A box swept along a displacement: its hull, whether it meets a standing box, and when first.
+
 ghost use Rattle.std.specs.Prelude.{◌≡◌, IsTrue, is_some};
 ghost use Rattle.fixed_box.specs.Bounds.{Bounds, meets};
 ghost use Rattle.box_cast.specs.Cast.{in_cast, first_contact, IsSameValue};

@@ -1,4 +1,5 @@
 //! The law of first contact and worked examples, with nothing to run.
+
 ghost use Rattle.std.specs.Prelude.{◌≡◌, pos, true, false, ◌&&◌, ◌↔◌, Some, None, IsTrue, IfSome, is_some};
 ghost use Rattle.fixed_box.specs.Bounds.{Bounds, meets};
 ghost use Rattle.fixed_box.specs.declared.point.Point.{Point};

@@ -1,4 +1,5 @@
 //! The Minkowski sum that turns a cast of a box into a ray: the standing box widened by the cast one.
+
 ghost use Rattle.std.specs.Prelude.{◌≡◌, ◌-ℤ◌, IsTrue};
 ghost use Rattle.ray_slabs.specs.Vector.{is_in_reach};
 ghost use Rattle.box_cast.specs.Widening.{apart, origin, widened_by};

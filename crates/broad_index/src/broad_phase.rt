@@ -1,4 +1,5 @@
 //! What each structure promises: changes of boxes by slots, the pairs that meet, and queries.
+
 ghost use Rattle.std.specs.Prelude.{◌≡◌, ℕ, ◌+◌, ◌<◌, ◌≤◌, ◌^◌, ◌++◌, Bool, true, false, List};
 ghost use Rattle.std.specs.Prelude.{[], length, All, OnOk, OnErr, IfOk, IfSome};
 ghost use Rattle.std.specs.Ordering.{nat_cmp};

@@ -1,4 +1,5 @@
 //! Boxes in a list in order of their slots, searched eight at a time: what the plain list keeps.
+
 ghost use Rattle.std.specs.Prelude.{◌≡◌, ◌+◌, ◌<◌, ◌≤◌, ◌++◌, true, false, OnOk, OnErr, All};
 ghost use Rattle.std.specs.Prelude.{length, map as mapped, take, drop, slice_index_or, vec_len};
 ghost use Rattle.std.specs.FinMap as map;

@@ -1,4 +1,5 @@
 //! The pairs that several searches found, put together.
+
 ghost use Rattle.std.specs.Prelude.{◌≡◌, ◌+◌, ◌-◌, ◌^◌, ◌++◌, min, sum, map, IfOk, OnOk};
 ghost use Rattle.work_pieces.specs.Runs.{put_together};
 ghost use Rattle.broad_index.specs.declared.pair.Pair.{Pair};

@@ -1,4 +1,5 @@
 //! The places of a list whose boxes meet a query, by eight boxes at a time or by one exact test each.
+
 ghost use Rattle.std.specs.Prelude.{◌≡◌, ◌<◌, ◌≤◌, ◌^◌, ◌++◌, IsTrue, OnOk, OnErr, All, length, take, drop, filter, vec_len};
 ghost use Rattle.fixed_box.specs.Bounds.{meets};
 ghost use Rattle.lane_boxes.specs.Places.{places};

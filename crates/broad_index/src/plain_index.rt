@@ -1,4 +1,5 @@
 //! The plainest broad phase: a list of boxes in which each pair is tested.
+
 ghost use Rattle.std.specs.Prelude.{◌≡◌, true, false, if◌then◌else◌, Ok, Err, IfOk, refl};
 ghost use Rattle.std.specs.FinMap as map;
 ghost use Rattle.broad_index.specs.Fresh.{IsFresh};

@@ -1,4 +1,5 @@
 //! What may be asked about boxes: a region, a point, a ray or a segment, and whether one box meets it.
+
 ghost use Rattle.std.specs.Prelude.{◌≡◌, true, IsTrue};
 ghost use Rattle.fixed_box.specs.Bounds.{Bounds, meets};
 ghost use Rattle.broad_index.specs.Found.{query_meets, kind_of};

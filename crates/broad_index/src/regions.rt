@@ -1,4 +1,5 @@
 //! The box around a query: what meets the query meets this box.
+
 ghost use Rattle.std.specs.Prelude.{◌≡◌, true, IsTrue};
 ghost use Rattle.fixed_box.specs.Bounds.{Bounds, holds, meets};
 ghost use Rattle.ray_slabs.specs.Crossing.{in_ray, in_seg};

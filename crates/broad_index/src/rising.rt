@@ -1,4 +1,5 @@
 //! Pairs and slots put in order, each once, and the pairs of a frame before renewed where slots changed.
+
 ghost use Rattle.std.specs.Prelude.{◌≡◌, ℕ, true, false, ◌||◌, ◌++◌, filter, slice_index_or, OnOk, OnErr};
 ghost use Rattle.broad_index.specs.declared.pair.Pair.{Pair};
 ghost use Rattle.broad_index.specs.declared.query.Query.{Query};

@@ -1,4 +1,5 @@
 //! A search for what one box overlaps, that several threads may make at once.
+
 ghost use Rattle.std.specs.Prelude.{◌≡◌, ℕ, ◌++◌, true, Option, OnOk, OnErr, IfOk, IfSome};
 ghost use Rattle.std.specs.Ordering.{nat_cmp};
 ghost use Rattle.std.specs.FinMap as map;

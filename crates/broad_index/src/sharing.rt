@@ -1,4 +1,5 @@
 //! From how many sought slots on several threads are likely to be sooner than one.
+
 ghost use Rattle.std.specs.Prelude.{◌≡◌, ◌↔◌, ◌≤◌, true, count_by};
 
 /// From how many sought slots on several threads are likely to find their pairs sooner than one. Starting four takes some

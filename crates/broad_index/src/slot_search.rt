@@ -1,4 +1,5 @@
 //! A search from many slots by several threads, with what each slot overlaps.
+
 ghost use Rattle.std.specs.Prelude.{◌≡◌, ◌^◌, ◌<◌, ◌≤◌, true, length, map, sum, IfOk, IfSome, All};
 ghost use Rattle.std.specs.FinMap.{contains_key};
 ghost use Rattle.broad_index.specs.Reach.{reach};

@@ -1,4 +1,5 @@
 //! The axis-aligned box of fixed point: tested, joined and fattened, and the level of a grid that fits it.
+
 ghost use Rattle.std.specs.Prelude.{◌≡◌, ℕ, ◌<◌, ◌≤◌, IsTrue, SomeIff};
 ghost use Rattle.fixed_box.specs.Bounds.{Bounds, meets, holds, encloses, hull, fattened, longest_side, cell_side, level_of, level_for};
 ghost use Rattle.fixed_box.specs.Point.{is_at_most};

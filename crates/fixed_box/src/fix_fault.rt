@@ -1,4 +1,5 @@
 //! The two reasons why a text is no coordinate.
+
 /// Why a text is no coordinate.
 #[derive(Clone, Copy, Debug, PartialEq, Eq)]
 pub enum FixFault {

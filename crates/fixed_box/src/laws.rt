@@ -1,4 +1,5 @@
 //! Laws of enclosing, hulls and overlaps, and the number of slots, with nothing to run.
+
 ghost use Rattle.std.specs.Prelude.{◌≡◌, IsTrue};
 ghost use Rattle.fixed_box.specs.declared.point.Point.{Point};
 ghost use Rattle.fixed_box.specs.Bounds.{Bounds, meets, holds, encloses, hull};

@@ -1,4 +1,5 @@
 //! The one error of the suite for want of memory, and how the errors of allocation become it.
+
 use std::alloc::{AllocError, AllocFailed};
 
 /// Memory ran out. Each crate of the suite answers want of memory by this one type.

@@ -1,4 +1,5 @@
 //! Reads a decimal number as the raw number nearest to it.
+
 ghost use Rattle.std.specs.Prelude.{◌≡◌, ◌^◌, ◌<◌, pos, negsuc, neg_ℤ, if◌then◌else◌, option_map, IfSome, codes};
 ghost use Rattle.fixed_box.specs.Fix.{fix, fix_of_digits, digits_of_text, within_range};
 ghost use Rattle.fixed_box.specs.Decimal.{decimal_of, with_fraction, magnitude_of, IsSized};

@@ -1,4 +1,5 @@
 //! A point in raw units, and what boxes ask of their corners: order, the lower and upper of two, and margins.
+
 ghost use Rattle.std.specs.Prelude.{◌≡◌, ◌≤ℤ◌, IsTrue, int_le};
 ghost use Rattle.fixed_box.specs.Point.{is_at_most, lower_corner, upper_corner, lowered, raised, lowered_corner, raised_corner};
 

@@ -1,4 +1,5 @@
 //! Prints a raw number in decimal with five digits behind the point, and the law that it reads back.
+
 ghost use Rattle.std.specs.Prelude.{◌≡◌, ℤ, ◌+◌, ◌^◌, ◌<◌, ◌≤◌, ◌≤ℤ◌, ◌∷◌, [], length, take, drop, pos, negsuc, decimal, Ok, All, codes};
 ghost use Rattle.fixed_box.specs.Fix.{fix, show, show_magnitude, last_digits, hundred_thousandths};
 ghost use Rattle.fixed_box.specs.Puts.{Puts};

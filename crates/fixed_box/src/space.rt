@@ -1,4 +1,5 @@
 //! The law that space, the box of all 32-bit coordinates, meets every box.
+
 ghost use Rattle.std.specs.Prelude.{pos, negsuc, ◌≤ℤ◌, IsTrue};
 ghost use Rattle.fixed_box.specs.Bounds.{meets};
 ghost use Rattle.fixed_box.specs.Space.{space};

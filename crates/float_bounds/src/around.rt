@@ -1,4 +1,5 @@
 //! The least box of fixed point around a box of floats, and which fault of its corners comes first.
+
 ghost use Rattle.std.specs.Prelude.{◌≡◌, ◌≤ℤ◌, IfOk};
 ghost use Rattle.float_bounds.specs.Narrow.{IsNarrow};
 ghost use Rattle.float_bounds.specs.Format.{binary32, binary64};

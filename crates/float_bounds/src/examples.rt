@@ -1,4 +1,5 @@
 //! Worked examples of rounding, of the ends of the range and of faults, computed from the definitions.
+
 ghost use Rattle.std.specs.Prelude.{◌≡◌, pos, negsuc, [], ◌∷◌, Ok, Err};
 ghost use Rattle.float_bounds.specs.Format.{binary32, binary64};
 ghost use Rattle.float_bounds.specs.Rounding.{fix_below, fix_above};

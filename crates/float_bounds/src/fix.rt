@@ -1,4 +1,5 @@
 //! A float rounded down, or up, to a raw number, from its bits in either format.
+
 ghost use Rattle.std.specs.Prelude.{◌≡◌, ◌*◌, ◌/◌, ◌^◌, ◌≤◌, min, if◌then◌else◌};
 ghost use Rattle.std.specs.Int.{div_ceil};
 ghost use Rattle.float_bounds.specs.Narrow.{IsNarrow};

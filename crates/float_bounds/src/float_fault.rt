@@ -1,4 +1,5 @@
 //! The reasons why floats give no coordinate or no box.
+
 /// Why floating-point numbers give no coordinate, or no box.
 #[derive(Clone, Copy, Debug, PartialEq, Eq)]
 pub enum FloatFault {

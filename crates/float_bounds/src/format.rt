@@ -1,4 +1,5 @@
 //! The layout of the bits of binary32 and binary64.
+
 // How the bits of a format are laid out: from the highest on a sign, the biased exponent and the trailing significand
 // (IEEE 754-2019, 3.4).
 #[derive(Clone, Copy)]

@@ -1,4 +1,5 @@
 //! Laws of rounding floats and of the boxes around them, with nothing to run.
+
 ghost use Rattle.std.specs.Prelude.{◌≡◌, ℕ, ℤ, pos, negsuc, ◌*ℤ◌, ◌≤ℤ◌, IsTrue, List, Ok};
 ghost use Rattle.fixed_box.specs.Bounds.{Bounds, meets, encloses};
 ghost use Rattle.float_bounds.specs.declared.format.Format.{Format};

@@ -1,4 +1,5 @@
 //! The order of finite floats, by their bits as whole numbers.
+
 ghost use Rattle.std.specs.Prelude.{◌≡◌, int_le};
 ghost use Rattle.float_bounds.specs.Narrow.{IsNarrow};
 ghost use Rattle.float_bounds.specs.Rank.{rank};

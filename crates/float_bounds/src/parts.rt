@@ -1,4 +1,5 @@
 //! The bits of a float taken apart into sign, significand and exponent.
+
 ghost use Rattle.std.specs.Prelude.{◌≡◌, ◌==◌, if◌then◌else◌};
 ghost use Rattle.float_bounds.specs.Narrow.{IsNarrow};
 ghost use Rattle.float_bounds.specs.Value.{parts_of, is_negative};

@@ -1,4 +1,5 @@
 //! Magnitudes shifted to raw units, rounded toward zero or away from it, and stopped beyond 32 bits.
+
 ghost use Rattle.std.specs.Prelude.{◌≡◌, ◌*◌, ◌/◌, ◌-◌, ◌^◌, ◌<◌, ◌≤◌, min};
 ghost use Rattle.std.specs.Int.{div_ceil};
 ghost use Rattle.float_bounds.specs.Value.{signed};

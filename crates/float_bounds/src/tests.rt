@@ -1,4 +1,5 @@
 //! One test: each public call rounds outwards, on 0.1 and -0.1 in both formats.
+
 use super::*;
 use fixed_box::{FBox, Fix, Point};
 use std::test::Fail;

@@ -1,4 +1,5 @@
 //! The intervals of many boxes on one axis in two columns, tested eight at a time by vector lanes.
+
 ghost use Rattle.std.specs.Prelude.{◌≡◌, ◌+◌, ◌<◌, ◌≤◌, ◌^◌, [], ◌∷◌, ◌++◌, IsTrue, int_le, OnOk, length, map, take, drop};
 ghost use Rattle.std.specs.Prelude.{insert, remove, swap_remove, slice_set, slice_index_or};
 ghost use Rattle.std.specs.Prelude.{FitsSigned};

@@ -1,4 +1,5 @@
 //! Boxes in six columns, one for each coordinate: changed in place, and scanned for those that overlap a box.
+
 ghost use Rattle.std.specs.Prelude.{◌≡◌, ◌≢◌, ℕ, ◌+◌, ◌-◌, ◌<◌, ◌≤◌, ◌^◌, [], ◌∷◌, ◌++◌, OnOk, OnErr, length, take, drop, vec_len};
 ghost use Rattle.std.specs.Prelude.{insert, remove, swap_remove, slice_set, slice_index_or};
 ghost use Rattle.fixed_box.specs.Bounds.{Bounds, meets, holds};

@@ -1,4 +1,5 @@
 //! Laws of lists that stand beside the columns, with nothing to run.
+
 ghost use Rattle.std.specs.Prelude.{◌≡◌, ℕ, Bool, ◌+◌, ◌<◌, ◌≤◌, List, [], ◌∷◌, ◌++◌, length, map, filter, drop, zip, All};
 ghost use Rattle.std.specs.Prelude.{insert, remove, swap_remove, slice_set, slice_index_or};
 ghost use Rattle.fixed_box.specs.Bounds.{Bounds};

@@ -1,4 +1,5 @@
 //! A packet of eight boxes in lanes, tested at once against one box.
+
 ghost use Rattle.std.specs.Prelude.{◌≡◌, int_le, length, map, FitsSigned};
 ghost use Rattle.std.specs.Int.{w32};
 ghost use Rattle.std.specs.Simd.Lanes.{Each1};

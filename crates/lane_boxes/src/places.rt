@@ -1,4 +1,5 @@
 //! The places of the bits that are set in a mask of eight lanes.
+
 ghost use Rattle.std.specs.Prelude.{◌≡◌, ◌<◌, ◌≤◌, ◌^◌, ◌++◌, All, OnOk, take, vec_len};
 ghost use Rattle.lane_boxes.specs.Bits.{set_places};
 

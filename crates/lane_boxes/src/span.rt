@@ -1,4 +1,5 @@
 //! The interval of a box on one axis.
+
 ghost use Rattle.std.specs.Prelude.{◌≡◌, IsTrue, int_le};
 ghost use Rattle.lane_boxes.specs.Spans.{x_of, y_of, z_of};
 

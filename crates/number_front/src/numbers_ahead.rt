@@ -1,4 +1,5 @@
 //! A decimal number at the front of a text, read digit by digit, with its length.
+
 ghost use Rattle.std.specs.Prelude.{◌≡◌, ◌^◌, ◌+◌, ◌-◌, ◌*◌, ◌/◌, ◌<◌, ◌≤◌, ◌∷◌, true, false, Ok, All, length, take, slice_index, IfSome};
 ghost use Rattle.std.specs.Char.{is_ascii_digit};
 ghost use Rattle.std.specs.Str.{all_ascii_digits};

@@ -1,4 +1,5 @@
 //! The first so many members of a list in rising order, chosen before they are sorted.
+
 ghost use Rattle.std.specs.Prelude.{◌≡◌, ◌+◌, ◌<◌, ◌≤◌, ◌++◌, min, take, length, vec_len, vec_capacity};
 ghost use Rattle.std.specs.Prelude.{OnOk, OnErr, IsOk, List};
 ghost use Rattle.ordered_lists.specs.Ordered.{ordered_by, TiesAreOne, IsFront};

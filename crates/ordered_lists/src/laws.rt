@@ -1,4 +1,5 @@
 //! What holds of a list put in order, as laws for proofs, and worked examples of it.
+
 ghost use Rattle.std.specs.Prelude.{◌≡◌, ℕ, ◌+◌, ◌≤◌, Bool, true, false, List, [], ◌∷◌, ◌++◌, map, filter, take, length};
 ghost use Rattle.std.specs.List.{All, Contains};
 ghost use Rattle.std.specs.List.Sorted.{IsPermutation, IsSorted, IsStable, IsSplitAround};

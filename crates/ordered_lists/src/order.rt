@@ -1,4 +1,5 @@
 //! A list put in rising order by std's unstable sort.
+
 ghost use Rattle.std.specs.Prelude.{◌≡◌, vec_capacity};
 ghost use Rattle.std.specs.List.Sorted.{IsPermutation, IsSorted};
 ghost use Rattle.ordered_lists.specs.Ordered.{ordered_by, TiesAreOne};

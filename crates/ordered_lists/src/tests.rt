@@ -1,4 +1,5 @@
 //! Ties, and how many members the front has.
+
 use super::*;
 use std::test::Fail;
 

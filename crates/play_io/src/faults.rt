@@ -1,4 +1,5 @@
 //! Which calls of a source or sink in memory are to fail.
+
 ghost use Rattle.std.specs.Prelude.{◌≡◌};
 ghost use Rattle.play_io.specs.Memory.{fails_at};
 

@@ -1,4 +1,5 @@
 //! A writer of the standard library as a sink that counts its faults.
+
 ghost use Rattle.std.specs.Prelude.{◌≡◌, length, None, Ok, Err, MatchResult, IfErr, refl};
 ghost use Rattle.std.specs.Io.KnownBytes.{Keeps, WriteAppends};
 ghost use Rattle.play_io.specs.Device.{with_fault, FaultsCounted};

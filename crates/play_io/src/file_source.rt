@@ -1,4 +1,5 @@
 //! A reader of the standard library as a source that counts its faults.
+
 ghost use Rattle.std.specs.Prelude.{◌≡◌, length, None, Ok, IsErr, MatchResult};
 ghost use Rattle.std.specs.Io.KnownBytes.{Keeps, ReadConsumes};
 ghost use Rattle.play_io.specs.Device.{with_fault, FaultsCounted};

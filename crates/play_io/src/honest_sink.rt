@@ -1,4 +1,5 @@
 //! A sink in memory that never fails, and takes at most so many bytes in one write.
+
 ghost use Rattle.std.specs.Prelude.{◌≡◌, ◌≤◌, [], length, min, Some, None, IfOk, Ok, refl};
 ghost use Rattle.play_io.specs.Sink.{PutsFront, IsWriteOf, Settles, SinkCount, CountsSince};
 

@@ -1,4 +1,5 @@
 //! A source in memory that never fails, and hands out at most so many bytes in one read.
+
 ghost use Rattle.std.specs.Prelude.{◌≡◌, ◌≤◌, length, take, min, Some, IfOk, Ok};
 ghost use Rattle.play_io.specs.Source.{TakesNext, IsReadOf, ReadCount};
 

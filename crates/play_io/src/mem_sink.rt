@@ -1,4 +1,5 @@
 //! A sink in memory whose chosen writes and flushes fail.
+
 ghost use Rattle.std.specs.Prelude.{◌≡◌, ◌≤◌, ◌↔◌, [], length, min, Some, Ok, Err, true, IfOk, if◌then◌else◌, refl};
 ghost use Rattle.play_io.specs.Memory.{fails_at, one_more, faults_after};
 ghost use Rattle.play_io.specs.Source.{CountsFault};

@@ -1,4 +1,5 @@
 //! A source in memory whose chosen reads fail.
+
 ghost use Rattle.std.specs.Prelude.{◌≡◌, ◌≤◌, ◌↔◌, length, min, Some, true, IfOk, IsErr};
 ghost use Rattle.play_io.specs.Memory.{fails_at, one_more, faults_after};
 ghost use Rattle.play_io.specs.Source.{TakesNext, IsReadOf, ReadCount};

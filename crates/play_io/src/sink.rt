@@ -1,4 +1,5 @@
 //! The trait of what bytes are written to: partial writes, flushes, and the faults of both.
+
 ghost use Rattle.std.specs.Prelude.{◌≡◌, List, ℕ, Option, is_some};
 ghost use Rattle.play_io.specs.Sink.{PutsFront, IsWriteOf, Settles, SinkCount, CountsSince};
 

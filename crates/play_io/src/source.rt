@@ -1,4 +1,5 @@
 //! The trait of what bytes are read from, in pieces, and the fault of a read.
+
 ghost use Rattle.std.specs.Prelude.{List, ℕ, Option};
 ghost use Rattle.play_io.specs.Source.{TakesNext, IsReadOf, ReadCount};
 

@@ -1,4 +1,5 @@
 //! Boxes by their slots, seen as a map, in a list with a place for each slot.
+
 ghost use Rattle.std.specs.Prelude.{◌≡◌, ℕ, ◌<◌, ◌≤◌, true, false, None, IfOk, OnOk, length};
 ghost use Rattle.std.specs.Prelude.{All, map as mapped, slice_index_or};
 ghost use Rattle.std.specs.FinMap as map;

@@ -1,4 +1,5 @@
 //! What a caller puts in front of each piece of a search: a gate that its thread enters first.
+
 /// What is called at each piece of a search before its first item, by the thread that does the piece.
 pub trait Gate {
     /// The pieces are numbered from 0, and each is entered once.

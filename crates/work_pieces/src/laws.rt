@@ -1,4 +1,5 @@
 //! The most workers as a number, for proofs.
+
 ghost use Rattle.std.specs.Prelude.{◌≡◌};
 ghost use Rattle.work_pieces.specs.declared.TheConstants.{MOST_WORKERS};
 

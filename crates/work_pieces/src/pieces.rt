@@ -1,4 +1,5 @@
 //! A list cut into pieces, each answered by a thread, and the answers in the list's order, whichever piece ends first.
+
 ghost use Rattle.std.specs.Prelude.{◌≡◌, ◌*◌, ◌^◌, ◌<◌, ◌≤◌, map, length, IfOk, Some, None, ℕ};
 ghost use denote.Param.Send.{IsSync, IsSend};
 ghost use Rattle.std.specs.Int.{div_ceil};
