@@ -40,7 +40,8 @@
 extern "C" {
 #endif
 
-/* The most boxes that live at once. Slots are below it, so an array of this length has room for any answer but pairs. */
+/* The most boxes that live at once. Slots are below it, so an array of this length has room for the answer to any question (there may be
+ * more pairs, and more events). */
 #define PW_SLOTS 8192u
 
 /* The most marks that a world holds. */
@@ -59,15 +60,17 @@ enum {
     PW_OK = 0,
     PW_STALE = 1,         /* no live box has the handle */
     PW_FULL = 2,          /* PW_SLOTS boxes live, or PW_MOST_MARKS marks are held */
-    PW_NO_MEMORY = 3,     /* malloc gave none. Where it came in pw_add, pw_move or pw_back the world may be
-                             spent: from then on it answers nothing but this, and pw_get, pw_pairs, pw_events and pw_info alone
-                             tell what it had, and that it is spent. Close it, open another one and add your boxes there. After any
-                             other call all is as before: ask again. */
+    PW_NO_MEMORY = 3,     /* malloc gave none, and what ran out wasn't done: of a batch the steps before it were. After pw_add,
+                             pw_move or pw_back a world over PW_PLAIN or PW_SAP may be spent, which pw_info tells; one over PW_TREE
+                             or PW_GRID never is. A spent world keeps what it had: pw_get, pw_pairs, pw_events and pw_info tell its
+                             boxes, pairs, events, frames and marks, and all that would change or ask it gives this. Close it, open
+                             another one and add its boxes there. After any other call all is as before: ask again. */
     PW_INVERTED = 4,      /* lo > hi on some axis */
     PW_CLOSED = 5,        /* the world isn't open */
     PW_ARGUMENT = 6,      /* no such structure or kind of question, a region whose lo > hi, lengths that don't agree, or an open
                              world that would be opened */
-    PW_EXHAUSTED = 7,     /* 4,294,967,295 handles were given or frames ended, or exchanges are counted out */
+    PW_EXHAUSTED = 7,     /* a number is at its end, which no game comes to: each slot without a box was given 4,294,967,295 times, as
+                             many frames ended as 64 bits count, or over PW_SAP 2^62 exchanges were counted since the last one */
     PW_NO_MARK = 8,       /* no mark is held to go back to */
     PW_NOT_A_NUMBER = 9,  /* a float is a NaN */
     PW_OUT_OF_RANGE = 10  /* a float, rounded as the call says, is below -32,768 or above 32,767.99998, or it is an infinity */
@@ -76,7 +79,7 @@ enum {
 /* How a world keeps its boxes. The answers are the same; the costs are not. */
 enum {
     PW_PLAIN = 0, /* tests every two: for a few hundred boxes */
-    PW_SAP = 1,   /* sweep and prune: for boxes that move a little at a time and are rarely added */
+    PW_SAP = 1,   /* sweep and prune: if you want exchanges counted; slow by far if boxes go far or are added often */
     PW_TREE = 2,  /* a dynamic tree of enlarged boxes that keeps its pairs: where few boxes move, or much is asked */
     PW_GRID = 3   /* a hashed grid of levels: where most boxes move */
 };
@@ -124,11 +127,14 @@ typedef struct pw_new {
 } pw_new;
 
 /* What names a live box: its slot, and how often that slot was given before. A new box takes the least free slot, so index
- * your own arrays by it. A handle of a box that is gone stays stale. After pw_back the handles of boxes that came behind the
- * mark are given again, to other boxes: forget them. */
+ * your own arrays by it. A handle of a box that is gone stays stale for ever, unless pw_back undoes what was done since. After
+ * pw_back the handles of boxes that came behind the mark are given again, to other boxes: forget them. */
 typedef struct pw_handle {
     uint32_t slot, generation;
 } pw_handle;
+
+/* The handle of no box: one whose slot is PW_SLOTS or above is stale in every world. (Zero words are the first box's handle.) */
+static const pw_handle PW_NO_HANDLE = {0xffffffffu, 0xffffffffu};
 
 /* A live box. */
 typedef struct pw_live {
@@ -181,8 +187,8 @@ typedef struct pw_near {
 /* What a world is. `exchanges` are those of the endpoint lists since the last frame, where it is PW_SAP, and else 0. */
 typedef struct pw_world_info {
     uint32_t structure, spent;
-    uint32_t boxes, frames, marks;
-    uint64_t exchanges;
+    uint32_t boxes, marks;
+    uint64_t frames, exchanges;
 } pw_world_info;
 
 /* The bits of three floats, or of three doubles. */
@@ -212,10 +218,11 @@ pw_status pw_add(pw_world *world, const pw_box *boxes, size_t boxes_len, const p
 pw_status pw_move(pw_world *world, const pw_handle *handles, size_t handles_len, const pw_box *boxes, size_t boxes_len,
                   size_t *done);
 
-/* Gives a box other masks. PW_STALE. */
+/* Gives a box other masks. PW_STALE. PW_NO_MEMORY, only while a mark is held: all is as before. */
 pw_status pw_mask(pw_world *world, pw_handle handle, pw_masks masks);
 
-/* Removes boxes in order, up to the first that is refused: PW_STALE or PW_NO_MEMORY. `done` tells how many were removed. */
+/* Removes boxes in order, up to the first that is refused: PW_STALE, or PW_NO_MEMORY, only while a mark is held. `done` tells how many
+ * were removed. */
 pw_status pw_remove(pw_world *world, const pw_handle *handles, size_t handles_len, size_t *done);
 
 /* The live box that has a handle. PW_STALE, and `out` is as it was. One look-up; it also answers in a spent world. */
@@ -235,7 +242,7 @@ pw_status pw_pairs(pw_world *world, size_t from, pw_pair *out, size_t out_len, s
 pw_status pw_events(pw_world *world, size_t from, pw_told *out, size_t out_len, size_t *copied);
 
 /* Tells how many live boxes meet a question, and copies the handles of the first of them, in order of slots, as many as there
- * is room for. PW_ARGUMENT: it is no question. PW_NO_MEMORY. After both `out` is as before. */
+ * is room for. PW_ARGUMENT: no such kind of question, or a region whose lo > hi. PW_NO_MEMORY. After both `out` is as before. */
 pw_status pw_hits(pw_world *world, const pw_query *query, pw_handle *out, size_t out_len, size_t *count);
 
 /* The same for the boxes that a ray meets, in the order in which it first meets them; those that it meets at one place come by
@@ -243,14 +250,15 @@ pw_status pw_hits(pw_world *world, const pw_query *query, pw_handle *out, size_t
 pw_status pw_ray_hits(pw_world *world, const pw_ray *ray, pw_handle *out, size_t out_len, size_t *count);
 
 /* The same for the boxes that a moved box meets on its way, in the order in which it first meets them (those that it meets where it
- * stands come first), and then by their slots. PW_INVERTED: the box is none. PW_NO_MEMORY. */
+ * stands come first), and then by their slots. PW_INVERTED: lo > hi on some axis. PW_NO_MEMORY. */
 pw_status pw_cast_hits(pw_world *world, const pw_cast *cast, pw_handle *out, size_t out_len, size_t *count);
 
 /* The nearest live boxes to a place, at most `want` and at most PW_SLOTS, in rising order of the square of their distance (0 for a box
  * that holds it) and then of their slots. PW_NO_MEMORY. */
 pw_status pw_nearest(pw_world *world, const pw_near *near_to, pw_handle *out, size_t out_len, size_t *count);
 
-/* Marks the world as it stands, for rollback. It takes no memory. PW_FULL: PW_MOST_MARKS are held. */
+/* Marks the world as it stands, for rollback. It takes no memory, so that PW_NO_MEMORY comes of a spent world alone. PW_FULL:
+ * PW_MOST_MARKS are held. */
 pw_status pw_mark(pw_world *world);
 
 /* Goes back to the newest mark, which is then gone: the live boxes, their handles and those of later boxes, the pairs of the last frame

@@ -43,6 +43,9 @@ enum class Event : uint32_t { begin = PW_BEGIN, stay = PW_STAY, over = PW_OVER }
 
 inline Event event_of(const pw_told& told) { return Event(told.event); }
 
+// The handle of no box, stale in every world.
+inline constexpr pw_handle no_handle{0xffffffffu, 0xffffffffu};
+
 // Items that stand one behind the other, as std::span of C++20: of a vector, an array, or a pointer and a number. An empty
 // one leads to a place as well, since the library takes no null pointer.
 template <class Item>

@@ -118,14 +118,27 @@ static void leave_spent_world(void) {
     EXPECT(pw_close(&world) == PW_OK);
 }
 
-/* After a change, whether there is more to do for it: where memory was refused and the world isn't spent, the rest of it. */
-static bool goes_on(pw_status status, bool is_done) {
+static pw_world_info info_now(void) {
     pw_world_info info;
+    EXPECT(pw_info(&world, &info) == PW_OK);
+    return info;
+}
+
+static bool has_box(pw_handle handle, const pw_box *box) {
+    pw_live live;
+    return pw_get(&world, handle, &live) == PW_OK && !memcmp(&live.body, box, sizeof *box);
+}
+
+/* After a change, whether there is more to do for it: where memory was refused and the world isn't spent, the rest of it. Spent or not, the
+ * world is as what was done has made it: so many boxes, and the frames and marks that it had. */
+static bool goes_on(pw_status status, bool is_done, const pw_world_info *before, size_t boxes) {
     if (status != PW_NO_MEMORY) {
         EXPECT(status == PW_OK && is_done);
         return false;
     }
-    EXPECT(pw_info(&world, &info) == PW_OK);
+    pw_world_info info = info_now();
+    EXPECT(info.boxes == boxes && info.frames == before->frames && info.marks == before->marks);
+    EXPECT(!info.spent || info.structure == PW_PLAIN || info.structure == PW_SAP);
     if (info.spent) leave_spent_world();
     return !is_spent;
 }
@@ -136,42 +149,57 @@ static void add(size_t first, size_t count, int32_t shift) {
     size_t at = 0, done;
     pw_status status;
     for (size_t k = 0; k < count; k++) boxes[k] = box_of((int32_t)(first + k), shift);
+    pw_world_info before = info_now();
     do {
         TELLS(status, pw_add(&world, boxes + at, count - at, &how, handles + first + at, count - at, &done));
         at += done;
-    } while (goes_on(status, at == count));
+        if (status == PW_NO_MEMORY)
+            for (size_t k = 0; k < at; k++) EXPECT(has_box(handles[first + k], &boxes[k]));
+    } while (goes_on(status, at == count, &before, before.boxes + at));
 }
 
 static void move(size_t first, size_t count, int32_t shift) {
     pw_box boxes[BOXES];
+    pw_live were[BOXES];
     size_t at = 0, done;
     pw_status status;
-    for (size_t k = 0; k < count; k++) boxes[k] = box_of((int32_t)(first + k), shift);
+    for (size_t k = 0; k < count; k++) {
+        boxes[k] = box_of((int32_t)(first + k), shift);
+        EXPECT(pw_get(&world, handles[first + k], &were[k]) == PW_OK);
+    }
+    pw_world_info before = info_now();
     do {
         TELLS(status, pw_move(&world, handles + first + at, count - at, boxes + at, count - at, &done));
         at += done;
-    } while (goes_on(status, at == count));
+        if (status == PW_NO_MEMORY)
+            for (size_t k = 0; k < count; k++) EXPECT(has_box(handles[first + k], k < at ? &boxes[k] : &were[k].body));
+    } while (goes_on(status, at == count, &before, before.boxes));
 }
 
 static void remove_some(size_t first, size_t count) {
     size_t at = 0, done;
     pw_status status;
+    pw_world_info before = info_now();
     do {
         TELLS(status, pw_remove(&world, handles + first + at, count - at, &done));
         at += done;
-    } while (goes_on(status, at == count));
+        EXPECT(status == PW_OK || before.marks > 0);
+    } while (goes_on(status, at == count, &before, before.boxes - at));
 }
 
 static void mask(size_t k) {
     pw_status status;
+    pw_world_info before = info_now();
     do TELLS(status, pw_mask(&world, handles[k], (pw_masks){2, 2}));
-    while (goes_on(status, true));
+    while (goes_on(status, true, &before, before.boxes));
+    EXPECT(status == PW_OK || before.marks > 0);
 }
 
 static void back(void) {
     pw_status status;
+    pw_world_info before = info_now();
     do TELLS(status, pw_back(&world));
-    while (goes_on(status, true));
+    while (goes_on(status, true, &before, before.boxes));
 }
 
 static void update(void) {

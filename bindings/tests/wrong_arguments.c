@@ -134,7 +134,7 @@ static void wrong_adds(void) {
 }
 
 static void wrong_moves(void) {
-    pw_handle stale[5] = {{0, 1}, {BOXES, 0}, {PW_SLOTS, 0}, {0xffffffffu, 0xffffffffu}, {2, 0xffffffffu}};
+    pw_handle stale[5] = {{0, 1}, {BOXES, 0}, {PW_SLOTS, 0}, PW_NO_HANDLE, {2, 0xffffffffu}};
     pw_box inverted = inverted_on(2), to[2] = {boxes[1], boxes[0]};
     size_t done;
     for (int k = 0; k < 5; k++) {

@@ -18,7 +18,8 @@ pub enum Error {
     Closed,
     /// A region whose lower corner is above the upper one, or lengths that don't agree.
     Argument,
-    /// 4,294,967,295 handles were given or frames ended, or exchanges are counted out.
+    /// A number is at its end, which no game comes to: each slot without a box was given 4,294,967,295 times, as many frames ended as 64
+    /// bits count, or over sweep and prune 2^62 exchanges were counted since the last one.
     Exhausted,
     /// No mark is held to go back to.
     NoMark,
@@ -150,6 +151,14 @@ pub struct Handle {
     pub generation: u32,
 }
 
+impl Handle {
+    /// The handle of no box, stale in every world. (The default one is that of the first box.)
+    pub const NONE: Handle = Handle {
+        slot: u32::MAX,
+        generation: u32::MAX,
+    };
+}
+
 /// A live box.
 #[repr(C)]
 #[derive(Clone, Copy, Debug, Default, PartialEq, Eq)]
@@ -266,8 +275,8 @@ pub struct Info {
     structure: u32,
     spent: u32,
     pub boxes: u32,
-    pub frames: u32,
     pub marks: u32,
+    pub frames: u64,
     pub exchanges: u64,
 }
 
