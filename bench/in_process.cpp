@@ -2,6 +2,7 @@
 // boxes and the same questions. Text is nowhere. Both answers are compared by a sum before any time is told.
 //
 //     in_process BOXES FRAMES ROUNDS [LOAD..]
+//     in_process SCENE ROUNDS                   a scene of `add`, `move` and `frame` alone, as bench/physics.cpp writes them
 #include "pungwelair.h"
 #include <algorithm>
 #include <cmath>
@@ -111,6 +112,32 @@ Play made(const Load &load, int boxes, int frames) {
             play.questions.back().push_back({PW_REGION, all_groups, region.lo, region.hi});
             play.questions.back().push_back({PW_POINT, all_groups, a, a});
             play.questions.back().push_back({PW_SEGMENT, all_groups, a, b});
+        }
+    }
+    return play;
+}
+
+// The boxes of a scene, whose handles are the numbers of its adds, and the moves of each frame behind the first.
+Play read_scene(std::FILE *file) {
+    Play play;
+    std::vector<Move> moves;
+    char line[256];
+    bool is_first = true;
+    auto body_of = [](const char *text) {
+        int32_t raw[6];
+        char *end = nullptr;
+        for (int32_t &number : raw) number = int32_t(std::llround(std::strtod(text, &end) * unit)), text = end;
+        return pw_box{{raw[0], raw[1], raw[2]}, {raw[3], raw[4], raw[5]}};
+    };
+    while (std::fgets(line, sizeof line, file)) {
+        if (!std::strncmp(line, "add ", 4)) {
+            play.first.push_back(body_of(line + 4));
+        } else if (!std::strncmp(line, "move ", 5)) {
+            moves.push_back({uint32_t(std::atoi(line + 5)), body_of(std::strchr(line + 5, ' '))});
+        } else if (!std::strncmp(line, "frame", 5)) {
+            if (!is_first) play.moves.push_back(moves), play.questions.emplace_back();
+            is_first = false;
+            moves.clear();
         }
     }
     return play;
@@ -295,10 +322,31 @@ void play(const Named &named, const Play &play, Times &least) {
     for (int k = 0; k < 3; k++) least.kind[k] = std::min(least.kind[k], kind[k]);
 }
 
+int play_scene(const char *name, int rounds) {
+    std::FILE *file = std::fopen(name, "r");
+    if (!file) return std::fprintf(stderr, "no file %s\n", name), 2;
+    Play all = read_scene(file);
+    std::fclose(file);
+    constexpr size_t count = sizeof engines / sizeof *engines;
+    Times times[count];
+    for (int r = 0; r < rounds; r++)
+        for (size_t e = 0; e < count; e++) play(engines[e], all, times[e]);
+    size_t moves = 0;
+    for (auto &frame : all.moves) moves += frame.size();
+    std::printf("%s: %zu boxes, %zu frames, %zu moves; microseconds a frame of moves and pairs, least of %d\n", name, all.first.size(), all.moves.size(),
+                moves, rounds);
+    for (size_t e = 0; e < count; e++) {
+        if (times[e].sum != times[0].sum) return std::fprintf(stderr, "%s, %s: other pairs\n", name, engines[e].name), 1;
+        std::printf("%-22s %12.1f\n", engines[e].name, double(times[e].frame) / double(all.moves.size()) / 1000);
+    }
+    return 0;
+}
+
 } // namespace
 
 int main(int argc, char **argv) {
-    if (argc < 4) return std::fprintf(stderr, "usage: in_process BOXES FRAMES ROUNDS [LOAD..]\n"), 2;
+    if (argc == 3) return play_scene(argv[1], std::atoi(argv[2]));
+    if (argc < 4) return std::fprintf(stderr, "usage: in_process BOXES FRAMES ROUNDS [LOAD..], or in_process SCENE ROUNDS\n"), 2;
     int boxes = std::atoi(argv[1]), frames = std::atoi(argv[2]), rounds = std::atoi(argv[3]);
     constexpr size_t count = sizeof engines / sizeof *engines;
     std::printf("%d boxes, %d frames, least of %d; microseconds a frame of moves and pairs, nanoseconds a question\n", boxes, frames, rounds);
