@@ -1,2 +1,3 @@
 pub mod Newest
+pub mod ReadyIndex
 pub mod UndoneLists

@@ -1,3 +1,4 @@
 pub mod HeldMarks
 pub mod Marks
 pub mod Undone
+pub mod WayBack

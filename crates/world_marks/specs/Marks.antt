@@ -5,7 +5,7 @@ use Rattle.pair_events.specs.declared.hpair.HPair.{HPair}
 use Rattle.pair_events.specs.PairEvents.{is_in_order}
 use Rattle.world_marks.specs.declared.restored.Restored.{Restored}
 use Rattle.world_marks.specs.declared.undo.Undo.{Undo}
-use Rattle.world_marks.specs.Undone.{undone, AreUndoable, IsOnTheWay}
+use Rattle.world_marks.specs.Undone.{undone, AreUndoable}
 
 -- A mark: the frames and exchanges of its world, the pairs of its last frame where another came since, and what undoes each
 -- change since, the latest last.
@@ -47,12 +47,6 @@ keeping last m = record m { kept = Some (or_kept m.kept last) }
 pub record IsReturn (m : Mark) (t : Table) : Type 0 where
   pub undoable : AreUndoable m.undos t
   pub ordered : is_in_order (or_kept m.kept []) ≡ true
-
--- The way back to the mark, cut off: the latest changes are undone, and the mark has those that remain.
-pub record IsHalfway (older : List Mark) (m : Mark) (t : Table) (marks : List Mark) (u : Table) : Type 0 where
-  pub left : List Undo
-  pub way : IsOnTheWay m.undos left t u
-  pub held : marks ≡ older ++ record m { undos = left } ∷ []
 
 -- The way back to the mark: its table and its last pairs are there again, and the other marks are left.
 pub record IsBack (older : List Mark) (m : Mark) (answer : Option Restored) (marks : List Mark) (t u : Table) (last now : List HPair) : Type 0 where

@@ -1,124 +1,100 @@
-ghost use Rattle.std.specs.Prelude.{◌≡◌, ◌+◌, ◌*◌, ◌<◌, ◌≤◌, ◌^◌, [], true, false, vec_len, OnOk, OnErr};
+//! The way back over a list of changes, the latest first: in the index, and then in the table.
+
+ghost use Rattle.std.specs.Prelude.{◌≡◌, [], false, true, vec_len, OnOk, OnErr};
 ghost use Rattle.live_table.specs.Bodies.{bodies_of};
-ghost use Rattle.live_table.specs.Table.{IsTable, IsVacated, after_ungive, after_set_box, after_put_back};
-ghost use Rattle.world_marks.specs.Undone.{after_undo, IsLive, CanUndo, AreUndoable, IsOnTheWay};
+ghost use Rattle.live_table.specs.Table.{Table, IsTable};
+ghost use Rattle.world_marks.specs.Undone.{after_undo, undone, CanUndo, AreUndoable};
+ghost use Rattle.world_marks.specs.WayBack.{IsReadyFor};
 
 use crate::Undo;
 use broad_index::BroadPhase;
-use fixed_box::{FBox, NoMemory};
-use live_table::{Handle, Live, LiveTable, Stale};
+use fixed_box::{NoMemory, space_law};
+use live_table::{LiveTable, Stale, map_laws};
 
-// Undoes each change, the latest first. After an `Err` the index is spent, and the changes that remain are left. Exchanges are
+// The index gets the boxes that the table has once the changes are undone. After an `Err` the index is spent. Exchanges are
 // counted from 0 on at each step, so that however many steps there are, their number fits.
-pub(crate) fn undo_all<B: BroadPhase>(
-    undos: &mut Vec<Undo>,
+pub(crate) fn undo_in_index<B: BroadPhase>(
+    undos: &[Undo],
     index: &mut B,
-    table: &mut LiveTable,
+    table: &LiveTable,
 ) -> Result<(), NoMemory>
     requires sound { B.spent index.old ≡ false }
-    requires boxes { B.bodies index.old ≡ bodies_of table.old.entries }
-    requires undoable { AreUndoable undos.old.items table.old }
-    ensures all { OnOk result (undos.new.items ≡ []) }
-    ensures way { IsOnTheWay undos.old.items undos.new.items table.old table.new }
-    ensures table { IsTable table.new }
+    requires boxes { B.bodies index.old ≡ bodies_of table.now.entries }
+    requires undoable { AreUndoable undos.now table.now }
     ensures sound { OnOk result (B.spent index.new ≡ false) }
-    ensures boxes { OnOk result (B.bodies index.new ≡ bodies_of table.new.entries) }
+    ensures boxes { OnOk result (B.bodies index.new ≡ bodies_of (undone undos.now table.now).entries) }
+    ensures table { IsTable table.now }
     ensures err { OnErr result (B.spent index.new ≡ true) }
 {
     let _live = table.len();
-    'undone: while let Some(undo) = undos.pop() {
+    let mut left = undos;
+    'undone: while let Some((undo, sooner)) = left.split_last() {
+        left = sooner;
         index.clear_exchanges();
-        undo_one(&undo, index, table)?;
+        undo_box(undo, index)?;
     }
     Ok(())
 }
 
-// Undoes one change, in the table first. After an `Err` the index is spent.
-fn undo_one<B: BroadPhase>(
-    undo: &Undo,
-    index: &mut B,
-    table: &mut LiveTable,
-) -> Result<(), NoMemory>
+// Undoes one change in the index alone. After an `Err` the index is spent.
+fn undo_box<B: BroadPhase>(undo: &Undo, index: &mut B) -> Result<(), NoMemory>
     requires sound { B.spent index.old ≡ false }
-    requires boxes { B.bodies index.old ≡ bodies_of table.old.entries }
-    requires table { IsTable table.old }
-    requires can { CanUndo undo.now table.old }
+    requires ready { IsReadyFor undo.now (B.bodies index.old) }
     requires countable { B.exchanges index.old ≡ 0 }
-    ensures after { table.new ≡ after_undo table.old undo.now }
-    ensures table { IsTable table.new }
+    ensures table { (t : Table) → IsTable t → CanUndo undo.now t → IsTable (after_undo t undo.now) }
+    ensures boxes { (t : Table) → IsTable t → CanUndo undo.now t → B.bodies index.old ≡ bodies_of t.entries
+        → OnOk result (B.bodies index.new ≡ bodies_of (after_undo t undo.now).entries) }
     ensures sound { OnOk result (B.spent index.new ≡ false) }
-    ensures boxes { OnOk result (B.bodies index.new ≡ bodies_of table.new.entries) }
     ensures err { OnErr result (B.spent index.new ≡ true) }
 {
+    map_laws();
     match undo {
         Undo::Given { handle } => {
-            undo_give(*handle, index, table);
+            index.leave(handle.slot);
             Ok(())
         }
-        Undo::Moved { handle, body } => undo_move(*handle, *body, index, table),
-        Undo::Masked { handle, masks } => match table.set_masks(*handle, *masks) {
-            Ok(()) => Ok(()),
-            Err(Stale) => unreachable!(),
-        },
-        Undo::Taken { live } => undo_take(live, index, table),
+        Undo::Moved { handle, body } => {
+            space_law(body);
+            index.shift(handle.slot, *body)
+        }
+        Undo::Masked { .. } => Ok(()),
+        Undo::Taken { live } => {
+            space_law(&live.body);
+            index.add(live.handle.slot, live.body)
+        }
     }
 }
 
-// A box that was given goes.
-fn undo_give<B: BroadPhase>(handle: Handle, index: &mut B, table: &mut LiveTable)
-    requires sound { B.spent index.old ≡ false }
-    requires boxes { B.bodies index.old ≡ bodies_of table.old.entries }
-    requires live { IsLive handle table.old }
-    ensures after { table.new ≡ after_ungive table.old handle }
+// Undoes each change in the table, which takes no memory.
+pub(crate) fn undo_in_table(undos: &mut Vec<Undo>, table: &mut LiveTable)
+    requires undoable { AreUndoable undos.old.items table.old }
+    ensures all { undos.new.items ≡ [] }
+    ensures undone { table.new ≡ undone undos.old.items table.old }
     ensures table { IsTable table.new }
-    ensures sound { B.spent index.new ≡ false }
-    ensures boxes { B.bodies index.new ≡ bodies_of table.new.entries }
 {
-    table.ungive(handle);
-    index.leave(handle.slot);
+    let _live = table.len();
+    'undone: while let Some(undo) = undos.pop() {
+        undo_change(&undo, table);
+    }
 }
 
-// A box that was moved is where it was.
-fn undo_move<B: BroadPhase>(
-    handle: Handle,
-    body: FBox,
-    index: &mut B,
-    table: &mut LiveTable,
-) -> Result<(), NoMemory>
-    requires sound { B.spent index.old ≡ false }
-    requires boxes { B.bodies index.old ≡ bodies_of table.old.entries }
+// Undoes one change in the table.
+fn undo_change(undo: &Undo, table: &mut LiveTable)
     requires table { IsTable table.old }
-    requires live { IsLive handle table.old }
-    requires countable { B.exchanges index.old ≡ 0 }
-    ensures after { table.new ≡ after_set_box table.old handle body }
+    requires can { CanUndo undo.now table.old }
+    ensures after { table.new ≡ after_undo table.old undo.now }
     ensures table { IsTable table.new }
-    ensures sound { OnOk result (B.spent index.new ≡ false) }
-    ensures boxes { OnOk result (B.bodies index.new ≡ bodies_of table.new.entries) }
-    ensures err { OnErr result (B.spent index.new ≡ true) }
 {
-    let Ok(()) = table.set_box(handle, body) else {
-        unreachable!()
-    };
-    index.shift(handle.slot, body)
-}
-
-// A box that was taken out is in its place again.
-fn undo_take<B: BroadPhase>(
-    live: &Live,
-    index: &mut B,
-    table: &mut LiveTable,
-) -> Result<(), NoMemory>
-    requires sound { B.spent index.old ≡ false }
-    requires boxes { B.bodies index.old ≡ bodies_of table.old.entries }
-    requires table { IsTable table.old }
-    requires vacated { IsVacated live.now table.old }
-    requires countable { B.exchanges index.old ≡ 0 }
-    ensures after { table.new ≡ after_put_back table.old live.now }
-    ensures table { IsTable table.new }
-    ensures sound { OnOk result (B.spent index.new ≡ false) }
-    ensures boxes { OnOk result (B.bodies index.new ≡ bodies_of table.new.entries) }
-    ensures err { OnErr result (B.spent index.new ≡ true) }
-{
-    table.put_back(*live);
-    index.add(live.handle.slot, live.body)
+    match undo {
+        Undo::Given { handle } => table.ungive(*handle),
+        Undo::Moved { handle, body } => match table.set_box(*handle, *body) {
+            Ok(()) => (),
+            Err(Stale) => unreachable!(),
+        },
+        Undo::Masked { handle, masks } => match table.set_masks(*handle, *masks) {
+            Ok(()) => (),
+            Err(Stale) => unreachable!(),
+        },
+        Undo::Taken { live } => table.put_back(*live),
+    }
 }

@@ -1,3 +1,5 @@
+//! A mark that is held: what its world had, and the journal of what undoes each change since.
+
 ghost use Rattle.std.specs.Prelude.{◌≡◌, ◌<◌, ◌+◌, Some};
 ghost use Rattle.world_marks.specs.HeldMarks.{mark_of, spare_of};
 ghost use Rattle.world_marks.specs.Marks.{noted, keeping};
@@ -8,7 +10,7 @@ use pair_events::HPair;
 // A mark that is held.
 #[derive(Drop)]
 pub(crate) struct Held {
-    pub frames: u32,
+    pub frames: u64,
     pub exchanges: u64,
     // The pairs of the last frame before it, once another frame came.
     pub kept: Option<Vec<HPair>>,

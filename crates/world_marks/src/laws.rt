@@ -1,3 +1,5 @@
+//! The law of the number of marks, and laws of lists of changes.
+
 ghost use Rattle.std.specs.Prelude.{◌≡◌, ◌≤◌, ◌++◌, List};
 ghost use Rattle.std.specs.List.{sum};
 ghost use Rattle.live_table.specs.Table.{Table};

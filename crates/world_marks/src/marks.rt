@@ -1,12 +1,14 @@
+//! The stack of marks: mark, note what undoes each change, and go back to the newest.
+
 ghost use Rattle.std.specs.Prelude.{◌≡◌, ◌≢◌, ◌<◌, ◌≤◌, ◌+◌, ◌^◌, ◌↔◌, ◌++◌, [], ◌∷◌, List, Bool, true, false, length, Ok, None, Some, IfOk, OnOk};
 ghost use Rattle.std.specs.Prelude.{OnErr, not, nat_lt};
 ghost use Rattle.live_table.specs.Bodies.{bodies_of};
 ghost use Rattle.live_table.specs.Table.{IsTable};
 ghost use Rattle.world_marks.specs.declared.TheConstants.{MOST_MARKS};
-ghost use Rattle.world_marks.specs.Marks.{Mark, Marked, fresh, with_newest, noted, keeping, or_kept, IsReturn, IsBack, IsHalfway};
+ghost use Rattle.world_marks.specs.Marks.{Mark, Marked, fresh, with_newest, noted, keeping, or_kept, IsReturn, IsBack};
 ghost use Rattle.world_marks.specs.Undone.{undone};
 
-use crate::going_back::undo_all;
+use crate::going_back::{undo_in_index, undo_in_table};
 use crate::held::Held;
 use crate::{MOST_MARKS, Restored, Undo};
 use broad_index::BroadPhase;
@@ -78,7 +80,7 @@ impl Marks {
     }
 
     /// Marks a world that has these frames and exchanges. Where `MOST_MARKS` are held it answers false, and changes nothing.
-    pub fn mark(&mut self, frames: u32, exchanges: u64) -> bool
+    pub fn mark(&mut self, frames: u64, exchanges: u64) -> bool
         ensures held { result ≡ nat_lt (length self.old.marks) MOST_MARKS }
         ensures marked { result ≡ true → self.new.marks ≡ self.old.marks ++ fresh frames exchanges ∷ [] }
         ensures same { result ≡ false → self.new ≡ self.old }
@@ -134,9 +136,8 @@ impl Marks {
 
     /// Goes back to the newest mark, which is no longer held then. `None` comes where no mark is held.
     ///
-    /// The index counts its exchanges anew on the way, so that nothing is said of their number afterwards.
-    /// After an `Err` the index is spent, the latest changes are undone in the table, and the newest mark has those that
-    /// remain.
+    /// The index goes the whole way first, and counts its exchanges anew on it, so that nothing is said of their number
+    /// afterwards. After an `Err` the index is spent, and all else is as before.
     pub fn back<B: BroadPhase>(
         &mut self,
         index: &mut B,
@@ -154,17 +155,16 @@ impl Marks {
         ensures boxes { OnOk result (B.bodies index.new ≡ bodies_of table.new.entries) }
         ensures table { self.old.marks ≢ [] → IsTable table.new }
         ensures spent { OnErr result (B.spent index.new ≡ true) }
-        ensures halfway { (older : List Mark) (mark : Mark) → self.old.marks ≡ older ++ mark ∷ [] →
-            OnErr result (IsHalfway older mark table.old self.new.marks table.new) }
-        ensures pairs { OnErr result (pairs.new ≡ pairs.old) }
+        ensures err { OnErr result ((self.new ≡ self.old) × (table.new ≡ table.old) × (pairs.new ≡ pairs.old)) }
     {
         let Some(mut mark) = self.newest.take() else {
             return Ok(None);
         };
-        if undo_all(&mut mark.undos, index, table).is_err() {
+        if undo_in_index(&mark.undos, index, table).is_err() {
             self.newest = Some(mark);
             return Err(NoMemory);
         }
+        undo_in_table(&mut mark.undos, table);
         let Held {
             frames,
             exchanges,
