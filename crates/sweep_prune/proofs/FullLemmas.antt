@@ -7,7 +7,7 @@ use Rattle.std.specs.Ordering.{nat_cmp}
 use Rattle.fixed_box.specs.Bounds.{Bounds, meets}
 use Rattle.fixed_box.specs.declared.point.Point.{Point}
 use Rattle.broad_index.specs.Exchanges.{min_key, max_key}
-use Rattle.broad_index.specs.Members.{has_pair, is_near, both_meet}
+use Rattle.broad_index.specs.Members.{has_pair, both_meet}
 use Rattle.broad_index.specs.Near.{rises, near}
 use Rattle.broad_index.specs.declared.pair.Pair.{Pair}
 use Rattle.endpoint_list.specs.NodeList.{has}
@@ -112,6 +112,5 @@ meets_of (Some x) None = refl
 meets_of (Some x) (Some y) = meets_three x y
 
 pub near_are : (bodies : FinMap nat_cmp Bounds) (kx ky kz : List ℕ) (ls : Lists) (p : Pair) → SweepKeeps bodies kx ky kz ls
-    → has_pair (near bodies) p ≡ is_near bodies p → has_pair (near bodies) p ≡ is_three ls p
-near_are bodies kx ky kz ls p k m =
-    m ∙ ap (λ t. nat_lt p.a p.b && t) (sym (ap (λ n. n == 3) (places_are bodies kx ky kz ls p.a p.b k) ∙ meets_of (get bodies p.a) (get bodies p.b)))
+    → has_pair (near bodies) p ≡ (nat_lt p.a p.b && axes bodies p.a p.b == 3) → has_pair (near bodies) p ≡ is_three ls p
+near_are bodies kx ky kz ls p k m = m ∙ ap (λ n. nat_lt p.a p.b && n == 3) (sym (places_are bodies kx ky kz ls p.a p.b k))

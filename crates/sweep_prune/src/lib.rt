@@ -13,4 +13,5 @@ mod steps;
 pub mod walk;
 
 pub use axis::Axis;
+pub use laws::overlap_laws;
 pub use sap::Sap;

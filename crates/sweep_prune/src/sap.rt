@@ -1,3 +1,4 @@
+//! The broad phase itself: it keeps keys, endpoints and counts in step with a plain list of the boxes.
 ghost use Rattle.std.specs.Prelude.{◌≡◌, ◌<◌, ◌++◌, ◌*◌, ℕ, true, false, IfOk, OnOk, OnErr};
 ghost use Rattle.std.specs.FinMap as map;
 ghost use Rattle.broad_index.specs.Fresh.{IsFresh};
@@ -7,10 +8,10 @@ ghost use Rattle.sweep_prune.specs.Overlaps.{axes};
 ghost use Rattle.sweep_prune.specs.Places.{on, places};
 ghost use Rattle.sweep_prune.specs.declared.axis.Axis.{Axis};
 
-use crate::Axis;
 use crate::lists::push_nodes;
 use crate::moves::{Keys, move_box, place_box};
 use crate::walk::{Core, clear, enter, quit};
+use crate::{Axis, overlap_laws};
 use broad_index::{BroadPhase, NoSeeker, Pair, PlainIndex, Query, member_laws};
 use endpoint_list::NODES;
 use fixed_box::{FBox, NoMemory};
@@ -110,6 +111,8 @@ impl BroadPhase for Sap {
 
     ghost COUNTS = { true };
 
+    ghost RUNS_OUT = { true };
+
     ghost exchanges = { λ sap. sap.exchanges };
 
     // It changes nothing.
@@ -118,6 +121,8 @@ impl BroadPhase for Sap {
     type Shared = NoSeeker;
 
     ghost uncounted = { λ _ counts. absurd cc };
+
+    ghost lasting = { λ _ lasts. absurd cc };
 
     fn add(&mut self, slot: u32, body: FBox) -> Result<(), NoMemory> {
         if self.spent {
@@ -162,6 +167,7 @@ impl BroadPhase for Sap {
             return Err(NoMemory);
         }
         member_laws();
+        overlap_laws();
         self.core.push_full(out)
     }
 

@@ -47,6 +47,8 @@ impl BroadPhase for FailingIndex {
 
     ghost COUNTS = { false };
 
+    ghost RUNS_OUT = { true };
+
     ghost exchanges = { λ _. 0 };
 
     // It changes nothing.
@@ -55,6 +57,8 @@ impl BroadPhase for FailingIndex {
     type Shared = <PlainIndex as BroadPhase>::Shared;
 
     ghost uncounted = { λ _ _. refl };
+
+    ghost lasting = { λ _ lasts. absurd cc };
 
     fn add(&mut self, slot: u32, body: FBox) -> Result<(), NoMemory> {
         if self.fails() || self.spent {

@@ -1,7 +1,7 @@
 -- The maximum is still there once the minimum is taken out.
 use Rattle.std.proofs.Common.{◌++◌, ◌*◌, ◌+◌, ap, ◌∙◌}
 use Rattle.endpoint_list.specs.NodeList.{has}
-use Rattle.endpoint_list.proofs.NodeLemmas.{has_split}
+use Rattle.endpoint_list.specs.NodeLaws.{has_split}
 use Rattle.sweep_prune.proofs.QuitLemmas.{still_there, unlinked_both}
 use Rattle.sweep_prune.proofs.lists.withdraw.Goals as goal
 

@@ -11,6 +11,6 @@ returns-clause-ok c =
     let bodies = c.self.inside.plain.bodies in
     on_ok_weaker c.push_full.result
     (λ h. h (near bodies) (c.member_laws.ensures.near_rises bodies)
-    (λ p. near_are bodies _ _ _ c.self.inside.core.lists p k.1 (c.member_laws.ensures.near bodies p))
+    (λ p. near_are bodies _ _ _ c.self.inside.core.lists p k.1 (c.overlap_laws.ensures bodies p))
     ∙ ap (λ i. c.args.out.now.items ++ near i.bodies) c.self.view_is)
     c.push_full.ensures.ok
