@@ -1,19 +1,11 @@
 -- The order of whole numbers under a factor, and the order of fractions by cross products.
-use Rattle.std.proofs.Common.{◌≡◌, ◌∙◌, ◌+◌, ◌*◌, true, false, ℤ, pos, ◌*ℤ◌, neg_ℤ, ◌≤ℤ◌, ◌<ℤ◌, arith}
+use Rattle.std.proofs.Common.{◌≡◌, true, false, pos, ◌*ℤ◌, ◌≤ℤ◌, ◌<ℤ◌, arith}
 use Rattle.std.proofs.lemmas.Int.{ints}
-use borrow.Author.Differences.{up, down, product_is, neg_is}
 use Rattle.ray_slabs.specs.Crossing.{Fraction}
 pub use Rattle.fixed_box.proofs.Bools.{same_bool}
 pub use Rattle.fixed_box.proofs.Numbers.{le_of_test, test_of_le}
-pub use Rattle.ray_slabs.specs.ProductLaws.{sub_mul, add_mul, sub_mul_sub, mul_swap, scaled, unscaled, same_le}
+pub use Rattle.ray_slabs.specs.ProductLaws.{sub_mul, add_mul, sub_mul_sub, mul_swap, mul_neg, scaled, unscaled, same_le}
 use Rattle.ray_slabs.specs.Mirrored.{at_most}
-
--- more laws of products
-pub mul_neg : (a b : ℤ) → a *ℤ neg_ℤ b ≡ neg_ℤ (a *ℤ b)
-mul_neg a b =
-    let ups : up (a *ℤ neg_ℤ b) ≡ up a * down b + down a * up b = (product_is a (neg_ℤ b)).0 ∙ (λ i. up a * (neg_is b).0 i + down a * (neg_is b).1 i) in
-    let downs : down (a *ℤ neg_ℤ b) ≡ up a * up b + down a * down b = (product_is a (neg_ℤ b)).1 ∙ (λ i. up a * (neg_is b).1 i + down a * (neg_is b).0 i) in
-    omega (arith, ints)
 
 -- The order of fractions. The outer denominators may be 0.
 pub by_middle : (a b c : Fraction) → pos 0 ≤ℤ a.den → pos 0 <ℤ b.den → pos 0 ≤ℤ c.den → at_most a b ≡ true → at_most b c ≡ true → at_most a c ≡ true

@@ -1,4 +1,4 @@
--- Serves proofs alone: a slab mirrored where the line falls, and the tests by pairs of axes.
+-- Definitions: a slab mirrored where the line falls, and the tests of three such slabs by pairs of axes.
 use Rattle.std.specs.Prelude.{suc, ℤ, pos, negsuc, ◌-ℤ◌, ◌*ℤ◌, Bool, ◌&&◌, ◌||◌, int_lt, int_le, cond}
 use Rattle.ray_slabs.specs.Vector.{Vector}
 use Rattle.ray_slabs.specs.WideBounds.{WideBounds}

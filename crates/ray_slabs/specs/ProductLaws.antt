@@ -1,9 +1,9 @@
 -- Serves proofs alone: products over the whole numbers, in an order and under a swap.
-use Rattle.std.proofs.Common.{◌≡◌, ap, ◌∙◌, ◌+◌, ◌*◌, ℤ, pos, negsuc, ◌+ℤ◌, ◌-ℤ◌, ◌*ℤ◌, ◌≤ℤ◌, ◌<ℤ◌, int_le, arith}
+use Rattle.std.proofs.Common.{◌≡◌, ap, ◌∙◌, ◌+◌, ◌*◌, ℤ, pos, negsuc, ◌+ℤ◌, ◌-ℤ◌, ◌*ℤ◌, neg_ℤ, ◌≤ℤ◌, ◌<ℤ◌, int_le, arith}
 use Rattle.std.proofs.lemmas.Int.{ints}
 use Rattle.std.proofs.Math.IntN.{*ℤ_comm}
 use Rattle.std.proofs.Math.Nat.{mul-le-mul_left, le_of_mul-le-mul_left}
-use borrow.Author.Differences.{up, down, le_out, at_most_in, same_in, product_is}
+use borrow.Author.Differences.{up, down, le_out, at_most_in, same_in, product_is, neg_is}
 use Rattle.fixed_box.proofs.Bools.{same_bool}
 use Rattle.fixed_box.proofs.Numbers.{test_of_le, le_of_test}
 
@@ -32,6 +32,12 @@ mul_swap a b c =
     let downs : (x y z : ℤ) → down ((x *ℤ y) *ℤ z) ≡ (up x * up y + down x * down y) * down z + (up x * down y + down x * up y) * up z =
     λ x y z. (product_is (x *ℤ y) z).1 ∙ (λ i. (product_is x y).0 i * down z + (product_is x y).1 i * up z) in
     same_in ((a *ℤ b) *ℤ c) ((a *ℤ c) *ℤ b) (omega (arith, ups a b c, ups a c b, downs a b c, downs a c b))
+
+pub mul_neg : (a b : ℤ) → a *ℤ neg_ℤ b ≡ neg_ℤ (a *ℤ b)
+mul_neg a b =
+    let ups : up (a *ℤ neg_ℤ b) ≡ up a * down b + down a * up b = (product_is a (neg_ℤ b)).0 ∙ (λ i. up a * (neg_is b).0 i + down a * (neg_is b).1 i) in
+    let downs : down (a *ℤ neg_ℤ b) ≡ up a * up b + down a * down b = (product_is a (neg_ℤ b)).1 ∙ (λ i. up a * (neg_is b).1 i + down a * (neg_is b).0 i) in
+    omega (arith, ints)
 
 -- a factor above 0 keeps an order, and can be taken away
 pub scaled : (a b k : ℤ) → pos 0 ≤ℤ k → a ≤ℤ b → (a *ℤ k) ≤ℤ (b *ℤ k)

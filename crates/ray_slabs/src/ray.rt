@@ -7,7 +7,7 @@ ghost use Rattle.ray_slabs.specs.Vector.{Vector, is_at_most};
 ghost use Rattle.ray_slabs.specs.WideBounds.{WideBounds, encloses};
 ghost use Rattle.ray_slabs.specs.Law.{RayMeets, RayMeetsFirst};
 ghost use Rattle.ray_slabs.specs.First.{first, value_cmp};
-ghost use Rattle.ray_slabs.specs.Mirrored.{on_x, on_y, on_z};
+ghost use Rattle.ray_slabs.specs.Mirrored.{on_x, on_y, on_z, meet_ahead};
 ghost use Rattle.ray_slabs.specs.Examples.{at, opposite, between};
 
 use crate::axes::Axes;
@@ -45,11 +45,14 @@ pub fn ray_entry(ray: &Ray, body: &WBox) -> Option<Entry>
 
 /// A law for proofs, with nothing to run. A ray meets a box exactly where the fraction `p/q` of its direction is in the
 /// box on each axis, for some whole numbers `p >= 0` and `q > 0`. So it meets each box that encloses one that it meets.
+/// And it does exactly where no slab lies behind it and each two have a fraction in common, so that pairs of axes decide.
 pub fn ray_law()
     ensures fraction { (from dir : Vector) (body : WideBounds) →
         IsTrue (in_ray from dir body) ↔ RayMeets from dir body }
     ensures enclosed { (from dir : Vector) (outer inner : WideBounds) → IsTrue (encloses outer inner) →
         IsTrue (in_ray from dir inner) → IsTrue (in_ray from dir outer) }
+    ensures pairs { (from dir : Vector) (body : WideBounds) → IsTrue (is_at_most body.lo body.hi) →
+        meet_ahead (on_x from dir body) (on_y from dir body) (on_z from dir body) ≡ in_ray from dir body }
 {}
 
 /// A law for proofs, with nothing to run. Where a ray meets a box, it is in the box at the first fraction, and at no
