@@ -6,13 +6,13 @@ use Rattle.fixed_box.specs.declared.point.Point.{Point}
 use Rattle.fixed_box.specs.Bounds.{Bounds, meets}
 use Rattle.fixed_box.specs.Point.{is_at_most}
 use Rattle.fixed_box.specs.Space.{space}
-use Rattle.ray_slabs.specs.Crossing.{Slab}
-use Rattle.ray_slabs.specs.Mirrored.{mirrored, on_x, on_y, on_z, all_overlap}
+use Rattle.ray_slabs.specs.Crossing.{Slab, in_ray, in_seg}
+use Rattle.ray_slabs.specs.Mirrored.{mirrored, on_x, on_y, on_z, all_overlap, meet_ahead, meet_on_way}
 use Rattle.ray_slabs.specs.Vector.{Vector, widened, displacement}
 use Rattle.ray_slabs.specs.WideBounds.{WideBounds, widened_box}
+use Rattle.ray_slabs.specs.Vector as vector
 use Rattle.fixed_box.proofs.Numbers.{le_of_test}
 use Rattle.ray_slabs.specs.declared.seg.Seg.{Seg}
-use Rattle.ray_slabs.proofs.Answered.{ray_answer, seg_answer}
 use Rattle.broad_index.specs.declared.query.Query.{Query}
 use Rattle.broad_index.specs.declared.query.Query.TheVariants.{Between}
 use Rattle.broad_index.specs.Found.{query_meets}
@@ -39,15 +39,21 @@ pub segment : (seg : Seg) {query : Query} {from dir : Point} → query ≡ Betwe
     → line_of true (widened from) (widened dir) ≡ query
 segment seg e ea ed = (λ i. line_of true (ea i) (ed i)) ∙ (λ i. Between (record { a = seg.a; b = all_arrived seg.a seg.b i })) ∙ sym e
 
+-- the laws of rays and segments, which are decided by pairs of axes
+pub record LineLaws : Type 0 where
+  pub rays : (f d : Vector) (b : WideBounds) → IsTrue (vector.is_at_most b.lo b.hi) → meet_ahead (on_x f d b) (on_y f d b) (on_z f d b) ≡ in_ray f d b
+  pub segs : (a c : Vector) (b : WideBounds) → IsTrue (vector.is_at_most b.lo b.hi)
+      → meet_on_way (on_x a (displacement a c) b) (on_y a (displacement a c) b) (on_z a (displacement a c) b) ≡ in_seg a c b
+
 -- the test by pairs of axes
-line_answer : (ends : Bool) (f d : Vector) (body : Bounds) → IsTrue (is_at_most body.lo body.hi)
+line_answer : LineLaws → (ends : Bool) (f d : Vector) (body : Bounds) → IsTrue (is_at_most body.lo body.hi)
     → (is_met ends (on_x f d (widened_box body)) && is_met ends (on_y f d (widened_box body)) && is_met ends (on_z f d (widened_box body))
     && all_overlap (on_x f d (widened_box body)) (on_y f d (widened_box body)) (on_z f d (widened_box body))) ≡ query_meets (line_of ends f d) body
-line_answer true f d body h =
+line_answer laws true f d body h =
     let b : WideBounds = widened_box body in
     let w : d ≡ displacement f (moved f d) = sym (all_gone f d) in
-    seg_answer f (moved f d) b (λ i. on_x f (w i) b) (λ i. on_y f (w i) b) (λ i. on_z f (w i) b) h
-line_answer false f d body h = ray_answer f d (widened_box body) refl refl refl h
+    (λ i. meet_on_way (on_x f (w i) b) (on_y f (w i) b) (on_z f (w i) b)) ∙ laws.segs f (moved f d) b h
+line_answer laws false f d body h = laws.rays f d (widened_box body) h
 
 -- six tests by corners, and by axes
 by_axes : (a b c d e f : Bool) → (((a && b) && c) && ((d && e) && f)) ≡ (((a && d) && (b && e)) && (c && f))
@@ -111,19 +117,19 @@ seen from dir body =
     λ i. passes_is dir.x dir.y x y i && passes_is dir.x dir.z x z i && passes_is dir.y dir.z y z i
 
 -- So a box that meets the least one around the line is met by the line where it passes in each view.
-whole : {query : Query} {hull : Bounds} {slopes : Slopes} (body : Bounds) → IsPrepared query hull slopes → IsTrue (is_at_most body.lo body.hi)
+whole : LineLaws → {query : Query} {hull : Bounds} {slopes : Slopes} (body : Bounds) → IsPrepared query hull slopes → IsTrue (is_at_most body.lo body.hi)
     → IsTrue (meets space body) → (meets hull body && pass slopes body) ≡ query_meets query body
-whole {slopes = slopes} body p ordered in_space =
+whole laws {slopes = slopes} body p ordered in_space =
     let met_around = ap (λ b. meets b body) p.hull ∙ around p.ends slopes.from p.dir body p.start in_space in
     let passed = ap (λ s. pass s body) p.slopes ∙ seen slopes.from p.dir body in
     (λ i. met_around i && passed i)
-    ∙ line_answer p.ends (widened slopes.from) (widened p.dir) body ordered
+    ∙ line_answer laws p.ends (widened slopes.from) (widened p.dir) body ordered
     ∙ ap (λ query. query_meets query body) p.line
 
-pub passed_by : {query : Query} {hull : Bounds} {slopes : Slopes} (body : Bounds) → IsPrepared query hull slopes → IsTrue (is_at_most body.lo body.hi)
+pub passed_by : LineLaws → {query : Query} {hull : Bounds} {slopes : Slopes} (body : Bounds) → IsPrepared query hull slopes → IsTrue (is_at_most body.lo body.hi)
     → IsTrue (meets space body) → meets hull body ≡ false → false ≡ query_meets query body
-passed_by {slopes = slopes} body p ordered in_space out = (λ i. sym out i && pass slopes body) ∙ whole body p ordered in_space
+passed_by laws {slopes = slopes} body p ordered in_space out = (λ i. sym out i && pass slopes body) ∙ whole laws body p ordered in_space
 
-pub passed : {query : Query} {hull : Bounds} {slopes : Slopes} (body : Bounds) → IsPrepared query hull slopes → IsTrue (is_at_most body.lo body.hi)
+pub passed : LineLaws → {query : Query} {hull : Bounds} {slopes : Slopes} (body : Bounds) → IsPrepared query hull slopes → IsTrue (is_at_most body.lo body.hi)
     → IsTrue (meets space body) → meets hull body ≡ true → pass slopes body ≡ query_meets query body
-passed {slopes = slopes} body p ordered in_space near = (λ i. sym near i && pass slopes body) ∙ whole body p ordered in_space
+passed laws {slopes = slopes} body p ordered in_space near = (λ i. sym near i && pass slopes body) ∙ whole laws body p ordered in_space

@@ -1,11 +1,10 @@
 -- A line that is seen along an axis passes through a rectangle where the two slabs overlap.
-use Rattle.std.proofs.Common.{◌≡◌, refl, sym, ap, ◌∙◌, ℕ, cond, Bool, true, false, ◌&&◌, zero, suc, ℤ, pos, negsuc, neg_ℤ, ◌-ℤ◌, ◌*ℤ◌, int_le, arith}
+use Rattle.std.proofs.Common.{◌≡◌, sym, ap, ◌∙◌, ℕ, cond, ◌&&◌, zero, suc, ℤ, pos, negsuc, neg_ℤ, ◌-ℤ◌, ◌*ℤ◌, int_le, arith}
 use Rattle.std.proofs.lemmas.Int.{ints}
 use Rattle.ray_slabs.specs.Crossing.{Slab}
 use Rattle.ray_slabs.specs.Mirrored.{mirrored_by, enters_by, overlap}
-use Rattle.ray_slabs.specs.ProductLaws.{sub_mul, same_le}
+use Rattle.ray_slabs.specs.ProductLaws.{sub_mul, mul_neg, same_le}
 use Rattle.fixed_box.proofs.Numbers.{test_of_le}
-use Rattle.ray_slabs.proofs.Order.{mul_neg}
 use Rattle.prepared_query.specs.Slope.{Side, course, side, passes}
 use Rattle.fixed_box.proofs.Bools.{and_comm}
 

@@ -1,3 +1,4 @@
+//! A ray or a segment of 32 bits, asked first by the box around it and then by separating axes.
 ghost use Rattle.std.specs.Prelude.{◌≡◌, ◌↔◌, ◌-ℤ◌, true, false, IsTrue, None, IfSome, SomeIff};
 ghost use Rattle.fixed_box.specs.Bounds.{meets};
 ghost use Rattle.fixed_box.specs.Point.{is_at_most};
@@ -13,7 +14,7 @@ use crate::line_hull::line_hull;
 use crate::slopes::Slopes;
 use broad_index::Query;
 use fixed_box::{FBox, Fix, Point, space_law};
-use ray_slabs::WPoint;
+use ray_slabs::{WPoint, ray_law, seg_law};
 use std::marker::Model;
 
 /// A ray or a segment whose numbers fit 32 bits, prepared to be asked of many boxes. A box is asked at first whether it
@@ -82,6 +83,8 @@ impl BoxTest for LineTest {
 
     #[inline]
     fn meets(&self, body: &FBox) -> bool {
+        ray_law();
+        seg_law();
         corner_law(body);
         self.hull.overlaps(body) && self.slopes.pass(body)
     }

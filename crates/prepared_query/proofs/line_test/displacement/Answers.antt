@@ -1,13 +1,19 @@
 -- Each difference is that of the parts that were read.
-use Rattle.std.proofs.Common.{rules, ◌≡◌, ℤ, ◌-ℤ◌, to_z, of_z, w64, Option, SomeIff, IsTrue, subst}
+use Rattle.std.proofs.Common.{rules, arith, ◌≡◌, ◌∙◌, ◌^◌, ℤ, pos, neg_ℤ, ◌-ℤ◌, int_le, to_z, of_z, w64, Option, SomeIff, IsTrue, subst}
+use Rattle.std.proofs.lemmas.Bool.{and_parts}
+use Rattle.std.proofs.lemmas.Int.{ints}
 use Rattle.ray_slabs.specs.Vector.{is_in_reach}
-use Rattle.ray_slabs.proofs.Read.{read_back}
 use Rattle.prepared_query.specs.NarrowLine.{fits_i32}
 use Rattle.prepared_query.proofs.line_test.displacement.Goals as goal
 
 -- whether a difference fits, and what it is then
 abbrev Fitted : Option ℤ → ℤ → Type 0
 Fitted o z = SomeIff o (IsTrue (fits_i32 z)) z
+
+-- a part in reach fits 64 bits
+read_back : (z : ℤ) {v : ℤ} → IsTrue (is_in_reach z) → z ≡ v → to_z w64 (of_z w64 z) ≡ v
+read_back z h e =
+    let parts = and_parts (int_le (neg_ℤ (pos (2 ^ 34))) z) (int_le z (pos (2 ^ 34))) h in omega (arith, ints, parts.0, parts.1) ∙ e
 
 read : (o : Option ℤ) {p q b a : ℤ} → IsTrue (is_in_reach p) → p ≡ b → IsTrue (is_in_reach q) → q ≡ a
     → Fitted o (to_z w64 (of_z w64 p) -ℤ to_z w64 (of_z w64 q)) → Fitted o (b -ℤ a)
