@@ -1,4 +1,5 @@
 //! The list of endpoints on an axis: its calls by node number, and the laws of nodes in a list.
+
 ghost use Rattle.std.specs.Prelude.{◌≡◌, ◌<◌, ◌++◌, ◌∷◌, [], true, false, List, ℕ, IfOk, Some};
 ghost use Rattle.endpoint_list.specs.NodeList.{has, first_of, last_of, IsNodeList};
 

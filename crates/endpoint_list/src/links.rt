@@ -1,4 +1,5 @@
 //! The links to the next and the previous node, and how each call changes them.
+
 ghost use Rattle.std.specs.Prelude.{◌≡◌, ◌+◌, ◌<◌, ◌≤◌, length, slice_index, slice_set};
 ghost use Rattle.endpoint_list.specs.Links.{neighbour, put_next, put_prev, unlinked_next, unlinked_prev, exchanged_next, exchanged_prev};
 

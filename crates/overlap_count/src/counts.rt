@@ -1,4 +1,5 @@
 //! The counts of all pairs of slots, and for each slot the set of higher ones with which it overlaps on all axes.
+
 ghost use Rattle.std.specs.Prelude.{◌≡◌, ◌≢◌, ◌+◌, ◌-◌, ◌*◌, ◌<◌, ◌≤◌, ◌==◌, ◌&&◌, ◌||◌};
 ghost use Rattle.std.specs.Prelude.{◌++◌, true, ℕ, if◌then◌else◌, IfOk, OnOk, OnErr, length, take, vec_len};
 ghost use Rattle.broad_index.specs.declared.pair.Pair.{Pair};

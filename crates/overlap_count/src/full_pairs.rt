@@ -1,4 +1,5 @@
 //! The pairs of a set of slots, read by words of 64 slots.
+
 ghost use Rattle.std.specs.Prelude.{◌≡◌, ◌≢◌, ◌+◌, ◌*◌, ◌<◌, ◌≤◌, ◌++◌, ◌==◌, ◌^◌, ℕ, OnOk, length, slice_index, take, vec_len};
 ghost use Rattle.std.specs.Int.{bit_at};
 ghost use Rattle.overlap_count.specs.FullPairs.{pairs_with};

@@ -1,4 +1,5 @@
 //! The counts of one slot with lower slots, which grow as they are needed.
+
 ghost use Rattle.std.specs.Prelude.{◌≡◌, ◌≢◌, ◌+◌, ◌-◌, ◌*◌, ◌<◌, ◌≤◌, ◌==◌, ◌&&◌, [], true, not, nat_lt};
 ghost use Rattle.std.specs.Prelude.{ℕ, if◌then◌else◌, OnOk, OnErr, length, slice_index, slice_set};
 

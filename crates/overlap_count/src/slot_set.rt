@@ -1,4 +1,5 @@
 //! A set of slots, one bit each.
+
 ghost use Rattle.std.specs.Prelude.{◌≡◌, ◌+◌, ◌*◌, ◌<◌, ◌≤◌, ◌==◌, ◌++◌, []};
 ghost use Rattle.std.specs.Prelude.{ℕ, if◌then◌else◌, OnOk, OnErr, length, slice_index, slice_set, take, vec_len};
 ghost use Rattle.overlap_count.specs.FullPairs.{pairs_with};

@@ -1,4 +1,5 @@
 //! Counts in words of 64: each has one bit in either of two words, and changes without a branch.
+
 ghost use Rattle.std.specs.Prelude.{◌≡◌, ◌≢◌, ◌+◌, ◌-◌, ◌<◌, ◌≤◌, ◌==◌, ◌&&◌, true, ℕ, if◌then◌else◌};
 ghost use Rattle.std.specs.Int.{bit_at};
 ghost use Rattle.overlap_count.specs.SlotCounts.{blank, digit};

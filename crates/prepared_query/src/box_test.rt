@@ -1,4 +1,5 @@
 //! Whether a box meets a query that is asked of many boxes, compiled once for each kind of query.
+
 ghost use Rattle.std.specs.Prelude.{◌≡◌};
 ghost use Rattle.broad_index.specs.declared.query.Query.{Query};
 ghost use Rattle.broad_index.specs.declared.query.Query.TheVariants.{Region};

@@ -1,4 +1,5 @@
 //! A query that misses a box misses each box inside it.
+
 ghost use Rattle.std.specs.Prelude.{◌≡◌, false, IsTrue};
 ghost use Rattle.fixed_box.specs.Bounds.{Bounds, encloses};
 ghost use Rattle.broad_index.specs.declared.query.Query.{Query};

@@ -1,4 +1,5 @@
 //! The least box of space around a ray or a segment.
+
 ghost use Rattle.std.specs.Prelude.{◌≡◌};
 ghost use Rattle.prepared_query.specs.Prepared.{end_on, end_of, flat, line_hull};
 

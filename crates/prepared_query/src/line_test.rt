@@ -1,4 +1,5 @@
 //! A ray or a segment of 32 bits, asked first by the box around it and then by separating axes.
+
 ghost use Rattle.std.specs.Prelude.{◌≡◌, ◌↔◌, ◌-ℤ◌, true, false, IsTrue, None, IfSome, SomeIff};
 ghost use Rattle.fixed_box.specs.Bounds.{meets};
 ghost use Rattle.fixed_box.specs.Point.{is_at_most};

@@ -1,4 +1,5 @@
 //! An endless line seen along one axis, and whether it passes through a rectangle.
+
 ghost use Rattle.std.specs.Prelude.{◌≡◌, ◌-ℤ◌, ◌*ℤ◌, int_le};
 ghost use Rattle.prepared_query.specs.Slope.{course, side, passes, IsWay, IsGap};
 

@@ -1,4 +1,5 @@
 //! An endless line in its three views, and whether it passes through a box in each.
+
 ghost use Rattle.std.specs.Prelude.{◌≡◌};
 ghost use Rattle.prepared_query.specs.Prepared.{pass, pass_sides, side_x, side_y, side_z, slopes_of};
 

@@ -1,4 +1,5 @@
 //! The axes of space, and the coordinate of a point on each.
+
 ghost use Rattle.std.specs.Prelude.{◌≡◌};
 ghost use Rattle.sweep_prune.specs.Keyed.{coord};
 

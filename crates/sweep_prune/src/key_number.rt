@@ -1,4 +1,5 @@
 //! Endpoints as numbers whose order is that of the endpoints: by value, minima before maxima, then by slot.
+
 ghost use Rattle.std.specs.Prelude.{◌≡◌, ◌+◌, ◌*◌, ◌/◌, ◌%◌, ◌<◌};
 ghost use Rattle.endpoint_list.specs.declared.TheConstants.{NODES};
 ghost use Rattle.sweep_prune.specs.Endpoints.{NewKeys};

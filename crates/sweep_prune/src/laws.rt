@@ -1,4 +1,5 @@
 //! Why counts of overlaps tell which boxes meet, and the order of endpoints where two boxes touch.
+
 ghost use Rattle.std.specs.Prelude.{◌≡◌, ◌&&◌, ◌==◌, nat_lt, [], ◌∷◌, pos};
 ghost use Rattle.std.specs.Ordering.{nat_cmp};
 ghost use Rattle.std.specs.FinMap.{FinMap};

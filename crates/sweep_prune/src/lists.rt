@@ -1,4 +1,5 @@
 //! The endpoints of all boxes in order, one list for each axis, and how a node is carried to its place.
+
 ghost use Rattle.std.specs.Prelude.{◌≡◌, ◌<◌, ◌+◌, ◌*◌, true, false, ◌++◌, ◌∷◌, [], ℕ, List, IfOk, OnOk, take, vec_len};
 ghost use Rattle.endpoint_list.specs.NodeList.{has, first_of, IsDistinct};
 ghost use Rattle.sweep_prune.specs.Core.{appended, entered, withdrawn, left};

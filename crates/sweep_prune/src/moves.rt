@@ -1,4 +1,5 @@
 //! A box that moves or comes in: each of its endpoints walks to its new place on each axis.
+
 ghost use Rattle.std.specs.Prelude.{◌≡◌, ◌+◌, ◌<◌, ◌≤◌, ◌^◌, ℕ, true, false, Some, OnOk, ◌-◌, ◌*◌, List, ◌/◌, length, slice_index, slice_set};
 ghost use Rattle.std.specs.Ordering.{nat_cmp};
 ghost use Rattle.std.specs.FinMap.{FinMap, get, contains_key};

@@ -1,4 +1,5 @@
 //! How an exchange of two endpoints changes the count of their boxes.
+
 ghost use Rattle.std.specs.Prelude.{◌≡◌, ◌≢◌, ◌++◌, ◌∷◌, ◌/◌, ◌<◌, ℕ, List, true, false, OnOk, OnErr, min, max};
 ghost use Rattle.endpoint_list.specs.declared.TheConstants.{NODES};
 ghost use Rattle.overlap_count.specs.Counts.{count_of};
