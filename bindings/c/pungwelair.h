@@ -305,6 +305,17 @@ static inline pw_status pw_fix_above(float number, int32_t *out) {
     return pw_fix_above_32(bits, out);
 }
 
+static inline pw_status pw_fix_below_double(double number, int32_t *out) {
+    uint64_t bits;
+    memcpy(&bits, &number, sizeof bits);
+    return pw_fix_below_64(bits, out);
+}
+static inline pw_status pw_fix_above_double(double number, int32_t *out) {
+    uint64_t bits;
+    memcpy(&bits, &number, sizeof bits);
+    return pw_fix_above_64(bits, out);
+}
+
 /* How a box comes that nobody owns, that moves, and that every box sees: it is in the first group and sees all. */
 static inline pw_new pw_seen_by_all(void) {
     pw_new how = {{1u, 0xffffffffu}, {0u, 0u}};

@@ -95,7 +95,7 @@ inline std::optional<pw_box> box_around(const double lo[3], const double hi[3]) 
     return pw_box_around_double(lo, hi, &out) == PW_OK ? std::optional(out) : std::nullopt;
 }
 
-// The nearest raw numbers that are at most, and at least, a float.
+// The nearest raw numbers that are at most, and at least, a float or a double.
 inline std::optional<int32_t> fix_below(float number) {
     int32_t out;
     return pw_fix_below(number, &out) == PW_OK ? std::optional(out) : std::nullopt;
@@ -103,6 +103,15 @@ inline std::optional<int32_t> fix_below(float number) {
 inline std::optional<int32_t> fix_above(float number) {
     int32_t out;
     return pw_fix_above(number, &out) == PW_OK ? std::optional(out) : std::nullopt;
+}
+
+inline std::optional<int32_t> fix_below(double number) {
+    int32_t out;
+    return pw_fix_below_double(number, &out) == PW_OK ? std::optional(out) : std::nullopt;
+}
+inline std::optional<int32_t> fix_above(double number) {
+    int32_t out;
+    return pw_fix_above_double(number, &out) == PW_OK ? std::optional(out) : std::nullopt;
 }
 
 // A world, which is closed where it ends. It can be moved and not copied; what it was moved from is a closed world.

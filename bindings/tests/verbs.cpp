@@ -94,6 +94,8 @@ void floats() {
     EXPECT(around && around->lo.x == 6553 && around->hi.x == 6554 && around->lo.y == -6554 && around->hi.z == 0);
     EXPECT(!pungwelair::box_around(one, less) && pungwelair::box_around(less, one) && pungwelair::box_around(one, one)->lo.x == 65536);
     EXPECT(pungwelair::fix_below(0.1f) == 6553 && pungwelair::fix_above(0.1f) == 6554 && !pungwelair::fix_above(32768.0f));
+    /* A double isn't narrowed on the way: as a float this one is 30,000. */
+    EXPECT(pungwelair::fix_below(29999.99999) == 30000 * 65536 - 1 && pungwelair::fix_above(30000.00001) == 30000 * 65536 + 1);
 }
 
 // Each thread has a world of its own, made by another.

@@ -3,14 +3,15 @@
 use crate::library::{self, Bits};
 
 /// Why a call refused. A call that refuses changes nothing of a world but what its comment names.
-#[derive(Clone, Copy, Debug, PartialEq, Eq)]
+#[derive(Clone, Copy, Debug, PartialEq, Eq, Hash)]
 pub enum Error {
     /// No live box has the handle.
     Stale,
     /// 8,192 boxes live, or 64 marks are held.
     Full,
-    /// Memory ran out. After a change the world may be spent, which `info` tells: drop it, and add your boxes to another one. After
-    /// any other call all is as before.
+    /// Memory ran out, and what ran out wasn't done. After `add`, `shift` and `back` a world over `Plain` or `Sap` may be spent, which
+    /// `info` tells: it keeps what it had, so add its boxes to another one and drop it. One over `Tree` or `Grid` never is. After any
+    /// other call all is as before.
     NoMemory,
     /// A lower corner is above the upper one.
     Inverted,
@@ -66,18 +67,39 @@ pub(crate) fn told(status: u32) -> Result<(), Error> {
 }
 
 /// A batch stopped: so many of its items were done, and why the next one was not.
-#[derive(Clone, Copy, Debug, PartialEq, Eq)]
+#[derive(Clone, Copy, Debug, PartialEq, Eq, Hash)]
 pub struct Stopped {
+    /// How many items were done, and stay so.
     pub done: usize,
+    /// Why the item behind them was refused.
     pub error: Error,
 }
 
+impl std::fmt::Display for Stopped {
+    fn fmt(&self, to: &mut std::fmt::Formatter<'_>) -> std::fmt::Result {
+        write!(to, "{} were done, and then {}", self.done, self.error)
+    }
+}
+
+impl std::error::Error for Stopped {
+    fn source(&self) -> Option<&(dyn std::error::Error + 'static)> {
+        Some(&self.error)
+    }
+}
+
+impl From<Stopped> for Error {
+    /// The reason alone: how many were done is dropped.
+    fn from(stopped: Stopped) -> Error {
+        stopped.error
+    }
+}
+
 /// How a world keeps its boxes. The answers are the same; the costs are not.
-#[derive(Clone, Copy, Debug, PartialEq, Eq)]
+#[derive(Clone, Copy, Debug, PartialEq, Eq, Hash)]
 pub enum Structure {
     /// Tests every two: for a few hundred boxes.
     Plain = 0,
-    /// Sweep and prune: for boxes that move a little at a time and are rarely added.
+    /// Sweep and prune: if you want exchanges counted. It is slow by far if boxes go far or are added often.
     Sap = 1,
     /// A dynamic tree of enlarged boxes: where few boxes move, or much is asked.
     Tree = 2,
@@ -87,7 +109,7 @@ pub enum Structure {
 
 /// A place or a displacement, in raw units of 1/65,536.
 #[repr(C)]
-#[derive(Clone, Copy, Debug, Default, PartialEq, Eq)]
+#[derive(Clone, Copy, Debug, Default, PartialEq, Eq, PartialOrd, Ord, Hash)]
 pub struct Point {
     pub x: i32,
     pub y: i32,
@@ -96,7 +118,7 @@ pub struct Point {
 
 /// A closed box. Boxes that touch meet. One whose `lo` is above its `hi` on some axis is none, and is refused.
 #[repr(C)]
-#[derive(Clone, Copy, Debug, Default, PartialEq, Eq)]
+#[derive(Clone, Copy, Debug, Default, PartialEq, Eq, Hash)]
 pub struct Body {
     pub lo: Point,
     pub hi: Point,
@@ -126,11 +148,13 @@ pub struct Group {
 }
 
 impl Group {
-    pub fn new(owner: u32, fixed: bool) -> Group {
-        Group { owner, fixed: fixed.into() }
+    /// Of this owner, 0 for nobody's, and fixed or not.
+    pub const fn new(owner: u32, fixed: bool) -> Group {
+        Group { owner, fixed: fixed as u32 }
     }
 
-    pub fn is_fixed(&self) -> bool {
+    /// Whether the box is fixed.
+    pub const fn is_fixed(&self) -> bool {
         self.fixed != 0
     }
 }
@@ -145,7 +169,7 @@ pub struct How {
 
 /// What names a live box: its slot, and how often that slot was given before. Index your own slices by the slot.
 #[repr(C)]
-#[derive(Clone, Copy, Debug, Default, PartialEq, Eq, Hash)]
+#[derive(Clone, Copy, Debug, Default, PartialEq, Eq, PartialOrd, Ord, Hash)]
 pub struct Handle {
     pub slot: u32,
     pub generation: u32,
@@ -153,10 +177,7 @@ pub struct Handle {
 
 impl Handle {
     /// The handle of no box, stale in every world. (The default one is that of the first box.)
-    pub const NONE: Handle = Handle {
-        slot: u32::MAX,
-        generation: u32::MAX,
-    };
+    pub const NONE: Handle = Handle { slot: u32::MAX, generation: u32::MAX };
 }
 
 /// A live box.
@@ -170,14 +191,14 @@ pub struct Live {
 
 /// Two boxes that meet, `a`'s slot below `b`'s.
 #[repr(C)]
-#[derive(Clone, Copy, Debug, Default, PartialEq, Eq, Hash)]
+#[derive(Clone, Copy, Debug, Default, PartialEq, Eq, PartialOrd, Ord, Hash)]
 pub struct Pair {
     pub a: Handle,
     pub b: Handle,
 }
 
 /// What became of a pair.
-#[derive(Clone, Copy, Debug, PartialEq, Eq)]
+#[derive(Clone, Copy, Debug, PartialEq, Eq, Hash)]
 pub enum Event {
     Begin,
     Stay,
@@ -194,6 +215,7 @@ pub struct Told {
 }
 
 impl Told {
+    /// What became of it.
     pub fn event(&self) -> Event {
         match self.event {
             0 => Event::Begin,

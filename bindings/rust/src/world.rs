@@ -130,6 +130,12 @@ impl World {
         counted(status, count)
     }
 
+    /// The box that a ray meets first, and none if it meets none.
+    pub fn first_hit(&mut self, ray: Ray) -> Result<Option<Handle>, Error> {
+        let mut first = [Handle::NONE];
+        Ok((self.ray_hits(ray, &mut first)? > 0).then_some(first[0]))
+    }
+
     /// The same for a moved box, in the order in which it first meets the boxes on its way. `Inverted` where it is none.
     pub fn cast_hits(&mut self, cast: Cast, out: &mut [Handle]) -> Result<usize, Error> {
         let mut count = 0;
@@ -164,6 +170,12 @@ impl World {
         // SAFETY: the words are those that the last call left; `out` is a value of its own.
         told(unsafe { library::pw_info(&mut self.held, &mut out) })?;
         Ok(out)
+    }
+}
+
+impl std::fmt::Debug for World {
+    fn fmt(&self, to: &mut std::fmt::Formatter<'_>) -> std::fmt::Result {
+        to.debug_struct("World").finish_non_exhaustive()
     }
 }
 

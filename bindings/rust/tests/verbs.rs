@@ -100,6 +100,33 @@ fn refusals_and_empty_slices() {
     assert_eq!(world.hits(Query::Point(ORIGIN), 1, &mut []), Ok(1));
 }
 
+// A batch that stops is an error as others are, so that `?` takes it.
+#[test]
+fn stopped_batches_convert() {
+    fn moves_none(world: &mut World) -> Result<(), Error> {
+        world.shift_all(&[Handle::NONE], &[cube(0)])?;
+        Ok(())
+    }
+    fn removes_none(world: &mut World) -> Result<(), Box<dyn std::error::Error>> {
+        world.remove_all(&[Handle::NONE])?;
+        Ok(())
+    }
+    let mut world = World::new(Structure::Tree).unwrap();
+    assert_eq!(moves_none(&mut world), Err(Error::Stale));
+    assert_eq!(removes_none(&mut world).unwrap_err().to_string(), "0 were done, and then no live box has the handle");
+    assert_eq!(format!("{world:?}"), "World { .. }");
+}
+
+#[test]
+fn first_hits() {
+    let mut world = World::new(Structure::Grid).unwrap();
+    let ray = Ray { mask: 1, from: Point { x: -5, y: 5, z: 5 }, direction: Point { x: 2, y: 0, z: 0 } };
+    assert_eq!(world.first_hit(ray), Ok(None));
+    world.add(cube(50), How::default()).unwrap();
+    let near = world.add(cube(0), How::default()).unwrap();
+    assert_eq!(world.first_hit(ray), Ok(Some(near)));
+}
+
 #[test]
 fn floats() {
     let around = Body { lo: Point { x: 6553, y: -6554, z: 0 }, hi: Point { x: 6554, y: -6553, z: 0 } };
