@@ -1,3 +1,5 @@
+//! Pairs over frames: they begin, stay and are over, and former ones are set again.
+
 ghost use Rattle.std.specs.Prelude.{◌≡◌};
 
 use live_table::Handle;

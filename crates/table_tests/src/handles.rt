@@ -1,6 +1,7 @@
+//! Handles: slots given again under new generations, changes of live boxes, and which two may pair.
+
 use fixed_box::{FBox, Point, SLOTS};
 use live_table::{Full, Group, Handle, Live, LiveTable, Masks, Stale, may_pair};
-use std::process::Abort;
 use std::test::Fail;
 
 const ALL: Masks = Masks {
@@ -32,9 +33,7 @@ fn live(handle: Handle, body: FBox, masks: Masks) -> Live {
     }
 }
 
-// Gives a box a slot of a table that has given few.
-fn give(rt: &impl Abort, table: &mut LiveTable, body: FBox) -> Result<Handle, Full> {
-    assert!(rt; table.given() < 100_000);
+fn give(table: &mut LiveTable, body: FBox) -> Result<Handle, Full> {
     table.give(body, ALL, NOBODYS)
 }
 
@@ -43,14 +42,16 @@ fn freed_slots_are_given_again_under_a_new_generation(rt: HostRuntime) -> Result
     let body = body_at(0).ok_or("a flat box")?;
     let mut table = LiveTable::new(rt.alloc())?;
     for slot in 0..3 {
-        assert_eq!(rt; give(&rt, &mut table, body), Ok(under(slot, 0)));
+        assert_eq!(rt; give(&mut table, body), Ok(under(slot, 0)));
     }
     for slot in [1, 0] {
         table.take(under(slot, 0))?;
     }
     for slot in 0..2 {
-        assert_eq!(rt; give(&rt, &mut table, body), Ok(under(slot, 1)));
+        assert_eq!(rt; table.next(), Some(under(slot, 1)));
+        assert_eq!(rt; give(&mut table, body), Ok(under(slot, 1)));
     }
+    assert_eq!(rt; table.next(), Some(under(3, 0)));
     for slot in [1, 9000] {
         assert_eq!(rt; table.find(under(slot, 0)), Err(Stale), "slot {slot}");
     }
@@ -62,7 +63,7 @@ fn each_change_shows_in_the_live_box(rt: HostRuntime) -> Result<(), Fail> {
     let here = body_at(0).ok_or("a flat box")?;
     let there = body_at(65_536).ok_or("a flat box")?;
     let mut table = LiveTable::new(rt.alloc())?;
-    let handle = give(&rt, &mut table, here)?;
+    let handle = give(&mut table, here)?;
     let masks = Masks { is: 2, sees: 4 };
     assert_eq!(rt; table.find(handle), Ok(live(handle, here, ALL)));
     table.set_box(handle, there)?;
@@ -78,15 +79,15 @@ fn each_change_shows_in_the_live_box(rt: HostRuntime) -> Result<(), Fail> {
 fn changes_that_are_undone_leave_no_trace(rt: HostRuntime) -> Result<(), Fail> {
     let body = body_at(0).ok_or("a flat box")?;
     let mut table = LiveTable::new(rt.alloc())?;
-    let kept = give(&rt, &mut table, body)?;
-    let undone = give(&rt, &mut table, body)?;
+    let kept = give(&mut table, body)?;
+    let undone = give(&mut table, body)?;
     table.find(undone)?;
     table.ungive(undone);
     assert_eq!(rt; (table.at(1), table.len(), table.given()), (None, 1, 1));
     take_and_put_back(&mut table, kept)?;
     assert_eq!(rt; table.at(0), Some(live(kept, body, ALL)));
     assert_eq!(rt; (table.len(), table.given()), (1, 1));
-    assert_eq!(rt; give(&rt, &mut table, body), Ok(undone));
+    assert_eq!(rt; give(&mut table, body), Ok(undone));
     Ok(())
 }
 
@@ -101,16 +102,17 @@ fn a_table_is_full_at_8192_boxes(rt: HostRuntime) -> Result<(), Fail> {
     let body = body_at(0).ok_or("a flat box")?;
     let mut table = LiveTable::new(rt.alloc())?;
     for slot in 0..SLOTS {
-        assert_eq!(rt; give(&rt, &mut table, body), Ok(under(slot, 0)));
+        assert_eq!(rt; give(&mut table, body), Ok(under(slot, 0)));
     }
-    assert_eq!(rt; give(&rt, &mut table, body), Err(Full));
+    assert_eq!(rt; give(&mut table, body), Err(Full));
+    assert_eq!(rt; table.next(), None);
     for slot in [SLOTS - 1, 4000, 63, 64] {
         table.take(under(slot, 0))?;
     }
     for slot in [63, 64, 4000, SLOTS - 1] {
-        assert_eq!(rt; give(&rt, &mut table, body), Ok(under(slot, 1)));
+        assert_eq!(rt; give(&mut table, body), Ok(under(slot, 1)));
     }
-    assert_eq!(rt; give(&rt, &mut table, body), Err(Full));
+    assert_eq!(rt; give(&mut table, body), Err(Full));
     Ok(())
 }
 

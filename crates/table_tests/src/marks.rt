@@ -1,3 +1,5 @@
+//! Marks of a world: how many are held, and going back over a change.
+
 ghost use Rattle.std.specs.Prelude.{◌≡◌, true, false, OnOk};
 ghost use Rattle.live_table.specs.Bodies.{bodies_of};
 ghost use Rattle.pair_events.specs.PairEvents.{is_in_order};
@@ -31,9 +33,6 @@ fn enter(body: FBox, index: &mut PlainIndex, table: &mut LiveTable) -> Result<Ha
     ensures sound { OnOk result (index.new.spent ≡ false) }
     ensures boxes { OnOk result (index.new.bodies ≡ bodies_of table.new.entries) }
 {
-    if table.given() > 100 {
-        return Err("few boxes".into());
-    }
     let handle = table.give(body, SEEN, NOBODYS)?;
     index.add(handle.slot, body)?;
     Ok(handle)

@@ -1,3 +1,5 @@
+//! Boxes under slots: put, set, taken and listed.
+
 ghost use Rattle.std.specs.Prelude.{◌<◌};
 
 use fixed_box::{FBox, Fix, Point, SLOTS};
