@@ -1,8 +1,8 @@
 -- Serves proofs alone: a table whose boxes have the slots from 0 on, with no gap.
-use Rattle.std.specs.Prelude.{◌≡◌, ℕ, ◌+◌, ◌-◌, List, [], ◌∷◌, ◌++◌, suc, length, map, replicate, slice_set}
+use Rattle.std.specs.Prelude.{◌≡◌, ℕ, ◌+◌, ◌-◌, ◌<◌, ◌≤◌, true, false, List, [], ◌∷◌, ◌++◌, suc, length, map, replicate, is_none, slice_set}
 use Rattle.fixed_box.specs.declared.TheConstants.{SLOTS}
 use Rattle.live_table.specs.declared.live.Live.{Live}
-use Rattle.live_table.specs.Entries.{least_from, entered}
+use Rattle.live_table.specs.Entries.{live_at, entered}
 use Rattle.live_table.specs.Table.{Table}
 
 -- the entries have the slots from n on, with these generations
@@ -12,9 +12,10 @@ AreAt n [] (e ∷ es) = ⊥
 AreAt n (g ∷ gs) [] = ⊥
 AreAt n (g ∷ gs) (e ∷ es) = (e.handle ≡ record { slot = n; generation = g }) × AreAt (n + 1) gs es
 
--- the entries without the one of slot n + i: this is the least free slot, and a box that comes there closes the gap
+-- the entries without the one of slot n + i: each lower slot has one, this has none, and a box that comes there closes the gap
 pub record AreBut (n i : ℕ) (gs : List ℕ) (es : List Live) : Type 0 where
-  pub least : least_from n es ≡ n + i
+  pub taken : (slot : ℕ) → n ≤ slot → slot < n + i → is_none (live_at slot es) ≡ false
+  pub gap : (slot : ℕ) → slot ≡ n + i → is_none (live_at slot es) ≡ true
   pub count : length es + 1 ≡ length gs
   pub back : (new : Live) (g : ℕ) → new.handle ≡ record { slot = n + i; generation = g } → AreAt n (slice_set gs i g) (entered new es)
 

@@ -7,15 +7,15 @@ use Rattle.scene_drill.proofs.Parts.{scene_allowed}
 use Rattle.scene_drill.proofs.made_play.made_scene_is_played.Goals as goal
 
 pub returns-clause-allowed : goal.returns-clause-allowed
-returns-clause-allowed c seed boxes count some few = (scene_allowed seed boxes count some few).0
+returns-clause-allowed c seed boxes count some few short = (scene_allowed seed boxes count some few short).0
 
 pub returns-clause-header : goal.returns-clause-header
-returns-clause-header c seed boxes count some few = (scene_allowed seed boxes count some few).1
+returns-clause-header c seed boxes count some few short = (scene_allowed seed boxes count some few short).1
 
 pub returns-clause-done : goal.returns-clause-done
 returns-clause-done c shows seed boxes count some few frames =
     let scene = made_scene seed boxes count in
-    let ok = scene_allowed seed boxes count some few in
+    let ok = scene_allowed seed boxes count some few (omega (arith, frames)) in
     let many = c.made_scene_laws.ensures.count seed boxes count in
     let product : count * (boxes + 7) ≤ 100 * 8199 = mul-le count (boxes + 7) 100 8199 frames (omega (arith, few)) in
     let short : length scene ≤ MOST_LINES = omega (arith, many, product, few) in
