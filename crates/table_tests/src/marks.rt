@@ -115,8 +115,10 @@ fn sixty_four_marks_are_held_and_no_more(rt: HostRuntime) -> Result<(), Fail> {
     }
     assert!(rt; !marks.mark(64, 0));
     assert_eq!(rt; marks.held(), 64);
+    // room for one more change is room for few, so that many marks with a change each take little memory
     marks.room()?;
     assert!(rt; marks.spare() > 0);
+    assert!(rt; marks.spare() <= 16);
     Ok(())
 }
 
