@@ -17,4 +17,6 @@ mod pieces;
 #[cfg(test)]
 mod queries;
 #[cfg(test)]
+mod skins;
+#[cfg(test)]
 mod sweeps;

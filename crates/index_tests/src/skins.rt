@@ -1,0 +1,109 @@
+//! Boxes in skins over a list and over a tree: what moves within its skin, leaves it and goes is found by its exact box.
+
+ghost use Rattle.std.specs.Prelude.{◌<◌};
+
+use box_tree::BoxTree;
+use broad_index::{BroadPhase, Pair, PlainIndex, Query};
+use fixed_box::{FBox, NoMemory, Point, SLOTS};
+use skin_index::Skinned;
+use std::alloc::Global;
+use std::process::Abort;
+use std::test::Fail;
+
+// Sides long enough that a skin is wider than a step.
+const SIDE: i32 = 65_536;
+
+// A cube whose lower corner is at a place of the x axis.
+fn cube_at(x: i32) -> Option<FBox> {
+    let lo = Point { x, y: 0, z: 0 };
+    let hi = Point {
+        x: x.saturating_add(SIDE),
+        y: SIDE,
+        z: SIDE,
+    };
+    FBox::new(lo, hi)
+}
+
+// Puts a box under a slot, in place of the one that it has.
+fn put<B: BroadPhase>(index: &mut B, slot: u32, body: FBox) -> Result<(), NoMemory>
+    requires { slot < SLOTS }
+{
+    index.clear_exchanges();
+    if index.box_of(slot).is_some() {
+        index.shift(slot, body)
+    } else {
+        index.add(slot, body)
+    }
+}
+
+// Takes a slot out, if it is present.
+fn take<B: BroadPhase>(index: &mut B, slot: u32)
+    requires { slot < SLOTS }
+{
+    if index.box_of(slot).is_some() {
+        index.leave(slot);
+    }
+}
+
+// How many pairs there are, and how many boxes hold the upper end of the first cube.
+fn counts<B: BroadPhase>(alloc: Global, index: &mut B) -> Result<(usize, usize), NoMemory> {
+    let mut pairs: Vec<Pair> = Vec::new(alloc);
+    index.pairs(&mut pairs)?;
+    let mut slots = Vec::new(alloc);
+    index.hits(
+        &Query::Spot(Point {
+            x: SIDE,
+            y: 0,
+            z: 0,
+        }),
+        &mut slots,
+    )?;
+    Ok((pairs.len(), slots.len()))
+}
+
+// The boxes of two slots, of which the second stands at each of these places in turn, have so many pairs and hits there.
+fn follow<B: BroadPhase>(
+    alloc: Global,
+    index: &mut B,
+    steps: &[(i32, usize)],
+) -> Result<bool, Fail> {
+    put(index, 3, cube_at(0).ok_or("a cube")?)?;
+    for (x, met) in steps {
+        put(index, 5, cube_at(*x).ok_or("a cube")?)?;
+        if counts(alloc, index)? != (*met, met + 1) {
+            return Ok(false);
+        }
+    }
+    take(index, 5);
+    Ok(counts(alloc, index)? == (0, 1) && index.len() == 1)
+}
+
+// Within its skin, out of it, back, and far off: it touches the first cube at its end, and a raw step further it doesn't.
+const STEPS: [(i32, usize); 8] = [
+    (SIDE + 1, 0),
+    (SIDE, 1),
+    (SIDE - 100, 1),
+    (SIDE + 1, 0),
+    (SIDE + 9_000, 0),
+    (SIDE - 9_000, 1),
+    (40 * SIDE, 0),
+    (SIDE, 1),
+];
+
+#[test]
+fn boxes_in_skins_over_a_list_are_found(rt: HostRuntime) -> Result<(), Fail> {
+    let mut index = Skinned::new(rt.alloc(), PlainIndex::new(rt.alloc())?)?;
+    let done = follow(rt.alloc(), &mut index, &STEPS);
+    drop(index);
+    assert!(rt; done?);
+    Ok(())
+}
+
+#[test]
+fn boxes_in_skins_over_a_tree_are_found(rt: HostRuntime) -> Result<(), Fail> {
+    let mut index = Skinned::new(rt.alloc(), BoxTree::new(rt.alloc())?)?;
+    let done = follow(rt.alloc(), &mut index, &STEPS);
+    drop(index);
+    assert!(rt; done?);
+    Ok(())
+}
