@@ -18,7 +18,7 @@ use Rattle.slot_lists.specs.SlotMap.{entries_from, map_of}
 use Rattle.cell_table.specs.Cells.{bucket_of, IsDistinct as DistinctSlots, VisitsRow, has, same_cell, slots_in}
 use Rattle.slot_lists.specs.Links.{Fresh, Distinct}
 use Rattle.slot_lists.specs.LinkLaws.{distinct_is}
-use Rattle.cell_table.specs.Kept.{IsBucket, IsKept, Rings, picked, at, meets_test, ring_of, walk}
+use Rattle.cell_table.specs.Kept.{IsBucket, IsCellTable, Rings, picked, at, meets_test, ring_of, walk}
 use Rattle.slot_lists.specs.SlotMapLaws.{entries_of_map, get_map}
 use Rattle.cell_table.proofs.RingLemmas.{fresh_not, walk_ring}
 use Rattle.fixed_box.proofs.Numbers.{eqb_same, same_int}
@@ -219,7 +219,7 @@ in_own key (Some k) = elim (same_cell k key) as (λ b. same_cell k key ≡ b →
 ] refl
 
 -- what is picked from a bucket, sorted, is what the map has
-pub tail_is : (keys : List (Option CellKey)) (N P L xs : List ℕ) (key : CellKey) (ps : List ℕ) → IsKept keys N P L → bucket_of key < BUCKETS
+pub tail_is : (keys : List (Option CellKey)) (N P L xs : List ℕ) (key : CellKey) (ps : List ℕ) → IsCellTable keys N P L → bucket_of key < BUCKETS
     → ps ≡ picked key keys (walk N SLOTS (get_or N (SLOTS + bucket_of key) 0))
     → IsPermutation ps xs → IsSorted nat_cmp xs → xs ≡ slots_in (map_of keys) key
 tail_is keys N P L xs key ps k bl is p s =
@@ -237,7 +237,7 @@ tail_is keys N P L xs key ps k bl is p s =
     passes_is q None = refl
     passes_is q (Some c) = refl
 
-pub each_is : (keys : List (Option CellKey)) (N P L old mid new : List ℕ) (n : ℕ) (key : CellKey) (ps : List ℕ) → IsKept keys N P L
+pub each_is : (keys : List (Option CellKey)) (N P L old mid new : List ℕ) (n : ℕ) (key : CellKey) (ps : List ℕ) → IsCellTable keys N P L
     → bucket_of key < BUCKETS → ps ≡ picked key keys (walk N SLOTS (get_or N (SLOTS + bucket_of key) 0))
     → n ≡ length old → mid ≡ old ++ ps → take n new ≡ take n mid → IsPermutation (drop n mid) (drop n new) → IsSorted nat_cmp
     (drop n new) → new ≡ old ++ slots_in (map_of keys) key
@@ -256,7 +256,7 @@ pub some_passes : (p : CellKey → Bool) (o : Option CellKey) → meets_test p o
 some_passes p None h = h
 some_passes p (Some k) h = refl
 
-pub bucketed : (keys : List (Option CellKey)) (N P L : List ℕ) (key : CellKey) → IsKept keys N P L → bucket_of key < BUCKETS
+pub bucketed : (keys : List (Option CellKey)) (N P L : List ℕ) (key : CellKey) → IsCellTable keys N P L → bucket_of key < BUCKETS
     → IsBucket (map_of keys) key (ring_of N key)
 bucketed keys N P L key k bl =
     let r = k.rings (bucket_of key) bl in
@@ -268,7 +268,7 @@ bucketed keys N P L key k bl =
           ∙ some_passes (λ c. bucket_of c == bucket_of key) (get_or keys s None) (sym (ap (λ l. has l s) e ∙ r.members s) ∙ h);
     }
 
-pub row_visited : (keys : List (Option CellKey)) (N P L old new : List ℕ) (key : CellKey) (end : ℤ) → IsKept keys N P L
+pub row_visited : (keys : List (Option CellKey)) (N P L old new : List ℕ) (key : CellKey) (end : ℤ) → IsCellTable keys N P L
     → ((c : CellKey) → bucket_of c < BUCKETS) → Rings N key end old new → VisitsRow (map_of keys) key end old new
 row_visited keys N P L old new key end k below r = record {
   slots = r.slots;

@@ -1,5 +1,5 @@
 -- A table keeps what it keeps.
-use Rattle.std.proofs.Common.{◌≡◌, ◌≢◌, ℕ, zero, suc, ◌+◌, ◌-◌, ◌<◌, ◌≤◌, Bool, List, [], ◌∷◌, length, get_or, set, Option}
+use Rattle.std.proofs.Common.{◌≡◌, ℕ, zero, suc, ◌+◌, ◌-◌, ◌<◌, ◌≤◌, Bool, List, [], ◌∷◌, length, get_or, set, Option}
 use Rattle.std.proofs.Common.{None, Some, is_some, cond, ◌==◌, refl, sym, ap, ◌∙◌, arith, subst, false, true, inl, inr, count_by, map}
 use Rattle.std.specs.List.{filter}
 use Rattle.std.proofs.lemmas.List.{get_or_read, get_or-set_same, get_or-set_other, length-set}
@@ -14,7 +14,7 @@ use Rattle.cell_table.specs.declared.rings.TheConstants.{NODES}
 use Rattle.cell_table.specs.declared.cell_key.CellKey.{CellKey}
 use Rattle.slot_lists.specs.SlotMap.{entries_from, map_of}
 use Rattle.cell_table.specs.Cells.{bucket_of, slots_at}
-use Rattle.cell_table.specs.Kept.{Ring, IsKept, in_bucket, meets_test, put_next, put_prev, take_next, take_prev, slots_from}
+use Rattle.cell_table.specs.Kept.{Ring, IsCellTable, in_bucket, meets_test, put_next, put_prev, take_next, take_prev, slots_from}
 use Rattle.slot_lists.specs.SlotMapLaws.{get_map, entries_of_map}
 use Rattle.cell_table.proofs.RingLemmas.{put_same, put_other, take_same, take_other, Beside, take_inside}
 use Rattle.fixed_box.proofs.Numbers.{eqb_other}
@@ -33,9 +33,9 @@ same_tie x y e = grind (arith, nat_tests)
 abbrev level_is : ℕ → Option CellKey → Bool
 level_is l = meets_test (λ k. k.level == l)
 
-pub kept_put : (keys : List (Option CellKey)) (N P L : List ℕ) (s : ℕ) (key : CellKey) → IsKept keys N P L → s < SLOTS → key.level < LEVELS
+pub kept_put : (keys : List (Option CellKey)) (N P L : List ℕ) (s : ℕ) (key : CellKey) → IsCellTable keys N P L → s < SLOTS → key.level < LEVELS
     → bucket_of key < BUCKETS → get_or keys s None ≡ None
-    → IsKept (set keys s (Some key)) (put_next N s (SLOTS + bucket_of key)) (put_prev N P s (SLOTS + bucket_of key))
+    → IsCellTable (set keys s (Some key)) (put_next N s (SLOTS + bucket_of key)) (put_prev N P s (SLOTS + bucket_of key))
     (set L key.level (get_or L key.level 0 + 1))
 kept_put keys N P L s key k sl ll bl absent = record {
   keys_len = length-set keys s (Some key) ∙ k.keys_len;
@@ -76,9 +76,9 @@ kept_put keys N P L s key k sl ll bl absent = record {
   ];
 }
 
-pub kept_take : (keys : List (Option CellKey)) (N P L : List ℕ) (s : ℕ) (key : CellKey) → IsKept keys N P L → s < SLOTS → bucket_of key < BUCKETS
+pub kept_take : (keys : List (Option CellKey)) (N P L : List ℕ) (s : ℕ) (key : CellKey) → IsCellTable keys N P L → s < SLOTS → bucket_of key < BUCKETS
     → get_or keys s None ≡ Some key
-    → IsKept (set keys s None) (take_next N P s) (take_prev N P s) (set L key.level (get_or L key.level 0 - 1))
+    → IsCellTable (set keys s None) (take_next N P s) (take_prev N P s) (set L key.level (get_or L key.level 0 - 1))
 kept_take keys N P L s key k sl bl here =
     let ll : key.level < LEVELS = k.low s key here in
     let inb : in_bucket keys (bucket_of key) s ≡ true =
@@ -118,10 +118,10 @@ kept_take keys N P L s key k sl bl here =
     }
 
 -- the counts are small, and that of a present slot's level isn't 0
-pub count_few : (keys : List (Option CellKey)) (N P L : List ℕ) (l : ℕ) → IsKept keys N P L → l < LEVELS → get_or L l 0 ≤ SLOTS
+pub count_few : (keys : List (Option CellKey)) (N P L : List ℕ) (l : ℕ) → IsCellTable keys N P L → l < LEVELS → get_or L l 0 ≤ SLOTS
 count_few keys N P L l k ok = omega (arith, k.counted l ok, count_by-le-length (level_is l) keys, k.keys_len)
 
-pub count_some : (keys : List (Option CellKey)) (N P L : List ℕ) (s : ℕ) (key : CellKey) → IsKept keys N P L → s < SLOTS → get_or keys s None ≡ Some key
+pub count_some : (keys : List (Option CellKey)) (N P L : List ℕ) (s : ℕ) (key : CellKey) → IsCellTable keys N P L → s < SLOTS → get_or keys s None ≡ Some key
     → 1 ≤ get_or L key.level 0
 count_some keys N P L s key k sl here =
     let n = count_set (level_is key.level) keys s None None (omega (arith, k.keys_len)) in
@@ -145,7 +145,7 @@ within [] s h = absurd (false≢true h)
 within (o ∷ keys) zero h = omega arith
 within (o ∷ keys) (suc s) h = let l = within keys s h in omega arith
 
-pub beside_of : (keys : List (Option CellKey)) (N P L : List ℕ) (s : ℕ) (key : CellKey) → IsKept keys N P L → bucket_of key < BUCKETS
+pub beside_of : (keys : List (Option CellKey)) (N P L : List ℕ) (s : ℕ) (key : CellKey) → IsCellTable keys N P L → bucket_of key < BUCKETS
     → get_or keys s None ≡ Some key → Beside N P s
 beside_of keys N P L s key k bl here =
     take_inside keys N P (bucket_of key) s (k.rings (bucket_of key) bl) k.keys_len bl
@@ -177,7 +177,7 @@ pub record IsPresent (keys : List (Option CellKey)) (N P L : List ℕ) (s : ℕ)
   pub beside : Beside N P s
 
 pub present : (keys : List (Option CellKey)) (N P L : List ℕ) (cells : FinMap nat_cmp CellKey) (s : ℕ) (read : Option CellKey) (key : CellKey)
-    → IsKept keys N P L
+    → IsCellTable keys N P L
     → map_of keys ≡ cells → contains_key cells s ≡ true → read ≡ get_or keys s read → read ≡ Some key → IsPresent keys N P L s key
 present keys N P L cells s read key k seen has is key_is =
     let within : s < length keys = present_within keys cells s seen has in
@@ -230,7 +230,7 @@ count_none p (o ∷ keys) none =
 
 pub kept_new : (keys : List (Option CellKey)) (N P L : List ℕ) → length keys ≡ SLOTS → ((k : ℕ) → get_or keys k None ≡ None) → length N ≡ NODES
     → length P ≡ NODES → ((k : ℕ) → k < NODES → get_or N k 0 ≡ k) → ((k : ℕ) → k < NODES → get_or P k 0 ≡ k)
-    → length L ≡ LEVELS → ((k : ℕ) → get_or L k 0 ≡ 0) → IsKept keys N P L
+    → length L ≡ LEVELS → ((k : ℕ) → get_or L k 0 ≡ 0) → IsCellTable keys N P L
 kept_new keys N P L kl none nl pl ns ps ll zs = record {
   keys_len = kl;
   next_len = nl;

@@ -15,7 +15,7 @@ use Rattle.slot_lists.specs.SlotMapLaws.{get_map}
 use Rattle.cell_table.specs.declared.TheConstants.{BUCKETS}
 use Rattle.cell_table.specs.declared.cell_key.CellKey.{CellKey}
 use Rattle.cell_table.specs.Cells.{bucket_of, IsDistinct, has}
-use Rattle.cell_table.specs.Kept.{IsKept, AreRings, AreStarts, in_bucket, ring_in, rings_to}
+use Rattle.cell_table.specs.Kept.{IsCellTable, AreRings, AreStarts, in_bucket, ring_in, rings_to}
 use Rattle.cell_table.specs.Listed.{Lists, Stands}
 use Rattle.cell_table.proofs.EachLemmas.{has_contains, distinct_has, some_passes, bucketed}
 use Rattle.cell_table.proofs.KeptLemmas.{bucket_below}
@@ -126,7 +126,7 @@ pub rings_next : (N slots out : List ℕ) (n : ℕ) → slots ≡ rings_to N n �
 rings_next N slots out n was is =
     let e : suc n ≡ n + 1 = omega arith in is ∙ ap (λ l. l ++ ring_in N n) was ∙ sym (rings_more N n) ∙ ap (rings_to N) e
 
-module _ (keys : List (Option CellKey)) (N P L : List ℕ) (k : IsKept keys N P L) where
+module _ (keys : List (Option CellKey)) (N P L : List ℕ) (k : IsCellTable keys N P L) where
   -- what a ring has are the slots of its bucket
   ring_members : (b s : ℕ) → b < BUCKETS → has (ring_in N b) s ≡ in_bucket keys b s
   ring_members b s bl = let r = k.rings b bl in ap (λ l. has l s) (walk_ring keys N P b r k.keys_len) ∙ r.members s

@@ -36,7 +36,7 @@ pub record Ring (keys : List (Option CellKey)) (next prev : List ℕ) (b : ℕ) 
   pub members : (s : ℕ) → has slots s ≡ in_bucket keys b s
 
 -- each bucket's ring has exactly its slots, and each level's number is that of its slots
-pub record IsKept (keys : List (Option CellKey)) (next prev levels : List ℕ) : Type 0 where
+pub record IsCellTable (keys : List (Option CellKey)) (next prev levels : List ℕ) : Type 0 where
   pub keys_len : length keys ≡ SLOTS
   pub next_len : length next ≡ NODES
   pub prev_len : length prev ≡ NODES

@@ -1,3 +1,4 @@
+//! The hash table of cells: which cell each slot is in, put, taken and found in constant time.
 ghost use Rattle.std.specs.Prelude.{◌≡◌, ℕ, ◌+◌, ◌<◌, ◌++◌, true, false, Some, IfOk, OnOk, OnErr, length, take};
 ghost use Rattle.std.specs.FinMap as map;
 ghost use Rattle.cell_table.specs.declared.cell_key.CellKey as key;
@@ -33,7 +34,7 @@ impl Model for CellTable {
     ghost use Rattle.cell_table.specs.declared.cell_key.CellKey.{CellKey};
     ghost use Rattle.cell_table.specs.Cells.{coded_key};
     ghost use Rattle.slot_lists.specs.SlotMap.{map_of};
-    ghost use Rattle.cell_table.specs.Kept.{IsKept};
+    ghost use Rattle.cell_table.specs.Kept.{IsCellTable};
 
     ghost Value = { FinMap nat_cmp CellKey };
 
@@ -41,7 +42,7 @@ impl Model for CellTable {
 
     ghost view = { λ t. map_of t.keys.items };
 
-    ghost invariant = { λ t. IsKept t.keys.items t.next.items t.prev.items t.levels.items };
+    ghost invariant = { λ t. IsCellTable t.keys.items t.next.items t.prev.items t.levels.items };
 }
 
 impl CellTable {

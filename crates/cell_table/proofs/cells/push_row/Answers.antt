@@ -3,7 +3,6 @@ use Rattle.std.proofs.Common.{◌≡◌, ◌++◌, [], length, ap, sym, ◌∙�
 use Rattle.std.proofs.lemmas.Bool.{or_cases, false≢true}
 use Rattle.std.proofs.lemmas.Int.{ints}
 use Rattle.std.proofs.lemmas.List.{take-append-le, take_all, length-take}
-use Rattle.std.specs.Prelude.{ℤ}
 use Rattle.cell_table.specs.Cells.{has}
 use Rattle.cell_table.specs.Kept.{IsLinked, ring_of}
 use Rattle.cell_table.proofs.RingLemmas.{has_append, has_left, has_right}
