@@ -102,25 +102,6 @@ decimal_point n count b text e low high =
     let r : is_run 10 count [] ≡ true = grind (arith, nat_tests) in
     ap (λ x. decimal_after n count (slice_split is_point (x ∷ text))) e ∙ fraction_by_split n count text (slice_split is_point text) (split_of text) r
 
-step_parts : (n count b : ℕ) (parts : List (List ℕ)) → is_ascii_digit b ≡ true
-    → decimal_after n count (onto_first b parts) ≡ decimal_after (10 * n + (b - 48)) (count + 1) parts
-step_parts n count b [] h =
-    ap (λ r. number_if r (digits_value_after 10 n (b ∷ [])) 0 1) (run_step 10 count b [] h)
-    ∙ ap (λ v. number_if (is_run 10 (count + 1) []) v 0 1) (value_step n b [] h)
-step_parts n count b (ds ∷ []) h =
-    ap (λ r. number_if r (digits_value_after 10 n (b ∷ ds)) 0 1) (run_step 10 count b ds h)
-    ∙ ap (λ v. number_if (is_run 10 (count + 1) ds) v 0 1) (value_step n b ds h)
-step_parts n count b (ds ∷ fs ∷ []) h =
-    ap (λ r. if r then with_fraction (digits_value_after 10 n (b ∷ ds)) fs else None) (run_step 10 count b ds h)
-    ∙ ap (λ v. if is_run 10 (count + 1) ds then with_fraction v fs else None) (value_step n b ds h)
-step_parts n count b (ds ∷ fs ∷ gs ∷ more) h = refl
-
-pub decimal_step : (n count b : ℕ) (text : List ℕ) → is_ascii_digit b ≡ true → decimal_after n count (slice_split is_point (b ∷ text))
-    ≡ decimal_after (10 * n + (b - 48)) (count + 1) (slice_split is_point text)
-decimal_step n count b text h =
-    ap (λ t. decimal_after n count (cond t ([] ∷ slice_split is_point text) (onto_first b (slice_split is_point text)))) (digit_no_point b h)
-    ∙ step_parts n count b (slice_split is_point text) h
-
 -- a byte at which no number goes on
 stop_parts : (n count b : ℕ) (parts : List (List ℕ)) → ((ds : List ℕ) → is_run 10 count (b ∷ ds) ≡ false) → decimal_after n count (onto_first b parts) ≡ None
 stop_parts n count b [] h = ap (λ r. number_if r (digits_value_after 10 n (b ∷ [])) 0 1) (h [])
