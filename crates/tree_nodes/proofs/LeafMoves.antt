@@ -6,7 +6,7 @@ use Rattle.slab.specs.Slab.{Slab, get, slab_len}
 use Rattle.fixed_box.specs.Bounds.{Bounds, hull as union}
 use Rattle.tree_nodes.specs.declared.node_view.NodeView.{NodeView}
 use Rattle.tree_nodes.specs.declared.node_view.NodeView.TheVariants.{Inner}
-use Rattle.tree_nodes.specs.Moved.{moved, leaf_moved, refitted}
+use Rattle.tree_nodes.specs.Moved.{with_fat, leaf_moved, refitted}
 use Rattle.tree_nodes.specs.Path.{Leads, ToMove}
 use Rattle.tree_nodes.specs.Rotation.{Children}
 use Rattle.tree_nodes.specs.Stored.{Holds, Sound, SoundIn, StandsAt}
@@ -75,11 +75,11 @@ down slab at left right next k hu node path rest t w e p =
     }
 
 pub children_moved : (old new : Slab NodeView) (at left right next k : ℕ) (hu : Bounds) (node : ℕ) (rest : List ℕ) (t : Tree) (fat : Bounds)
-    → ((m : ℕ) (u : Tree) → ToMove old next m rest u → StandsAt new next (moved m fat u))
+    → ((m : ℕ) (u : Tree) → ToMove old next m rest u → StandsAt new next (with_fat m fat u))
     → ((m : ℕ) (u v : Tree) → ToMove old next m rest u → ((x : ℕ) → count_of u x + count_of v x ≤ 1) → Holds old v → Holds new v)
-    → IsSome (get new at) → (d : OneStep old at left right next k hu node rest t) → Children new at left right (moved node fat d.f) (moved node fat d.g)
+    → IsSome (get new at) → (d : OneStep old at left right next k hu node rest t) → Children new at left right (with_fat node fat d.f) (with_fat node fat d.g)
 children_moved old new at left right next k hu node rest t fat there kept some d =
-    let apart : (x : ℕ) → one at x + (count_of (moved node fat d.f) x + count_of (moved node fat d.g) x) ≤ 1 = λ x. let a = d.apart x in let p =
+    let apart : (x : ℕ) → one at x + (count_of (with_fat node fat d.f) x + count_of (with_fat node fat d.g) x) ≤ 1 = λ x. let a = d.apart x in let p =
     moved_counts node fat d.f x in let q = moved_counts node fat d.g x in omega arith in
     let hf = moved_height node fat d.f d.left_balanced in
     let hg = moved_height node fat d.g d.right_balanced in
@@ -114,12 +114,12 @@ children_moved old new at left right next k hu node rest t fat there kept some d
 
 -- where the bounds of the child that is next stay, the node stands as it did
 pub bounds_stay : (old : Slab NodeView) (at left right next k : ℕ) (hu : Bounds) (node : ℕ) (rest : List ℕ) (t : Tree) (fat : Bounds)
-    → ((m : ℕ) (u : Tree) → ToMove old next m rest u → bounds (moved m fat u) ≡ bounds u) → Balanced t
+    → ((m : ℕ) (u : Tree) → ToMove old next m rest u → bounds (with_fat m fat u) ≡ bounds u) → Balanced t
     → (d : OneStep old at left right next k hu node rest t)
-    → refitted at (moved node fat d.f) (moved node fat d.g) ≡ fork at hu k (moved node fat d.f) (moved node fat d.g)
+    → refitted at (with_fat node fat d.f) (with_fat node fat d.g) ≡ fork at hu k (with_fat node fat d.f) (with_fat node fat d.g)
 bounds_stay old at left right next k hu node rest t fat same bal d =
-    let f = moved node fat d.f in
-    let g = moved node fat d.g in
+    let f = with_fat node fat d.f in
+    let g = with_fat node fat d.g in
     let fits : Balanced (fork at hu k d.f d.g) = subst Balanced d.is bal in
     let both : (bounds f ≡ bounds d.f) × (bounds g ≡ bounds d.g) = ⊎_elim
     (λ on.
@@ -141,13 +141,13 @@ bounds_stay old at left right next k hu node rest t fat same bal d =
     ∙ ap (λ x. fork at hu x f g) (sym fits.0.height_is)
 
 pub node_stays : (old new : Slab NodeView) (at left right next k : ℕ) (hu : Bounds) (node : ℕ) (rest : List ℕ) (t : Tree) (fat : Bounds)
-    → ((m : ℕ) (u : Tree) → ToMove old next m rest u → bounds (moved m fat u) ≡ bounds u)
+    → ((m : ℕ) (u : Tree) → ToMove old next m rest u → bounds (with_fat m fat u) ≡ bounds u)
     → ((m j : ℕ) (u : Tree) → ToMove old next m rest u → count_of u j ≡ 0 → get new j ≡ get old j) → get old at ≡ Some (Inner left right hu k) → Balanced t
-    → (d : OneStep old at left right next k hu node rest t) → Children new at left right (moved node fat d.f) (moved node fat d.g)
-    → StandsAt new at (moved node fat t)
+    → (d : OneStep old at left right next k hu node rest t) → Children new at left right (with_fat node fat d.f) (with_fat node fat d.g)
+    → StandsAt new at (with_fat node fat t)
 node_stays old new at left right next k hu node rest t fat same others e bal d p =
-    let f = moved node fat d.f in
-    let g = moved node fat d.g in
+    let f = with_fat node fat d.f in
+    let g = with_fat node fat d.g in
     let a = d.apart at in
     let o : one at at ≡ 1 = one_same at in
     let z : (count_of d.f at ≡ 0) × (count_of d.g at ≡ 0) = (omega arith, omega arith) in
@@ -156,14 +156,14 @@ node_stays old new at left right next k hu node rest t fat same others e bal d p
     let rg : top g ≡ right = p.right_kept.is_at in
     let here : get new at ≡ Some (Inner (top f) (top g) hu k) = cc in
     let holds : Holds new (fork at hu k f g) = (here, p.left_kept.holds, p.right_kept.holds) in
-    subst (λ x. StandsAt new at (moved node fat x)) (sym d.is)
+    subst (λ x. StandsAt new at (with_fat node fat x)) (sym d.is)
     (record { holds = subst (Holds new) (sym (bounds_stay old at left right next k hu node rest t fat same bal d)) holds; is_at = refl })
 
 pub same_bounds : (old : Slab NodeView) (at left right next k : ℕ) (hu : Bounds) (node : ℕ) (rest : List ℕ) (t : Tree) (fat : Bounds)
-    → ((m : ℕ) (u : Tree) → ToMove old next m rest u → bounds (moved m fat u) ≡ bounds u) → Balanced t
-    → (d : OneStep old at left right next k hu node rest t) → bounds (moved node fat t) ≡ bounds t
+    → ((m : ℕ) (u : Tree) → ToMove old next m rest u → bounds (with_fat m fat u) ≡ bounds u) → Balanced t
+    → (d : OneStep old at left right next k hu node rest t) → bounds (with_fat node fat t) ≡ bounds t
 same_bounds old at left right next k hu node rest t fat same bal d =
-    subst (λ x. bounds (moved node fat x) ≡ bounds x) (sym d.is) (ap bounds (bounds_stay old at left right next k hu node rest t fat same bal d))
+    subst (λ x. bounds (with_fat node fat x) ≡ bounds x) (sym d.is) (ap bounds (bounds_stay old at left right next k hu node rest t fat same bal d))
 
 -- what the path does not use stays
 pub others_stay : (old new : Slab NodeView) (at left right next k j : ℕ) (hu : Bounds) (node : ℕ) (rest : List ℕ) (t : Tree)
@@ -195,12 +195,12 @@ leaf_elsewhere old new at node path t v w free kept held =
     let a = free at in
     frame old new at kept v (omega arith) held
 
-pub sound_moved : (old new : Slab NodeView) (node : ℕ) (fat : Bounds) (t : Tree) → Sound old t → Holds new (moved node fat t) → slab_len new ≡ slab_len old
-    → Sound new (moved node fat t)
+pub sound_moved : (old new : Slab NodeView) (node : ℕ) (fat : Bounds) (t : Tree) → Sound old t → Holds new (with_fat node fat t) → slab_len new ≡ slab_len old
+    → Sound new (with_fat node fat t)
 sound_moved old new node fat t s h len =
     let sz = moved_size node fat t in
     let a = size_leaves t in
-    let b = size_leaves (moved node fat t) in
+    let b = size_leaves (with_fat node fat t) in
     let few = s.few in
     let c = s.counted in
     record {
@@ -209,12 +209,12 @@ sound_moved old new node fat t s h len =
       balanced = moved_balanced node fat t s.balanced;
       few = omega arith;
       counted = omega arith;
-      slots = λ k. let x = s.slots k in let y : sum_by (λ x. one x.slot k) (leaves (moved node fat t)) ≡ sum_by (λ x. one x.slot k) (leaves t) =
+      slots = λ k. let x = s.slots k in let y : sum_by (λ x. one x.slot k) (leaves (with_fat node fat t)) ≡ sum_by (λ x. one x.slot k) (leaves t) =
           moved_slots node fat t k in omega arith;
     }
 
 pub moved_in : (slab : Slab NodeView) (root : Option ℕ) (o p q : Option Tree) (node : ℕ) (fat : Bounds) → SoundIn slab root o → o ≡ p
-    → q ≡ option_map (moved node fat) p → (leaves_in q ≡ map (leaf_moved node fat) (leaves_in p)) × (height_in q ≡ height_in p)
+    → q ≡ option_map (with_fat node fat) p → (leaves_in q ≡ map (leaf_moved node fat) (leaves_in p)) × (height_in q ≡ height_in p)
 moved_in slab root o None q node fat s e is = rw is (refl, refl)
 moved_in slab None None (Some t) q node fat s e is = cc
 moved_in slab None (Some u) (Some t) q node fat s e is = absurd s.0

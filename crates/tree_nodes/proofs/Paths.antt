@@ -1,5 +1,5 @@
 -- A leaf is found by its box.
-use Rattle.std.proofs.Common.{◌≡◌, ℕ, suc, ◌+◌, ◌<◌, ◌≤◌, max, Bool, true, false, cond, eqb, Some, List, [], ◌++◌, reverse, length, take}
+use Rattle.std.proofs.Common.{◌≡◌, ℕ, suc, ◌+◌, ◌<◌, ◌≤◌, max, Bool, true, false, Some, List, [], ◌++◌, reverse, length, take}
 use Rattle.std.proofs.Common.{drop, refl, sym, ap, ◌∙◌, subst, arith}
 use Rattle.std.specs.List.{refill}
 use Rattle.std.proofs.lemmas.List.{length-reverse}
@@ -10,10 +10,9 @@ use Rattle.tree_nodes.specs.declared.node_view.NodeView.{NodeView}
 use Rattle.tree_nodes.specs.declared.node_view.NodeView.TheVariants.{Leaf, Inner}
 use Rattle.tree_nodes.specs.Parts.{height_shown}
 use Rattle.tree_nodes.specs.Path.{Leads, ToSearch, PathFound}
-use Rattle.tree_nodes.specs.Tree.{Tree, fork, bounds, height, Balanced, view_at, or_else, view_of}
+use Rattle.tree_nodes.specs.Tree.{Tree, fork, bounds, height, Balanced, view_at}
 use Rattle.tree_nodes.proofs.Opened.{height_in_slab}
 use Rattle.tree_nodes.proofs.Rotations.{children}
-use Rattle.tree_nodes.proofs.Views.{or_cases}
 
 -- what a search outside a hull tells
 pub outside : (slab : Slab NodeView) (at left right k node : ℕ) (hu fat : Bounds) (t : Tree)
@@ -40,23 +39,6 @@ both_below slab at left right k hu t w e =
     let fl : suc (height c.0) ≤ k = grind (arith) in
     let gl : suc (height c.1) ≤ k = grind (arith) in
     (c.0, c.1, c.2, record { kept = c.3; balanced = b.1; low = omega arith }, record { kept = c.4; balanced = b.2; low = omega arith }, fl, gl, low)
-
-pub neither : (at k node : ℕ) (hu fat : Bounds) (f g : Tree) (a b : Bool) (p q : List ℕ) → PathFound node fat f a p → a ≡ false → PathFound node fat g b q
-    → b ≡ false → PathFound node fat (fork at hu k f g) false q
-neither at k node hu fat f g a b p q s un s2 un2 =
-    let z : q ≡ [] = s2.missed un2 in
-    let len : length q ≡ 0 = ap length z in
-    record {
-      leads = λ q. cc;
-      missed = λ _. z;
-      none = λ x _ h. elim (eqb at node) as (λ y. cond y (Some (view_of (fork at hu k f g))) (or_else (view_at f node) (view_at g node)) ≡ Some (Leaf x fat)
-          → ⊥) [
-            | true ↦ λ h. cc
-            | false ↦ λ h. or_cases (λ v. v ≡ Leaf x fat → ⊥) (view_at f node) (view_at g node) (Leaf x fat) (λ u o same. s.none x un (o ∙ ap Some same))
-                (λ u o same. s2.none x un2 (o ∙ ap Some same)) h refl
-          ] h;
-      short = omega arith;
-    }
 
 pub falls : (slab : Slab NodeView) (at b k : ℕ) (t f : Tree) → ToSearch slab at t → ToSearch slab b f → height t ≡ k → suc (height f) ≤ k
     → height_shown (get slab b) < height_shown (get slab at)

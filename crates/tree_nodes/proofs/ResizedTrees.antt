@@ -5,7 +5,7 @@ use Rattle.slab.specs.Slab.{Slab, get, slab_len}
 use Rattle.fixed_box.specs.Bounds.{Bounds, hull as union}
 use Rattle.tree_nodes.specs.declared.node_view.NodeView.{NodeView}
 use Rattle.tree_nodes.specs.declared.node_view.NodeView.TheVariants.{Leaf, Inner}
-use Rattle.tree_nodes.specs.Moved.{moved, refitted}
+use Rattle.tree_nodes.specs.Moved.{with_fat, refitted}
 use Rattle.tree_nodes.specs.Resized.{with_bounds, resized, Raises, Rebounded}
 use Rattle.tree_nodes.specs.Stored.{Holds, Sound}
 use Rattle.tree_nodes.specs.Tree.{Tree, tip, fork, top, bounds, height, count_of, one, Balanced, Within, view_at, or_else, view_of}
@@ -271,32 +271,32 @@ viewed_counted t k v e = ⊎_elim (λ lt. let z = not_viewed t k (omega arith) i
 
 -- a leaf that gets another box
 pub leaf_resized : (node s : ℕ) (b c : Bounds) (t : Tree) → Balanced t → ((k : ℕ) → count_of t k ≤ 1) → view_at t node ≡ Some (Leaf s c)
-    → resized node b t ≡ moved node b t
+    → resized node b t ≡ with_fat node b t
 leaf_resized node s b c (tip n sl d) bal apart e = refl
 leaf_resized node s b c (fork n h k l r) bal apart e =
     let whole : (j : ℕ) → one n j + (count_of l j + count_of r j) ≤ 1 = apart in
     let a = whole node in
     elim (eqb n node) as (λ x. cond x (Some (view_of (fork n h k l r))) (or_else (view_at l node) (view_at r node)) ≡ Some (Leaf s c)
-    → cond x (fork n b k l r) (refitted n (resized node b l) (resized node b r)) ≡ refitted n (moved node b l) (moved node b r)) [
+    → cond x (fork n b k l r) (refitted n (resized node b l) (resized node b r)) ≡ refitted n (with_fat node b l) (with_fat node b r)) [
       | true ↦ λ e. cc
       | false ↦ λ e. or_cases
-          (λ v. v ≡ Leaf s c → refitted n (resized node b l) (resized node b r) ≡ refitted n (moved node b l) (moved node b r))
+          (λ v. v ≡ Leaf s c → refitted n (resized node b l) (resized node b r) ≡ refitted n (with_fat node b l) (with_fat node b r))
           (view_at l node) (view_at r node) (Leaf s c)
           (λ v g same.
           let used = viewed_counted l node v g in
           let z : count_of r node ≡ 0 = omega arith in
           ap (λ x. refitted n x (resized node b r)) (leaf_resized node s b c l bal.1 (λ j. let y = whole j in omega arith) (g ∙ ap Some same))
-          ∙ ap (λ x. refitted n (moved node b l) x) (elsewhere node b r bal.2 z ∙ sym (unmoved node b r bal.2 z)))
+          ∙ ap (λ x. refitted n (with_fat node b l) x) (elsewhere node b r bal.2 z ∙ sym (unmoved node b r bal.2 z)))
           (λ v g same.
           let used = viewed_counted r node v g in
           let z : count_of l node ≡ 0 = omega arith in
           ap (λ x. refitted n x (resized node b r)) (elsewhere node b l bal.1 z ∙ sym (unmoved node b l bal.1 z))
-          ∙ ap (λ x. refitted n (moved node b l) x)
+          ∙ ap (λ x. refitted n (with_fat node b l) x)
           (leaf_resized node s b c r bal.2 (λ j. let y = whole j in omega arith) (g ∙ ap Some same))) e refl
     ] e
 
 -- a slab in which a leaf has another box
 pub sound_resized : (old new : Slab NodeView) (node s : ℕ) (b c : Bounds) (t : Tree) → Sound old t → view_at t node ≡ Some (Leaf s c)
-    → Holds new (resized node b t) → slab_len new ≡ slab_len old → Sound new (moved node b t)
+    → Holds new (resized node b t) → slab_len new ≡ slab_len old → Sound new (with_fat node b t)
 sound_resized old new node s b c t sound e held len =
     sound_moved old new node b t sound (subst (Holds new) (leaf_resized node s b c t sound.balanced sound.apart e) held) len

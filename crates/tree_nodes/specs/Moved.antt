@@ -8,9 +8,9 @@ abbrev pub refitted : ℕ → Tree → Tree → Tree
 refitted n l r = fork n (hull (bounds l) (bounds r)) (1 + max (height l) (height r)) l r
 
 -- the same nodes in the same places, with another box at the leaf with the number, and each inner node refitted
-abbrev pub moved : ℕ → Bounds → Tree → Tree
-moved node fat (tip n s b) = tip n s (if n == node then fat else b)
-moved node fat (fork n h k l r) = refitted n (moved node fat l) (moved node fat r)
+abbrev pub with_fat : ℕ → Bounds → Tree → Tree
+with_fat node fat (tip n s b) = tip n s (if n == node then fat else b)
+with_fat node fat (fork n h k l r) = refitted n (with_fat node fat l) (with_fat node fat r)
 
 -- a leaf, with another box where it has the number
 abbrev pub leaf_moved : ℕ → Bounds → Leaf → Leaf

@@ -1,3 +1,4 @@
+//! Laws of balanced trees with nothing to run: hulls enclose leaves, and heights stay low.
 ghost use Rattle.std.specs.Prelude.{◌≡◌, ℕ, ◌≤◌, length, false, IsTrue};
 ghost use Rattle.std.specs.List.{All, Contains};
 ghost use Rattle.fixed_box.specs.Bounds.{Bounds, encloses, meets};
@@ -19,6 +20,7 @@ pub fn tree_laws()
         All (λ x. IsTrue (meets x.fat q) → IsTrue (meets (bounds t) q)) (leaves t) }
     ensures missed { (t : Tree) (q : Bounds) → Balanced t → meets (bounds t) q ≡ false →
         All (λ x. meets x.fat q ≡ false) (leaves t) }
+    ensures some { (t : Tree) → 1 ≤ length (leaves t) }
     ensures fewest { (t : Tree) → Balanced t → fewest (height t) ≤ length (leaves t) }
     ensures height { (t : Tree) → Balanced t → length (leaves t) ≤ SLOTS → height t ≤ MOST_HEIGHT }
     ensures limits { MOST_HEIGHT ≡ 18 }

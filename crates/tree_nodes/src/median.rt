@@ -1,10 +1,11 @@
+//! A split of leaves at the median along the axis on which their centres spread most.
 ghost use Rattle.std.specs.Prelude.{◌≤◌, length};
 ghost use Rattle.std.specs.List.Sorted.{IsPermutation};
 
 use crate::leaf_key::{Along, AlongX, AlongY, AlongZ, LeafKey, middle};
 use fixed_box::Point;
 
-enum Axis {
+enum SplitAxis {
     X,
     Y,
     Z,
@@ -12,7 +13,7 @@ enum Axis {
 
 // How far centres reach on the axis on which they spread most.
 struct Spread {
-    axis: Axis,
+    axis: SplitAxis,
     lo: i32,
     hi: i32,
 }
@@ -32,9 +33,9 @@ pub(crate) fn divide(keys: &mut [LeafKey], place: usize)
     }
     let Spread { axis, lo, hi } = greatest_spread(keys);
     match axis {
-        Axis::X => divide_along::<AlongX>(keys, place, lo, hi),
-        Axis::Y => divide_along::<AlongY>(keys, place, lo, hi),
-        Axis::Z => divide_along::<AlongZ>(keys, place, lo, hi),
+        SplitAxis::X => divide_along::<AlongX>(keys, place, lo, hi),
+        SplitAxis::Y => divide_along::<AlongY>(keys, place, lo, hi),
+        SplitAxis::Z => divide_along::<AlongZ>(keys, place, lo, hi),
     }
 }
 
@@ -81,7 +82,7 @@ fn partition<A: Along>(keys: &mut [LeafKey], from: usize, to: usize, pivot: i32)
 fn greatest_spread(keys: &[LeafKey]) -> Spread {
     let [first, rest @ ..] = keys else {
         return Spread {
-            axis: Axis::X,
+            axis: SplitAxis::X,
             lo: 0,
             hi: 0,
         };
@@ -110,19 +111,19 @@ fn longest_side(lo: &Point, hi: &Point) -> Spread {
     let z = hi.z.abs_diff(lo.z);
     if y <= x && z <= x {
         Spread {
-            axis: Axis::X,
+            axis: SplitAxis::X,
             lo: lo.x,
             hi: hi.x,
         }
     } else if z <= y {
         Spread {
-            axis: Axis::Y,
+            axis: SplitAxis::Y,
             lo: lo.y,
             hi: hi.y,
         }
     } else {
         Spread {
-            axis: Axis::Z,
+            axis: SplitAxis::Z,
             lo: lo.z,
             hi: hi.z,
         }

@@ -1,6 +1,7 @@
+//! A leaf whose box changes in its place, and the hulls above it: by the kept parents, or else from the root down.
 ghost use Rattle.std.specs.Prelude.{◌≡◌, ℕ, false, option_map};
 ghost use Rattle.slab.specs.Slab.{get};
-ghost use Rattle.tree_nodes.specs.Moved.{moved};
+ghost use Rattle.tree_nodes.specs.Moved.{with_fat};
 ghost use Rattle.tree_nodes.specs.Path.{ToMove};
 ghost use Rattle.tree_nodes.specs.Stored.{Holds, SoundIn, tree_of, StandsAt, Apart, KeepsKeys};
 ghost use Rattle.tree_nodes.specs.Tree.{Tree, bounds, count_of, IsLeafOf};
@@ -27,7 +28,7 @@ pub(crate) fn move_in_place(
     requires sound { SoundIn slab.old root (tree_of slab.old root) }
     requires leaf { IsLeafOf (tree_of slab.old root) node }
     ensures sound { SoundIn slab.new root (tree_of slab.new root) }
-    ensures moved { tree_of slab.new root ≡ option_map (moved node fat.now) (tree_of slab.old root) }
+    ensures moved { tree_of slab.new root ≡ option_map (with_fat node fat.now) (tree_of slab.old root) }
     ensures capacity { slab.new.capacity ≡ slab.old.capacity }
 {
     let Some(at) = root else {
@@ -53,7 +54,7 @@ fn move_from_root(
     requires sound { SoundIn slab.old root (tree_of slab.old root) }
     requires leaf { IsLeafOf (tree_of slab.old root) node }
     ensures sound { SoundIn slab.new root (tree_of slab.new root) }
-    ensures moved { tree_of slab.new root ≡ option_map (moved node fat.now) (tree_of slab.old root) }
+    ensures moved { tree_of slab.new root ≡ option_map (with_fat node fat.now) (tree_of slab.old root) }
     ensures capacity { slab.new.capacity ≡ slab.old.capacity }
 {
     let Some(at) = root else {
@@ -69,9 +70,9 @@ fn move_from_root(
 fn move_below(slab: &mut NodeSlab, kin: &mut [Kin], at: usize, path: &[usize], fat: &FBox) -> bool
     requires { (node : ℕ) × (t : Tree) × ToMove slab.old at node path.now t }
     ensures there { (node : ℕ) (t : Tree) → ToMove slab.old at node path.now t →
-        StandsAt slab.new at (moved node fat.now t) }
+        StandsAt slab.new at (with_fat node fat.now t) }
     ensures bounds { (node : ℕ) (t : Tree) → ToMove slab.old at node path.now t → result ≡ false →
-        bounds (moved node fat.now t) ≡ bounds t }
+        bounds (with_fat node fat.now t) ≡ bounds t }
     ensures kept { (node : ℕ) (t v : Tree) → ToMove slab.old at node path.now t → Apart t v →
         Holds slab.old v → Holds slab.new v }
     ensures others { (node k : ℕ) (t : Tree) → ToMove slab.old at node path.now t → count_of t k ≡ 0 →

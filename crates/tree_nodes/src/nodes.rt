@@ -1,9 +1,10 @@
+//! The tree itself: leaves added, moved, dropped and rebuilt, and what each node shows.
 ghost use Rattle.std.specs.Prelude.{◌≡◌, ◌≢◌, ◌↔◌, ℕ, ◌<◌, ◌≤◌, ◌^◌, IfOk, IfSome, IsSome, option_map, map, length, [], ◌∷◌};
 ghost use Rattle.std.specs.List.{All};
 ghost use Rattle.std.specs.List.Sorted.{IsPermutation};
 ghost use Rattle.fixed_box.specs.Bounds.{Bounds};
 ghost use Rattle.tree_nodes.specs.Tree.{top, height_in, view_in, leaves_in, IsTreeIn, IsLeafOf, ChildrenShown};
-ghost use Rattle.tree_nodes.specs.Moved.{moved, leaf_moved};
+ghost use Rattle.tree_nodes.specs.Moved.{with_fat, leaf_moved};
 ghost use Rattle.tree_nodes.specs.Shown.{shown};
 ghost use Rattle.tree_nodes.specs.declared.node_view.NodeView.TheVariants.{Leaf as LeafNode};
 
@@ -108,7 +109,7 @@ impl Nodes {
     /// and added.
     pub fn move_leaf(&mut self, node: usize, fat: FBox)
         requires { IsLeafOf self.old node }
-        ensures moved { self.new ≡ option_map (moved node fat) self.old }
+        ensures moved { self.new ≡ option_map (with_fat node fat) self.old }
         ensures leaves { leaves_in self.new ≡ map (leaf_moved node fat) (leaves_in self.old) }
         ensures height { height_in self.new ≡ height_in self.old }
         ensures leaf { (slot : ℕ) (old : Bounds) → view_in self.old node ≡ Some (LeafNode slot old) →

@@ -1,5 +1,5 @@
 -- The laws of boxes, along the tree.
-use Rattle.tree_nodes.proofs.Heights.{enough, low}
+use Rattle.tree_nodes.proofs.Heights.{enough, low, some_leaf}
 use Rattle.tree_nodes.proofs.LeafViews.{leaf_viewed}
 use Rattle.tree_nodes.proofs.TreeLaws.{Enclosing, enclosed, met, missed, viewed_inside, within_itself, deeper, children_within, balanced_within, shown_within}
 use Rattle.tree_nodes.proofs.laws.tree_laws.Goals.{After-box_laws}
@@ -21,6 +21,9 @@ returns-clause-missed c = missed (enclosing c)
 
 pub returns-clause-viewed : goal.returns-clause-viewed
 returns-clause-viewed c = viewed_inside (enclosing c)
+
+pub returns-clause-some : goal.returns-clause-some
+returns-clause-some c = some_leaf
 
 pub returns-clause-fewest : goal.returns-clause-fewest
 returns-clause-fewest c = enough

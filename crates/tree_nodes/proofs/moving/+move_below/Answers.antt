@@ -1,6 +1,6 @@
 -- The child that is next is moved, the other stays, and the node is refitted.
 use Rattle.std.proofs.Common.{◌≡◌, ◌<◌, ◌-◌, take, drop, get_or, length, ap, ◌∙◌, sym, subst, refl, Some, arith, IsSome, ⊎_elim}
-use Rattle.tree_nodes.specs.Moved.{moved, refitted}
+use Rattle.tree_nodes.specs.Moved.{with_fat, refitted}
 use Rattle.tree_nodes.specs.Stored.{StandsAt}
 use Rattle.tree_nodes.specs.Tree.{bounds}
 use Rattle.tree_nodes.proofs.BoxEquality.{same_box}
@@ -26,8 +26,8 @@ refit-requires t c =
     let d = down c.args.slab.now c.args.at c.in-Inner.left c.in-Inner.right
     (get_or c.args.path.now 0 0) c.in-Inner.height c.in-Inner.hull q.0 c.args.path.now
     (take (length c.args.path.now - 1) (drop 1 c.args.path.now)) q.1 q.2 (c.view.ensures ∙ ap Some c.in-Inner.is) e in (
-      moved q.0 c.args.fat.now d.f,
-      moved q.0 c.args.fat.now d.g,
+      with_fat q.0 c.args.fat.now d.f,
+      with_fat q.0 c.args.fat.now d.g,
       children_moved c.args.slab.now c.move_below.new.slab c.args.at c.in-Inner.left c.in-Inner.right
           (get_or c.args.path.now 0 0) c.in-Inner.height c.in-Inner.hull q.0
           (take (length c.args.path.now - 1) (drop 1 c.args.path.now)) q.1 c.args.fat.now c.move_below.ensures.there c.move_below.ensures.kept
@@ -96,8 +96,8 @@ bounds_at-requires t c =
     (get_or c.args.path.now 0 0) c.in-Inner.height c.in-Inner.hull q.0 (take (length c.args.path.now - 1) (drop 1 c.args.path.now))
     q.1 c.args.fat.now c.move_below.ensures.there c.move_below.ensures.kept
     (c.move_below.ensures.keys.here c.args.at (subst IsSome (sym c.view.ensures) refl)) d in
-    let f = moved q.0 c.args.fat.now d.f in
-    let g = moved q.0 c.args.fat.now d.g in
+    let f = with_fat q.0 c.args.fat.now d.f in
+    let g = with_fat q.0 c.args.fat.now d.g in
     (refitted c.args.at f g, c.refit.ensures.there f g p, refl)
 
 pub returns-else-not-move_below-clause-there : goal.returns-else-not-move_below-clause-there
@@ -110,8 +110,8 @@ returns-else-not-move_below-clause-there t c node u w =
     (get_or c.args.path.now 0 0) c.in-Inner.height c.in-Inner.hull node (take (length c.args.path.now - 1) (drop 1 c.args.path.now))
     u c.args.fat.now c.move_below.ensures.there c.move_below.ensures.kept
     (c.move_below.ensures.keys.here c.args.at (subst IsSome (sym c.view.ensures) refl)) d in
-    subst (λ x. StandsAt c.refit.new.slab c.args.at (moved node c.args.fat.now x)) (sym d.is)
-    (record { holds = c.refit.ensures.there (moved node c.args.fat.now d.f) (moved node c.args.fat.now d.g) p; is_at = refl })
+    subst (λ x. StandsAt c.refit.new.slab c.args.at (with_fat node c.args.fat.now x)) (sym d.is)
+    (record { holds = c.refit.ensures.there (with_fat node c.args.fat.now d.f) (with_fat node c.args.fat.now d.g) p; is_at = refl })
 
 pub returns-else-not-move_below-clause-bounds : goal.returns-else-not-move_below-clause-bounds
 returns-else-not-move_below-clause-bounds t c node u w still =
@@ -123,11 +123,11 @@ returns-else-not-move_below-clause-bounds t c node u w still =
     (get_or c.args.path.now 0 0) c.in-Inner.height c.in-Inner.hull node (take (length c.args.path.now - 1) (drop 1 c.args.path.now))
     u c.args.fat.now c.move_below.ensures.there c.move_below.ensures.kept
     (c.move_below.ensures.keys.here c.args.at (subst IsSome (sym c.view.ensures) refl)) d in
-    let f = moved node c.args.fat.now d.f in
-    let g = moved node c.args.fat.now d.g in
+    let f = with_fat node c.args.fat.now d.f in
+    let g = with_fat node c.args.fat.now d.g in
     let now = c.bounds_at.ensures (refitted c.args.at f g) (c.refit.ensures.there f g p) refl in
     let same : bounds (refitted c.args.at f g) ≡ c.in-Inner.hull = sym now ∙ same_box c.bounds_at.result c.in-Inner.hull (sym c.ne.ensures ∙ still) in
-    subst (λ x. bounds (moved node c.args.fat.now x) ≡ bounds x) (sym d.is) same
+    subst (λ x. bounds (with_fat node c.args.fat.now x) ≡ bounds x) (sym d.is) same
 
 pub returns-else-not-move_below-clause-kept : goal.returns-else-not-move_below-clause-kept
 returns-else-not-move_below-clause-kept t c node u v w free held =

@@ -1,6 +1,6 @@
 -- The leaf is a node of the tree that the slab keeps.
 use Rattle.std.proofs.Common.{◌≡◌, ap, ◌∙◌, sym, subst, Some, option_map}
-use Rattle.tree_nodes.specs.Moved.{moved}
+use Rattle.tree_nodes.specs.Moved.{with_fat}
 use Rattle.tree_nodes.specs.Stored.{Sound, SoundIn, tree_of}
 use Rattle.tree_nodes.specs.Tree.{Tree, top, IsLeafOf}
 use Rattle.tree_nodes.proofs.Heights.{under_root}
@@ -29,7 +29,7 @@ move_from_root-requires c =
     }
 
 done : (c : Then-resize) → (t : Tree) × (tree_of c.args.slab.now c.args.root ≡ Some t) ×
-    (c.in-Some.at ≡ top (moved c.args.node c.args.fat.now t)) × Sound c.resize.new.slab (moved c.args.node c.args.fat.now t)
+    (c.in-Some.at ≡ top (with_fat c.args.node c.args.fat.now t)) × Sound c.resize.new.slab (with_fat c.args.node c.args.fat.now t)
 done c =
     let u = under_root c.args.slab.now c.in-Some.at _ (subst (λ r. SoundIn c.args.slab.now r (tree_of c.args.slab.now r)) c.in-Some.is c.requires.sound) in
     let is = ap (tree_of c.args.slab.now) c.in-Some.is ∙ u.1 in
@@ -45,10 +45,10 @@ pub returns-then-resize-clause-sound : goal.returns-then-resize-clause-sound
 returns-then-resize-clause-sound c =
     let d = done c in
     subst (λ r. SoundIn c.resize.new.slab r (tree_of c.resize.new.slab r)) (sym c.in-Some.is)
-    (kept_sound c.resize.new.slab c.in-Some.at (moved c.args.node c.args.fat.now d.0) d.2 d.3)
+    (kept_sound c.resize.new.slab c.in-Some.at (with_fat c.args.node c.args.fat.now d.0) d.2 d.3)
 
 pub returns-then-resize-clause-moved : goal.returns-then-resize-clause-moved
 returns-then-resize-clause-moved c =
     let d = done c in
-    ap (tree_of c.resize.new.slab) c.in-Some.is ∙ kept_tree c.resize.new.slab c.in-Some.at (moved c.args.node c.args.fat.now d.0) d.2 d.3 ∙ sym
-    (ap (option_map (moved c.args.node c.args.fat.now)) d.1)
+    ap (tree_of c.resize.new.slab) c.in-Some.is ∙ kept_tree c.resize.new.slab c.in-Some.at (with_fat c.args.node c.args.fat.now d.0) d.2 d.3 ∙ sym
+    (ap (option_map (with_fat c.args.node c.args.fat.now)) d.1)

@@ -1,6 +1,6 @@
 -- What the slab keeps afterwards is the tree with the box moved.
 use Rattle.std.proofs.Common.{ap, ◌∙◌, option_map}
-use Rattle.tree_nodes.specs.Moved.{moved}
+use Rattle.tree_nodes.specs.Moved.{with_fat}
 use Rattle.tree_nodes.specs.Stored.{tree_of}
 use Rattle.tree_nodes.proofs.Heights.{is_tree_in}
 use Rattle.tree_nodes.proofs.LeafMoves.{moved_in}
@@ -11,13 +11,13 @@ pub returns-clause-leaves : goal.returns-clause-leaves
 returns-clause-leaves c =
     (moved_in c.self.inside.slab c.self.inside.root (tree_of c.self.inside.slab c.self.inside.root) c.args.self.now
     (tree_of c.move_in_place.new.slab c.self.inside.root) c.args.node c.args.fat c.self.invariant.1 c.self.view_is
-    (c.move_in_place.ensures.moved ∙ ap (option_map (moved c.args.node c.args.fat)) c.self.view_is)).0
+    (c.move_in_place.ensures.moved ∙ ap (option_map (with_fat c.args.node c.args.fat)) c.self.view_is)).0
 
 pub returns-clause-height : goal.returns-clause-height
 returns-clause-height c =
     (moved_in c.self.inside.slab c.self.inside.root (tree_of c.self.inside.slab c.self.inside.root) c.args.self.now
     (tree_of c.move_in_place.new.slab c.self.inside.root) c.args.node c.args.fat c.self.invariant.1 c.self.view_is
-    (c.move_in_place.ensures.moved ∙ ap (option_map (moved c.args.node c.args.fat)) c.self.view_is)).1
+    (c.move_in_place.ensures.moved ∙ ap (option_map (with_fat c.args.node c.args.fat)) c.self.view_is)).1
 
 pub returns-clause-tree : goal.returns-clause-tree
 returns-clause-tree c =
