@@ -4,6 +4,7 @@ use Rattle.std.proofs.Common.{map, append_assoc, refl, sym, ap, ◌∙◌, arith
 use Rattle.std.specs.List.{filter}
 use Rattle.std.proofs.lemmas.Bool.{cases_eq, eq-eqb}
 use Rattle.std.proofs.lemmas.Bool.Decides.{nat_tests}
+use Rattle.std.proofs.lemmas.List.Folds.{list_any-append}
 use Rattle.fixed_box.specs.Bounds.{Bounds, meets}
 use Rattle.broad_index.specs.declared.pair.Pair.{Pair}
 use Rattle.broad_index.specs.Members.{has_pair, same_pair}
@@ -17,19 +18,11 @@ crossed_append es (x ∷ xs) ys =
     ap (λ l. ordered_pairs x.0 (others_met es x) ++ l) (crossed_append es xs ys)
     ∙ sym (append_assoc (ordered_pairs x.0 (others_met es x)) (crossed es xs) (crossed es ys))
 
-pub or_assoc : (a b c : Bool) → (a || (b || c)) ≡ ((a || b) || c)
-or_assoc true b c = refl
-or_assoc false b c = refl
-
 or_four : (a b c d : Bool) → ((a || b) || (c || d)) ≡ ((a || c) || (b || d))
 or_four true b c d = refl
 or_four false true true d = refl
 or_four false true false d = refl
 or_four false false c d = refl
-
-pub has_append : (xs ys : List Pair) (p : Pair) → has_pair (xs ++ ys) p ≡ (has_pair xs p || has_pair ys p)
-has_append [] ys p = refl
-has_append (x ∷ xs) ys p = ap (λ b. same_pair p x || b) (has_append xs ys p) ∙ or_assoc (same_pair p x) (has_pair xs p) (has_pair ys p)
 
 -- two entries meet, and are those of a pair
 abbrev pub hit : Pair → ℕ × Bounds → ℕ × Bounds → Bool
@@ -68,7 +61,7 @@ module _ (p : Pair) where
   pub crossed_has : (es xs : List (ℕ × Bounds)) → has_pair (crossed es xs) p ≡ any_cross p xs es
   crossed_has es [] = refl
   crossed_has es (x ∷ xs) =
-      has_append (ordered_pairs x.0 (others_met es x)) (crossed es xs) p
+      list_any-append (same_pair p) (ordered_pairs x.0 (others_met es x)) (crossed es xs)
       ∙ ap (λ b. b || has_pair (crossed es xs) p) (row_is x es)
       ∙ ap (λ b. any_row p x es || b) (crossed_has es xs)
 

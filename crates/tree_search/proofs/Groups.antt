@@ -13,7 +13,8 @@ use Rattle.fixed_box.specs.Bounds.{Bounds, encloses, meets}
 use Rattle.broad_index.specs.declared.query.Query.TheVariants.{Region}
 use Rattle.broad_index.specs.Found.{found_of}
 use Rattle.broad_index.specs.declared.pair.Pair.{Pair}
-use Rattle.broad_index.specs.Members.{has_pair}
+use Rattle.std.proofs.lemmas.List.Folds.{list_any-append}
+use Rattle.broad_index.specs.Members.{has_pair, same_pair}
 use Rattle.broad_index.specs.Touched.{ordered_pairs}
 use Rattle.lane_boxes.specs.Places.{next_eight}
 use Rattle.tree_nodes.specs.declared.node_view.NodeView.{NodeView}
@@ -27,7 +28,7 @@ use Rattle.tree_search.specs.Crossed.{others_met, crossed, all_visits_in, Adds}
 use Rattle.tree_search.specs.Group.{below, all_below, picked, IsShown, IsBelow, BoxLaws, OpenedAs}
 use Rattle.tree_search.proofs.Descents.{exact_append}
 use Rattle.tree_search.proofs.Counts.{raised_again}
-use Rattle.tree_search.proofs.CrossedPairs.{crossed_append, has_append}
+use Rattle.tree_search.proofs.CrossedPairs.{crossed_append}
 use Rattle.fixed_box.proofs.Bools.{or_false, or_assoc}
 
 shown_top : (o : Option Tree) (t : Tree) → IsShown o t → view_in o (top t) ≡ Some (view_of t)
@@ -356,7 +357,7 @@ group_on xs group more rest old new e adds p =
     ∙ or_assoc (has_pair old p) (has_pair (crossed xs group) p) (has_pair (crossed xs more) p)
     ∙ ap (λ b. has_pair old p || b)
     (sym (ap (λ es. has_pair (crossed xs es) p) (sym e) ∙ ap (λ ps. has_pair ps p) (crossed_append xs group more)
-    ∙ has_append (crossed xs group) (crossed xs more) p))
+    ∙ list_any-append (same_pair p) (crossed xs group) (crossed xs more)))
 
 visits_append : (o : Option Tree) (es fs : List (ℕ × Bounds)) → all_visits_in o (es ++ fs) ≡ all_visits_in o es + all_visits_in o fs
 visits_append o [] fs = omega arith

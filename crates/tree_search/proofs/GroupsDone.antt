@@ -8,12 +8,13 @@ use Rattle.slot_lists.specs.SlotMap.{map_of}
 use Rattle.slot_lists.specs.SlotMapLaws.{get_map}
 use Rattle.broad_index.specs.declared.pair.Pair.{Pair}
 use Rattle.broad_index.specs.Held.{Holds}
-use Rattle.broad_index.specs.Members.{has_pair, has_slot}
+use Rattle.std.proofs.lemmas.List.Folds.{list_any-append}
+use Rattle.broad_index.specs.Members.{has_pair, same_pair, has_slot}
 use Rattle.tree_search.specs.Looked.{unmarked}
 use Rattle.tree_search.specs.Crossed.{crossed, touched_of, Adds, AreOf}
 use Rattle.tree_search.specs.Group.{undone}
-use Rattle.tree_search.proofs.CrossedPairs.{hit, any_row, any_cross, crossed_has, crossed_either, has_append}
-use Rattle.tree_search.proofs.CrossedPairs.{or_assoc}
+use Rattle.tree_search.proofs.CrossedPairs.{hit, any_row, any_cross, crossed_has, crossed_either}
+use Rattle.fixed_box.proofs.Bools.{or_assoc}
 use Rattle.fixed_box.proofs.Bools.{or_true, or_swap}
 
 or_late : (a b c : Bool) → (b || c) ≡ true → ((a || b) || c) ≡ true
@@ -65,7 +66,7 @@ module _ (p : Pair) where
       (λ d. (any_row p x gs || (any_cross p (undone done xs) gs || any_cross p (touched_of done xs) gs))
       ≡ (any_cross p (cond (not d) (x ∷ undone done xs) (undone done xs)) gs || any_cross p (cond d (x ∷ touched_of done xs) (touched_of done xs)) gs)) [
         | true ↦ or_swap (any_row p x gs) (any_cross p (undone done xs) gs) (any_cross p (touched_of done xs) gs)
-        | false ↦ or_assoc (any_row p x gs) (any_cross p (undone done xs) gs) (any_cross p (touched_of done xs) gs)
+        | false ↦ sym (or_assoc (any_row p x gs) (any_cross p (undone done xs) gs) (any_cross p (touched_of done xs) gs))
       ])
 
   -- and where more are done, each of these is one that was done or one of the group
@@ -139,7 +140,7 @@ module _ (bodies : List (Option Bounds)) where
     -- a group adds its pairs
     pub group_adds : Adds old new (crossed es group)
     group_adds p =
-        ap (λ ps. has_pair ps p) found ∙ has_append old (crossed group (undone done es)) p
+        ap (λ ps. has_pair ps p) found ∙ list_any-append (same_pair p) old (crossed group (undone done es))
         ∙ absorbed (has_pair old p) (has_pair (crossed group (undone done es)) p) (has_pair (crossed group (touched_of done es)) p)
         (λ h. older p (crossed_has p es (touched_of done es)
         ∙ cross_more_in p (touched_of done es) group es (all_in es held group are) (sym (crossed_has p group (touched_of done es)) ∙ h)))

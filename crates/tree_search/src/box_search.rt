@@ -1,3 +1,4 @@
+//! A search for the pairs of many boxes, eight at a time against the nodes in preorder.
 ghost use Rattle.std.specs.Prelude.{◌≡◌, ◌||◌, ◌++◌, ◌==◌, ℕ, true, false, map, filter, not, OnOk, IfOk, slice_index_or};
 ghost use Rattle.broad_index.specs.declared.query.Query.TheVariants.{Region};
 ghost use Rattle.broad_index.specs.Found.{found_of};
@@ -11,7 +12,7 @@ ghost use Rattle.tree_search.specs.Preorder.{preorder_in};
 
 use crate::descent::{box_law, descend_with_box};
 use crate::group::{GROUP, search_group};
-use crate::{BoxedTree, Findings, ListedNode, Marks, SearchRoom};
+use crate::{BoxedTree, ListedNode, SearchRoom, SlotMarks, TreeFindings};
 use broad_index::push_ordered_pairs;
 use fixed_box::{FBox, NoMemory};
 
@@ -22,7 +23,7 @@ pub fn search_boxes(
     preorder: &[ListedNode],
     looked: u64,
     room: &mut SearchRoom,
-    found: &mut Findings,
+    found: &mut TreeFindings,
 ) -> Result<u64, NoMemory>
     requires list { preorder.now ≡ preorder_in boxes.now.bodies boxes.now.tree }
     requires touched { AreOf boxes.now.bodies room.old.touched.items }
@@ -48,8 +49,8 @@ fn search_by_groups(
     preorder: &[ListedNode],
     touched: &[(u32, FBox)],
     looked: u64,
-    done: &mut Marks,
-    found: &mut Findings,
+    done: &mut SlotMarks,
+    found: &mut TreeFindings,
 ) -> Result<u64, NoMemory>
     requires list { preorder.now ≡ preorder_in boxes.now.bodies boxes.now.tree }
     requires touched { AreOf boxes.now.bodies touched.now }
@@ -75,7 +76,7 @@ fn search_by_groups(
 }
 
 // Marks the slots of a group.
-fn set_done(group: &[(u32, FBox)], done: &mut Marks)
+fn set_done(group: &[(u32, FBox)], done: &mut SlotMarks)
     ensures { (k : ℕ) → slice_index_or done.new k false ≡ true →
         (slice_index_or done.old k false || has_slot (map (λ e. e.0) group.now) k) ≡ true }
 {
@@ -87,7 +88,7 @@ fn set_done(group: &[(u32, FBox)], done: &mut Marks)
 }
 
 // Marks a slot.
-fn set_mark(slot: u32, done: &mut Marks)
+fn set_mark(slot: u32, done: &mut SlotMarks)
     ensures { (k : ℕ) → slice_index_or done.new k false ≡ true → (slice_index_or done.old k false || (k == slot)) ≡ true }
 {
     done.set(slot);
@@ -98,7 +99,7 @@ fn search_each(
     boxes: &BoxedTree,
     touched: &[(u32, FBox)],
     looked: u64,
-    found: &mut Findings,
+    found: &mut TreeFindings,
 ) -> Result<u64, NoMemory>
     ensures ok { OnOk result (found.new.pairs.items ≡ found.old.pairs.items ++ crossed (exact_in boxes.now.bodies boxes.now.tree) touched.now) }
     ensures count { IfOk result (λ n. n ≡ raised looked (all_visits_in boxes.now.tree touched.now)) }
@@ -118,7 +119,7 @@ fn search_one(
     boxes: &BoxedTree,
     slot: u32,
     body: &FBox,
-    found: &mut Findings,
+    found: &mut TreeFindings,
 ) -> Result<u32, NoMemory>
     ensures ok { OnOk result (found.new.pairs.items ≡ found.old.pairs.items ++
         ordered_pairs slot (filter (λ s. not (s == slot)) (found_of (exact_in boxes.now.bodies boxes.now.tree) (Region body.now)))) }

@@ -1,3 +1,4 @@
+//! Eight boxes searched for at once: a node is skipped with all below it if none of them meets its hull.
 ghost use Rattle.std.specs.Prelude.{◌≡◌, ◌==◌, ◌+◌, ◌≤◌, ◌++◌, List, Option, [], ◌∷◌, drop, not, map, filter, length, OnOk, IfOk};
 ghost use Rattle.fixed_box.specs.Bounds.{Bounds};
 ghost use Rattle.broad_index.specs.Touched.{ordered_pairs};
@@ -9,7 +10,7 @@ ghost use Rattle.tree_search.specs.Group.{all_below, picked, left_pairs, undone,
 ghost use Rattle.tree_search.specs.Reading.{IsListed};
 
 use crate::descent::box_law;
-use crate::{ListedNode, Marks, NodeKind};
+use crate::{ListedNode, NodeKind, SlotMarks};
 use broad_index::Pair;
 use fixed_box::{FBox, NoMemory};
 use lane_boxes::BoxPacket;
@@ -21,7 +22,7 @@ pub(crate) const GROUP: usize = 8;
 // done, and answers a number raised by how many nodes a descent with each of them looks at.
 pub(crate) fn search_group(
     preorder: &[ListedNode],
-    done: &Marks,
+    done: &SlotMarks,
     group: &[(u32, FBox)],
     looked: u64,
     found: &mut Vec<Pair>,
@@ -57,7 +58,7 @@ fn boxes_of(group: &[(u32, FBox)]) -> [FBox; GROUP]
 // boxes look at.
 fn read_onwards(
     preorder: &[ListedNode],
-    done: &Marks,
+    done: &SlotMarks,
     group: &[(u32, FBox)],
     boxes: &BoxPacket,
     looked: u64,
@@ -108,7 +109,7 @@ fn nodes_behind(nodes: &[ListedNode], count: u32) -> &[ListedNode]
 fn push_met(
     slot: u32,
     mask: u8,
-    done: &Marks,
+    done: &SlotMarks,
     group: &[(u32, FBox)],
     found: &mut Vec<Pair>,
 ) -> Result<(), NoMemory>

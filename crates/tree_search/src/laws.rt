@@ -1,3 +1,4 @@
+//! The law that a preorder list has the leaves of its tree, with nothing to run.
 ghost use Rattle.std.specs.Prelude.{◌≡◌, List, Option};
 ghost use Rattle.fixed_box.specs.Bounds.{Bounds};
 ghost use Rattle.tree_nodes.specs.Tree.{Tree};

@@ -5,21 +5,21 @@
 mod box_search;
 mod boxed_tree;
 mod descent;
-mod findings;
 mod group;
 mod hits;
 mod laws;
-mod marks;
 mod preorder;
 mod search_room;
+mod slot_marks;
+mod tree_findings;
 mod waiting;
 
 pub use box_search::{push_others, search_boxes};
 pub use boxed_tree::BoxedTree;
 pub use descent::descend_with_box;
-pub use findings::Findings;
 pub use hits::push_hits;
 pub use laws::listing_law;
-pub use marks::Marks;
 pub use preorder::{ListedNode, NodeKind, list_preorder};
 pub use search_room::SearchRoom;
+pub use slot_marks::SlotMarks;
+pub use tree_findings::TreeFindings;

@@ -1,3 +1,4 @@
+//! The nodes of a tree in preorder with skip counts, for searches that read onwards.
 ghost use Rattle.std.specs.Prelude.{◌≡◌, ◌+◌, ◌*◌, ◌<◌, ◌^◌, ◌++◌, None, OnOk, length, slice_index_or};
 ghost use Rattle.tree_nodes.specs.Tree.{Tree, leaves};
 ghost use Rattle.tree_search.specs.declared.preorder.NodeKind.TheVariants.{Inner as InnerKind};
@@ -7,7 +8,7 @@ ghost use Rattle.tree_search.specs.Preorder.{leaf_node, preorder, preorder_in};
 use crate::BoxedTree;
 use crate::descent::box_law;
 use fixed_box::{FBox, NoMemory};
-use tree_nodes::{Nodes, Role};
+use tree_nodes::{Nodes, Role, tree_laws};
 
 /// A node of a tree that is listed in preorder (Ericson, 2005, 6.6.2). Where many boxes are searched for, each descent reads
 /// such a list onwards, and jumps over what stands below a hull that is missed.
@@ -50,6 +51,7 @@ fn push_preorder(
     requires { (t : Tree) × IsBelow nodes.now bodies.now at t × (length out.old.items + 2 * length (leaves t) < 2 ^ 32) }
     ensures { (t : Tree) → IsBelow nodes.now bodies.now at t → OnOk result (out.new.items ≡ out.old.items ++ preorder bodies.now t) }
 {
+    tree_laws();
     let node = nodes.node(at);
     match node.role {
         Role::Leaf { slot } => {

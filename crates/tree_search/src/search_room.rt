@@ -1,7 +1,8 @@
+//! Buffers that a search of many boxes keeps from call to call.
 ghost use Rattle.std.specs.Prelude.{◌≡◌, [], IfOk};
 ghost use Rattle.tree_search.specs.Looked.{unmarked};
 
-use crate::Marks;
+use crate::SlotMarks;
 use fixed_box::{FBox, NoMemory};
 use std::alloc::Global;
 
@@ -11,7 +12,7 @@ pub struct SearchRoom {
     /// The boxes that are searched for, each with its slot.
     pub touched: Vec<(u32, FBox)>,
     /// The slots whose searches are done.
-    pub done: Marks,
+    pub done: SlotMarks,
 }
 
 impl SearchRoom {
@@ -22,7 +23,7 @@ impl SearchRoom {
     {
         Ok(SearchRoom {
             touched: Vec::new(alloc),
-            done: Marks::new(alloc)?,
+            done: SlotMarks::new(alloc)?,
         })
     }
 }

@@ -1,5 +1,5 @@
 -- A node's list is its own entry, and the lists of its children behind it.
-use Rattle.std.proofs.Common.{◌≡◌, ℕ, ◌+◌, ◌*◌, ◌<◌, ◌^◌, ◌++◌, ◌∷◌, [], ◌∙◌, List, Option, length, ap, subst, Some, arith, rules}
+use Rattle.std.proofs.Common.{◌≡◌, ℕ, ◌+◌, ◌*◌, ◌<◌, ◌≤◌, ◌^◌, ◌++◌, ◌∷◌, [], ◌∙◌, List, Option, length, ap, subst, Some, arith, rules}
 use Rattle.std.proofs.lemmas.List.{length-append}
 use Rattle.fixed_box.specs.Bounds.{Bounds}
 use Rattle.tree_nodes.specs.Parts.{height_shown}
@@ -9,7 +9,6 @@ use Rattle.tree_search.specs.declared.preorder.ListedNode.{ListedNode}
 use Rattle.tree_search.specs.Preorder.{preorder}
 use Rattle.tree_search.proofs.Groups.{opened_inner, lower, left_lower, right_lower}
 use Rattle.tree_search.proofs.Preorders.{preorder_few, inner_listed}
-use Rattle.tree_nodes.proofs.Heights.{some_leaf}
 use Rattle.tree_search.proofs.preorder.+push_preorder.Goals as goal
 
 module _ (bodies : List (Option Bounds)) (n k : ℕ) (h : Bounds) (l r t : Tree) (is : t ≡ fork n h k l r) (out pushed one two : List ListedNode)
@@ -17,10 +16,10 @@ module _ (bodies : List (Option Bounds)) (n k : ℕ) (h : Bounds) (l r t : Tree)
   both : length (leaves t) ≡ length (leaves l) + length (leaves r)
   both = ap (λ u. length (leaves u)) is ∙ length-append (leaves l) (leaves r)
 
-  left_fits : length pushed + 2 * length (leaves l) < 2 ^ 32
-  left_fits =
+  left_fits : ((u : Tree) → 1 ≤ length (leaves u)) → length pushed + 2 * length (leaves l) < 2 ^ 32
+  left_fits some =
       let a = both in
-      let b = some_leaf r in
+      let b = some r in
       let c = ap length ep ∙ length-append out (node ∷ []) in
       omega arith
 
@@ -53,7 +52,7 @@ push_preorder-requires t c =
         o.1,
         o.4,
         left_fits c.args.bodies.now o.0 c.in-Inner.height hull o.1 o.2 h.0 o.3 c.args.out.now.items c.push.new.self.items
-            c.push.new.self.items c.push.new.self.items c.inner_node.result h.2 c.in_ok-push-in-Inner.ensures.items,
+            c.push.new.self.items c.push.new.self.items c.inner_node.result h.2 c.in_ok-push-in-Inner.ensures.items c.tree_laws.ensures.some,
       ),
     )
 

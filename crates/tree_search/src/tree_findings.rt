@@ -1,3 +1,4 @@
+//! The pairs that searches of a tree found, with a buffer for one search.
 ghost use Rattle.std.specs.Prelude.{◌≡◌, []};
 
 use broad_index::Pair;
@@ -5,7 +6,7 @@ use std::alloc::Global;
 
 /// The pairs that searches found, in any order, and room for what one search meets.
 #[derive(Drop)]
-pub struct Findings {
+pub struct TreeFindings {
     /// Each with its lower slot first, and maybe more than once.
     pub pairs: Vec<Pair>,
     /// All slots that one search meets, and those but its own.
@@ -13,12 +14,12 @@ pub struct Findings {
     pub others: Vec<u32>,
 }
 
-impl Findings {
+impl TreeFindings {
     /// No pair, and room that is taken as it is needed.
-    pub fn new(alloc: Global) -> Findings
+    pub fn new(alloc: Global) -> TreeFindings
         ensures { result.pairs.items ≡ [] }
     {
-        Findings {
+        TreeFindings {
             pairs: Vec::new(alloc),
             met: Vec::new(alloc),
             others: Vec::new(alloc),

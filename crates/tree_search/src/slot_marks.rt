@@ -1,3 +1,4 @@
+//! One mark for each slot, as touched slots and finished searches are noted.
 ghost use Rattle.std.specs.Prelude.{◌≡◌, true, false, IfOk, length, slice_index_or, slice_set};
 ghost use Rattle.fixed_box.specs.declared.TheConstants.{SLOTS};
 ghost use Rattle.tree_search.specs.Looked.{unmarked};
@@ -8,11 +9,11 @@ use std::marker::Model;
 
 /// Which of all slots are marked. Only `new` takes memory.
 #[derive(Drop)]
-pub struct Marks {
+pub struct SlotMarks {
     marks: Vec<bool>,
 }
 
-impl Model for Marks {
+impl Model for SlotMarks {
     ghost use Rattle.std.specs.Prelude.{◌≡◌, Bool, List, length};
     ghost use Rattle.std.specs.Coded.{coded_bool, coded_list};
     ghost use Rattle.fixed_box.specs.declared.TheConstants.{SLOTS};
@@ -26,12 +27,12 @@ impl Model for Marks {
     ghost invariant = { λ m. length m.marks.items ≡ SLOTS };
 }
 
-impl Marks {
+impl SlotMarks {
     /// No slot is marked.
-    pub fn new(alloc: Global) -> Result<Marks, NoMemory>
+    pub fn new(alloc: Global) -> Result<SlotMarks, NoMemory>
         ensures { IfOk result (λ marks. marks ≡ unmarked) }
     {
-        Ok(Marks {
+        Ok(SlotMarks {
             marks: vec![in alloc; false; SLOTS as usize]?,
         })
     }
