@@ -39,7 +39,8 @@ moved_balanced node fat (fork n hu k l r) h =
     let ro = h.0.right_low in
     refitted_balanced n (with_fat node fat l) (with_fat node fat r) (moved_balanced node fat l h.1) (moved_balanced node fat r h.2) (omega arith) (omega arith)
 
-pub moved_slots : (node : ℕ) (fat : Bounds) (t : Tree) (k : ℕ) → sum_by (λ x. one x.slot k) (leaves (with_fat node fat t)) ≡ sum_by (λ x. one x.slot k) (leaves t)
+pub moved_slots : (node : ℕ) (fat : Bounds) (t : Tree) (k : ℕ)
+    → sum_by (λ x. one x.slot k) (leaves (with_fat node fat t)) ≡ sum_by (λ x. one x.slot k) (leaves t)
 moved_slots node fat (tip n s b) k = refl
 moved_slots node fat (fork n h j l r) k =
     let f : LeafOf → ℕ = λ x. one x.slot k in

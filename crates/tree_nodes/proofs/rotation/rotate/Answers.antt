@@ -14,5 +14,5 @@ refit-requires-2 c =
 
 pub returns-clause-there : goal.returns-clause-there
 returns-clause-there c l f g p =
-    c.refit-2.ensures.there (refitted c.args.at l f) g (second c.args.slab.now c.refit.new.slab c.args.high c.args.at c.args.low c.args.halves.0 c.args.halves.1 l
-    f g c.refit.ensures.keys.here (c.refit.ensures.there l f p.below) c.refit.ensures.kept p)
+    c.refit-2.ensures.there (refitted c.args.at l f) g (second c.args.slab.now c.refit.new.slab c.args.high c.args.at c.args.low c.args.halves.0
+    c.args.halves.1 l f g c.refit.ensures.keys.here (c.refit.ensures.there l f p.below) c.refit.ensures.kept p)
