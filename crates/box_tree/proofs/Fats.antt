@@ -1,5 +1,5 @@
 -- Fat boxes beside the boxes that they enclose.
-use Rattle.std.proofs.Common.{◌≡◌, ℕ, zero, suc, ◌<◌, ◌≤◌, true, false, Option, None, Some, is_some, IfSome, List, [], ◌∷◌, length, map}
+use Rattle.std.proofs.Common.{◌≡◌, ℕ, zero, suc, ◌<◌, true, false, Option, None, Some, is_some, IfSome, List, [], ◌∷◌, length, map}
 use Rattle.std.proofs.Common.{cond, get_or, set, refl, sym, ap, ◌∙◌, subst, arith, ⊎_elim, ◌⊎◌}
 use Rattle.std.specs.FinMap.{contains_key, get}
 use Rattle.std.specs.List.{Contains, count_by}

@@ -16,7 +16,9 @@ use Rattle.tree_nodes.specs.Moved.{leaf_moved}
 use Rattle.tree_nodes.specs.Tree.{Tree, Leaf, leaves, leaves_in, one, count_of, view_at, view_in, IsTreeIn}
 use Rattle.box_tree.specs.Ties.{Ties}
 use Rattle.box_tree.proofs.Fats.{none_counted, within}
-use Rattle.tree_nodes.proofs.Frames.{one_same}
+
+one_same : (n : ℕ) → one n n ≡ 1
+one_same n = let e : eqb n n ≡ true = grind (arith, nat_tests) in rw e refl
 
 abbrev flag : {X : Type 0} → Option X → ℕ
 flag o = cond (is_some o) 1 0

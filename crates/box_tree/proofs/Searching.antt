@@ -1,11 +1,10 @@
 -- What descents find is what the map has, and which slots are sought.
-use Rattle.std.proofs.Common.{◌≡◌, ◌≢◌, ℕ, zero, suc, ◌<◌, Bool, true, false, not, cond, ◌&&◌, ◌||◌, ◌==◌, Option, None, Some, is_some, List, [], ◌∷◌, ◌++◌}
+use Rattle.std.proofs.Common.{◌≡◌, ℕ, zero, suc, ◌<◌, Bool, true, false, not, cond, ◌&&◌, ◌||◌, ◌==◌, Option, None, Some, is_some, List, [], ◌∷◌, ◌++◌}
 use Rattle.std.proofs.Common.{length, map, filter, get_or, refl, sym, ap, ◌∙◌, subst, arith, inl, inr, ⊎_elim}
 use Rattle.std.specs.List.{Contains, list_any, sum}
 use Rattle.std.specs.Ordering.{nat_cmp, eq_by_cmp}
 use Rattle.std.specs.FinMap.{FinMap, contains_key, get, entries, keys, contains_key-keys}
 use Rattle.std.proofs.lemmas.Bool.{cases_eq, cases_Bool, eq-eqb}
-use Rattle.std.proofs.lemmas.Bool.Decides.{nat_tests}
 use Rattle.std.proofs.lemmas.List.Elements.{Contains-append_left, Contains-append_right, Contains-append_cases}
 use Rattle.fixed_box.specs.Bounds.{Bounds, meets}
 use Rattle.broad_index.specs.Reach.{reach_of}
@@ -24,7 +23,7 @@ use Rattle.tree_search.specs.Looked.{raised}
 use Rattle.tree_search.specs.Exact.{entry_of, exact, exact_in, IsLeafInside, IsInside, IsInsideIn}
 use Rattle.box_tree.specs.Searches.{looked_for, sought_from, reached_by, reached_in, searches}
 use Rattle.slot_lists.specs.SlotMap.{map_of}
-use Rattle.box_tree.specs.Ties.{IsKept}
+use Rattle.box_tree.specs.Ties.{HaveLeaves}
 use Rattle.slot_lists.specs.SlotMapLaws.{get_map, entries_of_map, tie_same, tie_other}
 use Rattle.box_tree.proofs.LeafTies.{some_there}
 use Rattle.box_tree.proofs.Fats.{within}
@@ -34,7 +33,7 @@ abbrev pub ReachLaw : Type 0
 ReachLaw = (m : FinMap nat_cmp Bounds) (es : List (ℕ × Bounds)) → Holds m es → (slot : ℕ) (body : Bounds) → get m slot ≡ Some body
     → (k : ℕ) → has_slot (reach_of slot (Some body) es) k ≡ is_reached m slot k
 
-module _ (o : Option Tree) (bodies fats : List (Option Bounds)) (s : IsKept o bodies fats) where
+module _ (o : Option Tree) (bodies fats : List (Option Bounds)) (s : HaveLeaves o bodies fats) where
   leaf_inside : (x : Leaf) → Contains (leaves_in o) x → IsLeafInside bodies x.slot x.fat
   leaf_inside x c =
       let e = s.leafed.fat_is x c in
@@ -253,7 +252,7 @@ abbrev pub RenewingLaw : Type 0
 RenewingLaw = (m : FinMap nat_cmp Bounds) (marks : List Bool) (kept : List Pair) (rs : List (ℕ × List ℕ)) → AreReached m rs
     → AreMarked m marks (map (λ (r : ℕ × List ℕ). r.0) rs) → AreKept m marks kept → Renewed m marks kept (gathered_with rs)
 
-module _ (o : Option Tree) (bodies fats : List (Option Bounds)) (s : IsKept o bodies fats) (marks : List Bool) (v : Boxes) (looked : ℕ)
+module _ (o : Option Tree) (bodies fats : List (Option Bounds)) (s : HaveLeaves o bodies fats) (marks : List Bool) (v : Boxes) (looked : ℕ)
     (view : seen o bodies fats marks looked ≡ v) where
   -- what a descent finds is what the map has
   pub found_viewed : FoundLaw → (q : Query) (before found : List ℕ) → before ≡ [] → found ≡ before ++ found_of (exact_in bodies o) q

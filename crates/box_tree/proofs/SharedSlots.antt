@@ -15,7 +15,7 @@ use Rattle.fixed_box.specs.Bounds.{Bounds}
 use Rattle.slot_lists.specs.SlotMap.{map_of}
 use Rattle.slot_lists.specs.SlotMapLaws.{get_map}
 use Rattle.broad_index.specs.declared.pair.Pair.{Pair}
-use Rattle.broad_index.specs.Members.{has_pair, has_slot, is_near}
+use Rattle.broad_index.specs.Members.{has_pair, same_pair, has_slot, is_near}
 use Rattle.broad_index.specs.Searched.{AreReached}
 use Rattle.broad_index.specs.Touched.{gathered_with, AreKept, AreMarked, Renewed}
 use Rattle.work_pieces.specs.Each.{Each}
@@ -27,13 +27,11 @@ use Rattle.tree_search.specs.Looked.{raised}
 use Rattle.tree_search.specs.Exact.{entry_of, exact, exact_in}
 use Rattle.tree_search.specs.Crossed.{touched_of, crossed, all_visits_in, Adds, AreOf}
 use Rattle.box_tree.specs.Searches.{looked_for, searches, sought_from}
-use Rattle.box_tree.specs.Ties.{IsKept}
+use Rattle.box_tree.specs.Ties.{HaveLeaves}
 use Rattle.box_tree.proofs.LeafTies.{some_there}
 use Rattle.box_tree.proofs.Searching.{ReachLaw, RenewingLaw, seen, exact_in_is, all_reached, searched_slots, marked_is, are_marked, same_costs}
 use Rattle.box_tree.proofs.TouchedPairs.{exact_in_own, touched_own, touched_marked, renewed_of, own_boxed, crossed_boxed}
-use Rattle.tree_search.proofs.CrossedPairs.{has_append}
 use Rattle.box_tree.proofs.TouchedSums.{touched_total}
-use Rattle.tree_search.proofs.Counts.{raised_again}
 
 abbrev pub TouchedLaw : Type 0
 TouchedLaw = (m : FinMap nat_cmp Bounds) (rs : List (ℕ × List ℕ)) → AreReached m rs → (p : Pair) → has_pair (gathered_with rs) p
@@ -102,7 +100,7 @@ module _ (o : Option Tree) (bodies : List (Option Bounds)) where
       ∙ ap (λ n. n + sum (map seeks (map (λ (x : ℕ × Bounds). x.0) es))) (ap (visits_for o) own.0)
       ∙ ap (λ n. visits_for o (Some e.1) + n) (entries_sum es own.1)
 
-module _ (o : Option Tree) (bodies fats : List (Option Bounds)) (s : IsKept o bodies fats) (marks : List Bool) where
+module _ (o : Option Tree) (bodies fats : List (Option Bounds)) (s : HaveLeaves o bodies fats) (marks : List Bool) where
   leaves_there : AreThere bodies marks (leaves_in o)
   leaves_there x c = sym (s.fat.same x.slot) ∙ ap is_some (s.leafed.fat_is x c)
 
@@ -209,6 +207,9 @@ both_near true false true true d = refl
 both_near true false true false d = refl
 both_near true false false c d = refl
 
+raised_again : (a c s : ℕ) → raised (raised a c) s ≡ raised a (c + s)
+raised_again a c s = grind (arith)
+
 raised_zero : (a m t : ℕ) → raised a (raised 0 m + t) ≡ raised a (m + t)
 raised_zero a m t = grind (arith)
 
@@ -221,7 +222,7 @@ module _ {Y : Type 0} (pairs : Y → List Pair) (number : Y → ℕ) (v : Boxes)
   pieces_found (run ∷ runs) (y ∷ ys) each p =
       let n = is_near v.bodies p in
       let rest = put_together runs in
-      has_append (pairs y) (put_together (map pairs ys)) p
+      list_any-append (same_pair p) (pairs y) (put_together (map pairs ys))
       ∙ ap (λ b. b || has_pair (put_together (map pairs ys)) p) (each.0.pairs_are p)
       ∙ ap (λ b. (n && (has_slot run p.a || has_slot run p.b)) || b) (pieces_found runs ys each.1 p)
       ∙ both_near n (has_slot run p.a) (has_slot run p.b) (has_slot rest p.a) (has_slot rest p.b)
@@ -246,7 +247,7 @@ module _ {Y : Type 0} (pairs : Y → List Pair) (number : Y → ℕ) (v : Boxes)
       ∙ sum_by-append (λ (k : ℕ). k) (map (cost v) run) (map (cost v) (put_together runs))))
 
 module _ {Y : Type 0} (pairs : Y → List Pair) (number : Y → ℕ) (o : Option Tree) (bodies fats : List (Option Bounds))
-    (s : IsKept o bodies fats) (marks : List Bool) (v : Boxes) (looked : ℕ) (view : seen o bodies fats marks looked ≡ v) where
+    (s : HaveLeaves o bodies fats) (marks : List Bool) (v : Boxes) (looked : ℕ) (view : seen o bodies fats marks looked ≡ v) where
   -- what the pieces of the shared slots find renews the pairs
   pub pieces_renewed : (kept : List Pair) → AreKept (map_of bodies) marks kept → ReachLaw → RenewingLaw → TouchedLaw → (ys : List Y)
       → InRuns (λ run y. Finds v run (pairs y) (number y)) (shared_slots v) ys

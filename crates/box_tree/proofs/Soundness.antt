@@ -1,10 +1,9 @@
 -- How the kept pairs stay sound while one slot is touched, and once the pairs were asked for.
 use Rattle.std.proofs.Common.{◌≡◌, ◌≢◌, ℕ, ◌<◌, Bool, true, false, not, nat_lt, ◌&&◌, ◌==◌, Option, None, List, []}
-use Rattle.std.proofs.Common.{length, get_or, set, refl, sym, ap, ◌∙◌, subst, arith, ⊎_elim}
+use Rattle.std.proofs.Common.{length, get_or, set, refl, sym, ap, ◌∙◌, subst, ⊎_elim}
 use Rattle.std.specs.Ordering.{nat_cmp}
 use Rattle.std.specs.FinMap.{FinMap, get, get-empty, empty, insert, remove}
 use Rattle.std.proofs.lemmas.Bool.{cases_eq, and_parts, and_from, false≢true}
-use Rattle.std.proofs.lemmas.Bool.Decides.{nat_tests}
 use Rattle.std.proofs.lemmas.List.{get_or-set_same, get_or-set_other}
 use Rattle.fixed_box.specs.declared.TheConstants.{SLOTS}
 use Rattle.fixed_box.specs.Bounds.{Bounds}
@@ -13,7 +12,7 @@ use Rattle.broad_index.specs.Members.{has_pair, is_near, both_meet}
 use Rattle.broad_index.specs.Near.{near, rises}
 use Rattle.broad_index.specs.Touched.{AreKept}
 use Rattle.tree_nodes.specs.Tree.{Tree}
-use Rattle.box_tree.specs.declared.listing.Listing.{Listing}
+use Rattle.box_tree.specs.declared.tree_listing.TreeListing.{TreeListing}
 use Rattle.box_tree.specs.Boxes.{Boxes, untouched, no_boxes}
 use Rattle.slot_lists.specs.SlotMap.{map_of}
 use Rattle.box_tree.specs.Ties.{BoxLists}
@@ -103,5 +102,5 @@ same_outset {b} {f} {t} {m} eb ef et em =
 
 -- where the nodes aren't said to be listed
 pub unlisted : {boxes : BoxLists} {marks : List Bool} {kept : List Pair}
-    → Sound boxes.bodies marks kept → (listing : Listing) → listing.fresh ≡ false → Whole boxes marks kept listing
+    → Sound boxes.bodies marks kept → (listing : TreeListing) → listing.fresh ≡ false → Whole boxes marks kept listing
 unlisted s listing e = record { sound = s; listed = λ h. absurd (false≢true (sym e ∙ h)) }

@@ -9,16 +9,15 @@ use Rattle.std.proofs.lemmas.Bool.{eq-eqb}
 use Rattle.fixed_box.specs.Bounds.{Bounds}
 use Rattle.slot_lists.specs.SlotMap.{map_of}
 use Rattle.broad_index.specs.declared.pair.Pair.{Pair}
-use Rattle.broad_index.specs.Members.{has_pair, has_slot, same_pair}
+use Rattle.broad_index.specs.Members.{has_slot}
 use Rattle.broad_index.specs.Touched.{ordered_pairs, gathered_with, AreKept, AreMarked, Renewed}
 use Rattle.tree_nodes.specs.Tree.{Tree, Leaf, leaves}
 use Rattle.tree_search.specs.Exact.{entry_of, exact, exact_in}
 use Rattle.tree_search.specs.Crossed.{touched_of, crossed, all_visits_in, AreOf}
 use Rattle.box_tree.specs.Searches.{boxed, reached_by, reached_in, searches}
-use Rattle.box_tree.specs.Ties.{IsKept}
+use Rattle.box_tree.specs.Ties.{HaveLeaves}
 use Rattle.box_tree.proofs.LeafTies.{some_there}
 use Rattle.box_tree.proofs.Searching.{ReachLaw, RenewingLaw, has_marked, all_reached, searched_slots, exact_held}
-use Rattle.tree_search.proofs.CrossedPairs.{or_assoc, has_append}
 
 module _ (bodies : List (Option Bounds)) where
   entry_own : (s : ℕ) (p : Option Bounds) (es : List (ℕ × Bounds)) → get_or bodies s None ≡ p → AreOf bodies es → AreOf bodies (entry_of s p ++ es)
@@ -88,7 +87,7 @@ has_first (x ∷ es) k b (suc i) l e =
     or_true true = refl
     or_true false = refl
 
-module _ (o : Option Tree) (bodies fats : List (Option Bounds)) (s : IsKept o bodies fats) (marks : List Bool) where
+module _ (o : Option Tree) (bodies fats : List (Option Bounds)) (s : HaveLeaves o bodies fats) (marks : List Bool) where
   abbrev touched : List (ℕ × Bounds)
   touched = touched_of marks (exact_in bodies o)
 

@@ -1,9 +1,8 @@
 -- A sum over touched slots in the order of the leaves is that over the rising ones.
-use Rattle.std.proofs.Common.{◌≡◌, ◌≢◌, ℕ, zero, suc, ◌+◌, ◌<◌, ◌≤◌, Bool, true, false, cond, ◌==◌, Option, None, Some, is_some, List, [], ◌∷◌, ◌++◌}
+use Rattle.std.proofs.Common.{◌≡◌, ℕ, zero, suc, ◌+◌, ◌<◌, ◌≤◌, Bool, true, false, cond, ◌==◌, Option, None, Some, is_some, List, [], ◌∷◌, ◌++◌}
 use Rattle.std.proofs.Common.{length, map, filter, get_or, refl, sym, ap, ◌∙◌, arith, ⊎_elim}
 use Rattle.std.specs.List.{Contains, sum, sum_by}
 use Rattle.std.proofs.lemmas.Bool.{cases_eq, eq-eqb}
-use Rattle.std.proofs.lemmas.Bool.Decides.{nat_tests}
 use Rattle.std.proofs.lemmas.List.Sums.{sum_by-cons}
 use Rattle.fixed_box.specs.Bounds.{Bounds}
 use Rattle.slot_lists.specs.SlotMap.{entries_from}
@@ -12,7 +11,7 @@ use Rattle.box_tree.specs.Boxes.{visits_for}
 use Rattle.tree_search.specs.Exact.{entry_of, exact, exact_in}
 use Rattle.tree_search.specs.Crossed.{touched_of, all_visits_in}
 use Rattle.box_tree.specs.Searches.{sought_from}
-use Rattle.box_tree.specs.Ties.{IsKept}
+use Rattle.box_tree.specs.Ties.{HaveLeaves}
 use Rattle.box_tree.proofs.LeafTies.{some_there}
 use Rattle.box_tree.proofs.Fats.{within}
 use Rattle.fixed_box.proofs.Numbers.{eqb_other}
@@ -163,7 +162,7 @@ module _ (o : Option Tree) (bodies : List (Option Bounds)) (marks : List Bool) w
         | false ↦ omega arith
       ]
 
-module _ (o : Option Tree) (bodies fats : List (Option Bounds)) (s : IsKept o bodies fats) (marks : List Bool) where
+module _ (o : Option Tree) (bodies fats : List (Option Bounds)) (s : HaveLeaves o bodies fats) (marks : List Bool) where
   slot_small : (x : Leaf) → Contains (leaves_in o) x → x.slot < length bodies
   slot_small x c = within bodies x.slot (sym (s.fat.same x.slot) ∙ ap is_some (s.leafed.fat_is x c))
 

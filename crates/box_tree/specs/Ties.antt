@@ -49,7 +49,7 @@ pub record AreFat (fats bodies : List (Option Bounds)) : Type 0 where
   pub inside : (k : ℕ) (f b : Bounds) → slice_index_or fats k None ≡ Some f → slice_index_or bodies k None ≡ Some b → IsTrue (encloses f b)
 
 -- Each box has a leaf, and lies in its fat box.
-pub record IsKept (tree : Option Tree) (bodies fats : List (Option Bounds)) : Type 0 where
+pub record HaveLeaves (tree : Option Tree) (bodies fats : List (Option Bounds)) : Type 0 where
   pub bodies_len : length bodies ≡ SLOTS
   pub leafed : Leafed tree fats
   pub fat : AreFat fats bodies

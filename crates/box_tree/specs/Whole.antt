@@ -6,7 +6,7 @@ use Rattle.broad_index.specs.Near.{rises}
 use Rattle.broad_index.specs.Touched.{AreKept}
 use Rattle.slot_lists.specs.SlotMap.{map_of}
 use Rattle.tree_search.specs.Preorder.{preorder_in}
-use Rattle.box_tree.specs.declared.listing.Listing.{Listing}
+use Rattle.box_tree.specs.declared.tree_listing.TreeListing.{TreeListing}
 use Rattle.box_tree.specs.Ties.{BoxLists}
 
 -- The kept pairs are those of the map for every pair of which neither slot is marked.
@@ -15,9 +15,9 @@ pub record Sound (bodies : List (Option Bounds)) (marks : List Bool) (kept : Lis
   pub kept_are : AreKept (map_of bodies) marks kept
 
 -- The nodes are listed as they are now, where it is said that they are.
-abbrev pub AreListed : Listing → BoxLists → Type 0
+abbrev pub AreListed : TreeListing → BoxLists → Type 0
 AreListed listing boxes = listing.fresh ≡ true → listing.nodes.items ≡ preorder_in boxes.bodies boxes.tree
 
-pub record Whole (boxes : BoxLists) (marks : List Bool) (kept : List Pair) (listing : Listing) : Type 0 where
+pub record Whole (boxes : BoxLists) (marks : List Bool) (kept : List Pair) (listing : TreeListing) : Type 0 where
   pub sound : Sound boxes.bodies marks kept
   pub listed : AreListed listing boxes

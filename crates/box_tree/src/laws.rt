@@ -1,3 +1,4 @@
+//! The width of the fat margin, as a law with nothing to run.
 ghost use Rattle.std.specs.Prelude.{◌≡◌};
 
 use crate::MARGIN;

@@ -2,10 +2,8 @@
 //! keeps the pairs that it found and seeks those of touched slots alone.
 #![tactic(auto)]
 
-mod kept_boxes;
 mod laws;
 mod leaves;
-mod listing;
 mod marked;
 mod moved;
 mod renewal;
@@ -13,6 +11,8 @@ mod room;
 mod search;
 mod touched;
 mod tree;
+mod tree_boxes;
+mod tree_listing;
 
 pub use laws::margin_limits;
 pub use moved::Moved;

@@ -1,15 +1,16 @@
+//! The boxes and slots of a preorder list that are touched.
 ghost use Rattle.std.specs.Prelude.{◌≡◌, ◌++◌, OnOk, map};
 ghost use Rattle.tree_search.specs.Crossed.{touched_of};
 ghost use Rattle.tree_search.specs.Preorder.{entry_at, listed};
 
 use fixed_box::{FBox, NoMemory};
-use tree_search::{ListedNode, Marks, NodeKind};
+use tree_search::{ListedNode, NodeKind, SlotMarks};
 
 // Appends the marked slots of a list in preorder, each with its box, in the order of the leaves. So those that lie together
 // in space mostly stand together.
 pub(crate) fn push_marked(
     preorder: &[ListedNode],
-    marks: &Marks,
+    marks: &SlotMarks,
     out: &mut Vec<(u32, FBox)>,
 ) -> Result<(), NoMemory>
     ensures { OnOk result (out.new.items ≡ out.old.items ++ touched_of marks.now (listed preorder.now)) }
@@ -25,7 +26,7 @@ pub(crate) fn push_marked(
 // Appends the slot of a leaf with its box, if it is marked.
 fn push_if_marked(
     node: &ListedNode,
-    marks: &Marks,
+    marks: &SlotMarks,
     out: &mut Vec<(u32, FBox)>,
 ) -> Result<(), NoMemory>
     ensures { OnOk result (out.new.items ≡ out.old.items ++ touched_of marks.now (entry_at node.now.bounds node.now.kind)) }
@@ -41,7 +42,7 @@ fn push_if_marked(
 // Appends the marked slots of a list in preorder, in the order of the leaves.
 pub(crate) fn push_marked_slots(
     preorder: &[ListedNode],
-    marks: &Marks,
+    marks: &SlotMarks,
     out: &mut Vec<u32>,
 ) -> Result<(), NoMemory>
     ensures { OnOk result (out.new.items ≡ out.old.items ++ map (λ e. e.0) (touched_of marks.now (listed preorder.now))) }
@@ -55,7 +56,11 @@ pub(crate) fn push_marked_slots(
 }
 
 // Appends the slot of a leaf, if it is marked.
-fn push_slot_if_marked(node: &ListedNode, marks: &Marks, out: &mut Vec<u32>) -> Result<(), NoMemory>
+fn push_slot_if_marked(
+    node: &ListedNode,
+    marks: &SlotMarks,
+    out: &mut Vec<u32>,
+) -> Result<(), NoMemory>
     ensures { OnOk result (out.new.items ≡ out.old.items ++ map (λ e. e.0) (touched_of marks.now (entry_at node.now.bounds node.now.kind))) }
 {
     if let NodeKind::Leaf { slot } = node.kind {

@@ -1,3 +1,4 @@
+//! Whether a moved box left its fat box.
 /// What a shift did to the tree.
 #[derive(Clone, Copy, Debug, PartialEq, Eq)]
 pub enum Moved {

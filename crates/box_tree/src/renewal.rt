@@ -1,3 +1,4 @@
+//! The pair cache renewed: pairs of touched slots dropped, and what was found merged in.
 ghost use Rattle.std.specs.Prelude.{◌≡◌, ◌++◌, true, OnOk, OnErr};
 ghost use Rattle.std.specs.Ordering.{nat_cmp};
 ghost use Rattle.std.specs.FinMap.{FinMap};
@@ -10,13 +11,13 @@ use crate::room::Room;
 use broad_index::{Pair, renew_pairs};
 use fixed_box::NoMemory;
 use std::mem;
-use tree_search::Marks;
+use tree_search::SlotMarks;
 
 // Appends the pairs of a map, keeps them, and takes the marks away: those of the kept pairs that have no marked slot, and
 // those that were found for marked slots.
 pub(crate) fn renew(
     kept: &mut Vec<Pair>,
-    marks: &mut Marks,
+    marks: &mut SlotMarks,
     room: &mut Room,
     out: &mut Vec<Pair>,
 ) -> Result<(), NoMemory>

@@ -1,18 +1,19 @@
+//! One descent for each touched slot, and the slots that one box reaches.
 ghost use Rattle.std.specs.Prelude.{◌≡◌, ◌≤◌, ◌++◌, [], length, None, OnOk, IfOk, slice_index_or};
 ghost use Rattle.fixed_box.specs.declared.TheConstants.{SLOTS};
 ghost use Rattle.broad_index.specs.Touched.{gathered_with};
 ghost use Rattle.box_tree.specs.Boxes.{visits_for};
 ghost use Rattle.box_tree.specs.Searches.{sought_from, reached_in, searches, looked_for};
 
-use crate::kept_boxes::KeptBoxes;
+use crate::tree_boxes::TreeBoxes;
 use broad_index::push_ordered_pairs;
 use fixed_box::{FBox, NoMemory, SLOTS};
-use tree_search::{Findings, Marks, descend_with_box, push_others};
+use tree_search::{SlotMarks, TreeFindings, descend_with_box, push_others};
 
 // Appends the touched slots that are present, in rising order.
 pub(crate) fn push_sought(
     bodies: &[Option<FBox>],
-    marks: &Marks,
+    marks: &SlotMarks,
     out: &mut Vec<u32>,
 ) -> Result<(), NoMemory>
     requires bodies { length bodies.now ≡ SLOTS }
@@ -35,7 +36,7 @@ pub(crate) fn push_sought(
 // Replaces `out` by the other slots whose boxes meet the one of a slot, in no order, and answers how many nodes it looked
 // at. `met` is room.
 pub(crate) fn reach(
-    boxes: &KeptBoxes,
+    boxes: &TreeBoxes,
     slot: u32,
     met: &mut Vec<u32>,
     out: &mut Vec<u32>,
@@ -56,10 +57,10 @@ pub(crate) fn reach(
 // Appends the pairs of some slots with what each of them reaches, and answers a number raised by how many nodes it looked
 // at.
 pub(crate) fn search_all(
-    boxes: &KeptBoxes,
+    boxes: &TreeBoxes,
     slots: &[u32],
     looked: u64,
-    found: &mut Findings,
+    found: &mut TreeFindings,
 ) -> Result<u64, NoMemory>
     ensures ok { OnOk result (found.new.pairs.items ≡ found.old.pairs.items ++ gathered_with (searches boxes.now.bodies boxes.now.tree slots.now)) }
     ensures count { IfOk result (λ n. n ≡ looked_for boxes.now.tree boxes.now.bodies slots.now looked) }

@@ -1,3 +1,4 @@
+//! The search for touched slots: in groups along the preorder list, or one by one where few are touched.
 ghost use Rattle.std.specs.Prelude.{◌≡◌, ◌≤◌, ◌++◌, List, [], length};
 ghost use Rattle.std.specs.Prelude.{OnOk, IfOk};
 ghost use Rattle.slot_lists.specs.SlotMap.{map_of};
@@ -13,14 +14,14 @@ ghost use Rattle.tree_search.specs.Preorder.{preorder_in};
 ghost use Rattle.box_tree.specs.Searches.{boxed, looked_for, searches, sought_from};
 ghost use Rattle.box_tree.specs.Whole.{AreListed};
 
-use crate::kept_boxes::KeptBoxes;
-use crate::listing::{Listing, list_nodes};
 use crate::marked::{push_marked, push_marked_slots};
 use crate::room::Room;
 use crate::search::{push_sought, search_all};
+use crate::tree_boxes::TreeBoxes;
+use crate::tree_listing::{TreeListing, list_nodes};
 use broad_index::{holding_laws, keeping_laws};
 use fixed_box::{FBox, NoMemory};
-use tree_search::{Findings, ListedNode, Marks, SearchRoom, listing_law, search_boxes};
+use tree_search::{ListedNode, SearchRoom, SlotMarks, TreeFindings, listing_law, search_boxes};
 
 // From how many touched slots on they are searched for in groups. For fewer it doesn't pay to walk over the tree.
 const FEWEST_GROUPED: usize = 1_024;
@@ -28,10 +29,10 @@ const FEWEST_GROUPED: usize = 1_024;
 // Replaces the found pairs by those of touched slots with the boxes that theirs meet, and answers a number raised by how
 // many nodes a descent for each of them looks at. Many are searched for in groups, in the order of their leaves.
 pub(crate) fn search_touched(
-    boxes: &KeptBoxes,
-    marks: &Marks,
+    boxes: &TreeBoxes,
+    marks: &SlotMarks,
     looked: u64,
-    listing: &mut Listing,
+    listing: &mut TreeListing,
     room: &mut Room,
 ) -> Result<u64, NoMemory>
     requires { AreListed listing.old boxes.now }
@@ -67,9 +68,9 @@ pub(crate) fn search_touched(
 // Appends the touched slots that are present in the order of their leaves, so that those that lie together in space mostly
 // stand together.
 pub(crate) fn push_shared(
-    boxes: &KeptBoxes,
-    listing: &Listing,
-    marks: &Marks,
+    boxes: &TreeBoxes,
+    listing: &TreeListing,
+    marks: &SlotMarks,
     out: &mut Vec<u32>,
 ) -> Result<(), NoMemory>
     requires listed { AreListed listing.now boxes.now }
@@ -93,12 +94,12 @@ pub(crate) fn push_shared(
 // for each of them looks at. Where the nodes are listed, they are searched for in groups, in the order in which they are
 // given.
 pub(crate) fn search_run(
-    boxes: &KeptBoxes,
-    listing: &Listing,
+    boxes: &TreeBoxes,
+    listing: &TreeListing,
     slots: &[u32],
     looked: u64,
     room: &mut SearchRoom,
-    found: &mut Findings,
+    found: &mut TreeFindings,
 ) -> Result<u64, NoMemory>
     requires { AreListed listing.now boxes.now }
     ensures ok { OnOk result (Adds found.old.pairs.items found.new.pairs.items (gathered_with (searches boxes.now.bodies boxes.now.tree slots.now))) }
@@ -115,7 +116,7 @@ pub(crate) fn search_run(
 }
 
 // Appends each slot that has a box with it.
-fn push_boxes(boxes: &KeptBoxes, slots: &[u32], out: &mut Vec<(u32, FBox)>) -> Result<(), NoMemory>
+fn push_boxes(boxes: &TreeBoxes, slots: &[u32], out: &mut Vec<(u32, FBox)>) -> Result<(), NoMemory>
     ensures { OnOk result (out.new.items ≡ out.old.items ++ boxed boxes.now.bodies slots.now) }
 {
     let mut rest = slots;
@@ -130,11 +131,11 @@ fn push_boxes(boxes: &KeptBoxes, slots: &[u32], out: &mut Vec<(u32, FBox)>) -> R
 
 // Searches for the touched boxes of a room in the list of the nodes.
 fn search_groups(
-    boxes: &KeptBoxes,
+    boxes: &TreeBoxes,
     preorder: &[ListedNode],
     looked: u64,
     room: &mut SearchRoom,
-    found: &mut Findings,
+    found: &mut TreeFindings,
 ) -> Result<u64, NoMemory>
     requires list { preorder.now ≡ preorder_in boxes.now.bodies boxes.now.tree }
     requires touched { AreOf boxes.now.bodies room.old.touched.items }

@@ -1,3 +1,4 @@
+//! The broad phase over the tree: boxes come, move and go, and pairs are sought for touched slots alone.
 ghost use Rattle.std.specs.Prelude.{◌≡◌, ◌↔◌, ℕ, ◌≤◌, ◌<◌, ◌^◌, true, false, None, Some, is_some, Ok, IfOk, IfSome};
 ghost use Rattle.std.specs.Prelude.{IsTrue, count_by, length, map as mapped, slice_set, refl};
 ghost use Rattle.std.specs.FinMap as map;
@@ -11,12 +12,12 @@ ghost use Rattle.box_tree.specs.declared.TheConstants.{MARGIN};
 ghost use Rattle.box_tree.specs.Boxes.{no_boxes as outset, shifted, told, fat_entry, cost, searched, shared_slots, Finds};
 
 use crate::Moved;
-use crate::kept_boxes::KeptBoxes;
-use crate::listing::Listing;
 use crate::renewal::renew;
 use crate::room::Room;
 use crate::search::reach;
 use crate::touched::{push_shared, search_run, search_touched};
+use crate::tree_boxes::TreeBoxes;
+use crate::tree_listing::TreeListing;
 use broad_index::{
     BroadPhase, FEWEST_SOUGHT, Pair, PairSeeker, Query, Seeker, holding_laws, join_pieces,
     keeping_laws, member_laws, pays_threads, push_rising_slots, settle_pairs,
@@ -25,7 +26,7 @@ use fixed_box::{FBox, NoMemory};
 use std::alloc::Global;
 use std::marker::Model;
 use tree_nodes::{MOST_HEIGHT, Nodes};
-use tree_search::{Findings, Marks, SearchRoom, push_hits};
+use tree_search::{SearchRoom, SlotMarks, TreeFindings, push_hits};
 
 /// Moving boxes under slots, in a balanced tree of fat boxes that keeps the pairs it found. Other engines call it a dynamic
 /// AABB tree: its leaves are proxies, a fat box is an enlarged AABB, the touched slots are a move buffer, and the kept pairs
@@ -43,13 +44,13 @@ use tree_search::{Findings, Marks, SearchRoom, push_hits};
 /// Changes take no memory; `new` and every search do. The structure is never spent.
 #[derive(Drop)]
 pub struct BoxTree {
-    boxes: KeptBoxes,
+    boxes: TreeBoxes,
     // Which slots are touched.
-    marks: Marks,
+    marks: SlotMarks,
     // The pairs that were found last. Those with a touched slot may be wrong by now.
     kept: Vec<Pair>,
     looked: u64,
-    listing: Listing,
+    listing: TreeListing,
     room: Room,
 }
 
@@ -80,11 +81,11 @@ impl BoxTree {
         ensures none { IfOk result (λ tree. tree ≡ outset) }
     {
         Ok(BoxTree {
-            boxes: KeptBoxes::new(alloc)?,
-            marks: Marks::new(alloc)?,
+            boxes: TreeBoxes::new(alloc)?,
+            marks: SlotMarks::new(alloc)?,
             kept: Vec::new(alloc),
             looked: 0,
-            listing: Listing::new(alloc),
+            listing: TreeListing::new(alloc),
             room: Room::new(alloc)?,
         })
     }
@@ -154,6 +155,8 @@ impl BroadPhase for BoxTree {
 
     ghost COUNTS = { false };
 
+    ghost RUNS_OUT = { false };
+
     ghost exchanges = { λ _. 0 };
 
     ghost paired = { λ old new. new ≡ searched old };
@@ -165,6 +168,8 @@ impl BroadPhase for BoxTree {
     type Shared = BoxTree;
 
     ghost uncounted = { λ _ _. refl };
+
+    ghost lasting = { λ _ _. refl };
 
     fn add(&mut self, slot: u32, body: FBox) -> Result<(), NoMemory>
         requires small { slot < SLOTS }
@@ -295,7 +300,7 @@ impl PairSeeker for BoxTree {
         holding_laws();
         keeping_laws();
         self.boxes.kept_law();
-        let mut found = Findings::new(alloc);
+        let mut found = TreeFindings::new(alloc);
         let cost = search_run(
             &self.boxes,
             &self.listing,

@@ -1,12 +1,12 @@
 -- In whichever order the touched slots come, the same pairs are found.
 use Rattle.std.proofs.Common.{◌++◌, ◌∙◌, ap}
-use Rattle.broad_index.specs.Members.{has_pair}
+use Rattle.std.proofs.lemmas.List.Folds.{list_any-append}
+use Rattle.broad_index.specs.Members.{has_pair, same_pair}
 use Rattle.broad_index.specs.Touched.{gathered_with}
 use Rattle.tree_search.specs.Looked.{raised}
 use Rattle.tree_search.specs.Crossed.{touched_of, all_visits_in}
 use Rattle.tree_search.specs.Preorder.{listed}
 use Rattle.box_tree.specs.Searches.{searches, sought_from}
-use Rattle.tree_search.proofs.CrossedPairs.{has_append}
 use Rattle.box_tree.proofs.SharedSlots.{renewed_run, renewed_along, along_own, sought_marked}
 use Rattle.box_tree.proofs.TouchedSums.{touched_total}
 use Rattle.box_tree.proofs.touched.search_touched.Goals as goal
@@ -22,7 +22,7 @@ returns-then-len-lt-FEWEST_GROUPED-clause-ok c kept are =
     (λ p. ap (λ ps. has_pair ps p) (c.in_ok-few.ensures.ok
     ∙ ap (λ l. c.clear.new.self.items ++ gathered_with (searches bs o l)) (c.deref.ensures.value ∙ c.in_ok-push_sought.ensures.ok
     ∙ ap (sought_from c.args.marks.now 0) c.bodies.ensures))
-    ∙ has_append c.clear.new.self.items (gathered_with (searches bs o slots)) p)
+    ∙ list_any-append (same_pair p) c.clear.new.self.items (gathered_with (searches bs o slots)))
     kept are
 
 pub search_groups-requires-clause-touched : goal.search_groups-requires-clause-touched

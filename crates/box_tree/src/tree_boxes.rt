@@ -1,3 +1,4 @@
+//! Exact boxes under slots, each inside the fat box of its leaf.
 ghost use Rattle.std.specs.Prelude.{◌≡◌, ◌↔◌, ℕ, ◌<◌, true, false, None, Some, IfOk, IfSome, IsTrue, map as mapped, slice_index_or};
 ghost use Rattle.std.specs.FinMap as map;
 ghost use Rattle.fixed_box.specs.Bounds.{Bounds, encloses, fattened};
@@ -8,7 +9,7 @@ ghost use Rattle.tree_nodes.specs.Tree.{leaves_in, IsTreeIn};
 ghost use Rattle.box_tree.specs.declared.TheConstants.{MARGIN};
 ghost use Rattle.box_tree.specs.Boxes.{fat_entry, is_inside, shifted, told};
 ghost use Rattle.tree_search.specs.Exact.{exact_in, IsInsideIn};
-ghost use Rattle.box_tree.specs.Ties.{IsKept};
+ghost use Rattle.box_tree.specs.Ties.{HaveLeaves};
 
 use crate::leaves::Leaves;
 use crate::{MARGIN, Moved};
@@ -21,12 +22,12 @@ use tree_search::BoxedTree;
 
 /// The boxes under their slots, each inside the fat box of its leaf. Only `new` takes memory.
 #[derive(Drop)]
-pub(crate) struct KeptBoxes {
+pub(crate) struct TreeBoxes {
     bodies: Vec<Option<FBox>>,
     leaves: Leaves,
 }
 
-impl Model for KeptBoxes {
+impl Model for TreeBoxes {
     ghost use Rattle.std.specs.Prelude.{◌≡◌, length};
     ghost use Rattle.fixed_box.specs.declared.TheConstants.{SLOTS};
     ghost use Rattle.box_tree.specs.Ties.{BoxLists, coded_box_lists, AreFat};
@@ -40,14 +41,14 @@ impl Model for KeptBoxes {
     ghost invariant = { λ k. (length k.bodies.items ≡ SLOTS) × AreFat k.leaves.fats k.bodies.items };
 }
 
-impl KeptBoxes {
+impl TreeBoxes {
     /// No box, with room for all that there may be.
-    pub(crate) fn new(alloc: Global) -> Result<KeptBoxes, NoMemory>
+    pub(crate) fn new(alloc: Global) -> Result<TreeBoxes, NoMemory>
         ensures bodies { IfOk result (λ boxes. map_of boxes.bodies ≡ map.empty) }
         ensures fats { IfOk result (λ boxes. map_of boxes.fats ≡ map.empty) }
         ensures tree { IfOk result (λ boxes. boxes.tree ≡ None) }
     {
-        Ok(KeptBoxes {
+        Ok(TreeBoxes {
             bodies: no_boxes(alloc)?,
             leaves: Leaves::new(alloc)?,
         })
@@ -55,7 +56,7 @@ impl KeptBoxes {
 
     /// A law for proofs, with nothing to run: each box has a leaf, and lies in its fat box.
     pub(crate) fn kept_law(&self)
-        ensures kept { IsKept self.now.tree self.now.bodies self.now.fats }
+        ensures kept { HaveLeaves self.now.tree self.now.bodies self.now.fats }
         ensures inside { IsInsideIn self.now.bodies self.now.tree }
         ensures held { Holds (map_of self.now.bodies) (exact_in self.now.bodies self.now.tree) }
     {

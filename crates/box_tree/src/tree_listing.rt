@@ -1,24 +1,25 @@
+//! The preorder list of a tree, and whether it is up to date.
 ghost use Rattle.std.specs.Prelude.{◌≡◌, true, false, IfSome, OnOk};
 ghost use Rattle.tree_search.specs.Preorder.{preorder_in};
 ghost use Rattle.box_tree.specs.Whole.{AreListed};
 
-use crate::kept_boxes::KeptBoxes;
+use crate::tree_boxes::TreeBoxes;
 use fixed_box::NoMemory;
 use std::alloc::Global;
 use tree_search::{ListedNode, list_preorder};
 
 /// The nodes of a tree as searches of many slots read them, and whether they are listed as they are now.
 #[derive(Drop)]
-pub(crate) struct Listing {
+pub(crate) struct TreeListing {
     pub(crate) nodes: Vec<ListedNode>,
     pub(crate) fresh: bool,
 }
 
-impl Listing {
-    pub(crate) fn new(alloc: Global) -> Listing
+impl TreeListing {
+    pub(crate) fn new(alloc: Global) -> TreeListing
         ensures { result.fresh ≡ false }
     {
-        Listing {
+        TreeListing {
             nodes: Vec::new(alloc),
             fresh: false,
         }
@@ -32,7 +33,7 @@ impl Listing {
     }
 
     /// Lists the nodes, where they aren't yet.
-    pub(crate) fn refresh(&mut self, boxes: &KeptBoxes) -> Result<(), NoMemory>
+    pub(crate) fn refresh(&mut self, boxes: &TreeBoxes) -> Result<(), NoMemory>
         requires { AreListed self.old boxes.now }
         ensures listed { AreListed self.new boxes.now }
         ensures nodes { OnOk result (self.new.nodes.items ≡ preorder_in boxes.now.bodies boxes.now.tree) }
@@ -47,7 +48,7 @@ impl Listing {
 }
 
 // Replaces a list by the nodes of the tree.
-pub(crate) fn list_nodes(boxes: &KeptBoxes, out: &mut Vec<ListedNode>) -> Result<(), NoMemory>
+pub(crate) fn list_nodes(boxes: &TreeBoxes, out: &mut Vec<ListedNode>) -> Result<(), NoMemory>
     ensures { OnOk result (out.new.items ≡ preorder_in boxes.now.bodies boxes.now.tree) }
 {
     list_preorder(&boxes.boxed_tree(), out)

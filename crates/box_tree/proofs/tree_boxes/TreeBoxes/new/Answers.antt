@@ -1,7 +1,7 @@
 -- There is no box, and no fat box.
 use Rattle.slot_lists.specs.SlotMapLaws.{map_blank}
 use Rattle.box_tree.proofs.Fats.{fat_none}
-use Rattle.box_tree.proofs.kept_boxes.KeptBoxes.new.Goals as goal
+use Rattle.box_tree.proofs.tree_boxes.TreeBoxes.new.Goals as goal
 
 pub invariant_of-result : goal.invariant_of-result
 invariant_of-result c = (

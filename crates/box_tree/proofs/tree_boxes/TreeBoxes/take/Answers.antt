@@ -6,7 +6,7 @@ use Rattle.slot_lists.specs.SlotMap.{map_of}
 use Rattle.slot_lists.specs.SlotMapLaws.{map_take}
 use Rattle.box_tree.specs.Ties.{AreFat}
 use Rattle.box_tree.proofs.Fats.{present_fat, present_small, fat_taken}
-use Rattle.box_tree.proofs.kept_boxes.KeptBoxes.take.Goals as goal
+use Rattle.box_tree.proofs.tree_boxes.TreeBoxes.take.Goals as goal
 
 pub index_mut-requires : goal.index_mut-requires
 index_mut-requires c =

@@ -4,7 +4,7 @@ use Rattle.std.specs.FinMap.{len}
 use Rattle.slot_lists.specs.SlotMap.{map_of}
 use Rattle.tree_nodes.specs.Tree.{leaves_in}
 use Rattle.box_tree.proofs.LeafCounts.{leaves_counted}
-use Rattle.box_tree.proofs.kept_boxes.KeptBoxes.len.Goals as goal
+use Rattle.box_tree.proofs.tree_boxes.TreeBoxes.len.Goals as goal
 
 pub returns : goal.returns
 returns c =

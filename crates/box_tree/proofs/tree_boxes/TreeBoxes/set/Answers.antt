@@ -8,7 +8,7 @@ use Rattle.box_tree.specs.Boxes.{is_inside, shifted, told}
 use Rattle.box_tree.specs.Ties.{AreFat}
 use Rattle.box_tree.proofs.Changes.{inside_some, inside_told, outside_told, inside_shifted, outside_shifted}
 use Rattle.box_tree.proofs.Fats.{present_fat, present_small, fat_put, fat_inside}
-use Rattle.box_tree.proofs.kept_boxes.KeptBoxes.set.Goals as goal
+use Rattle.box_tree.proofs.tree_boxes.TreeBoxes.set.Goals as goal
 
 pub index_mut-requires : goal.index_mut-requires
 index_mut-requires c =

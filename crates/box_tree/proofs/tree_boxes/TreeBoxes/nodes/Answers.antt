@@ -6,7 +6,7 @@ use Rattle.slot_lists.specs.SlotMap.{map_of}
 use Rattle.tree_nodes.specs.Tree.{leaves_in, IsTreeIn}
 use Rattle.box_tree.specs.Boxes.{fat_entry}
 use Rattle.box_tree.proofs.Fats.{fats_held, both_present}
-use Rattle.box_tree.proofs.kept_boxes.KeptBoxes.nodes.Goals as goal
+use Rattle.box_tree.proofs.tree_boxes.TreeBoxes.nodes.Goals as goal
 
 pub returns-clause-tree : goal.returns-clause-tree
 returns-clause-tree c = subst (λ k. IsTreeIn k.tree) c.self.view_is c.leaf_law.ensures.is_tree

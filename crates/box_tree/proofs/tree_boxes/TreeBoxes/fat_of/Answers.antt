@@ -4,7 +4,7 @@ use Rattle.std.specs.FinMap.{contains_key, get}
 use Rattle.slot_lists.specs.SlotMap.{map_of}
 use Rattle.slot_lists.specs.SlotMapLaws.{get_map}
 use Rattle.box_tree.proofs.Fats.{none_read, inside_read}
-use Rattle.box_tree.proofs.kept_boxes.KeptBoxes.fat_of.Goals as goal
+use Rattle.box_tree.proofs.tree_boxes.TreeBoxes.fat_of.Goals as goal
 
 pub returns-clause-value : goal.returns-clause-value
 returns-clause-value c =

@@ -5,7 +5,7 @@ use Rattle.std.specs.FinMap.{get}
 use Rattle.slot_lists.specs.SlotMap.{map_of}
 use Rattle.slot_lists.specs.SlotMapLaws.{get_map}
 use Rattle.fixed_box.proofs.Lists.{past}
-use Rattle.box_tree.proofs.kept_boxes.KeptBoxes.box_of.Goals as goal
+use Rattle.box_tree.proofs.tree_boxes.TreeBoxes.box_of.Goals as goal
 
 pub returns-then-slot-len-clause-value : goal.returns-then-slot-len-clause-value
 returns-then-slot-len-clause-value c =

@@ -8,7 +8,7 @@ use Rattle.slot_lists.specs.SlotMapLaws.{map_put}
 use Rattle.box_tree.specs.declared.TheConstants.{MARGIN}
 use Rattle.box_tree.specs.Ties.{AreFat}
 use Rattle.box_tree.proofs.Fats.{absent_fat, fat_put}
-use Rattle.box_tree.proofs.kept_boxes.KeptBoxes.put.Goals as goal
+use Rattle.box_tree.proofs.tree_boxes.TreeBoxes.put.Goals as goal
 
 pub add-requires-clause-absent : goal.add-requires-clause-absent
 add-requires-clause-absent c =

@@ -4,7 +4,7 @@ use Rattle.broad_index.specs.Held.{Holds}
 use Rattle.slot_lists.specs.SlotMap.{map_of}
 use Rattle.tree_search.specs.Exact.{exact_in, IsInsideIn}
 use Rattle.box_tree.proofs.Searching.{all_inside, exact_held}
-use Rattle.box_tree.proofs.kept_boxes.KeptBoxes.kept_law.Goals as goal
+use Rattle.box_tree.proofs.tree_boxes.TreeBoxes.kept_law.Goals as goal
 
 pub returns-clause-inside : goal.returns-clause-inside
 returns-clause-inside c =
