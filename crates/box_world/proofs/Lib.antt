@@ -1,4 +1,6 @@
 pub mod Counted
+pub mod FoundBodies
+pub mod Gone
 pub mod Marked
 pub mod Refused
 pub mod Stale

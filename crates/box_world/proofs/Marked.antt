@@ -110,11 +110,6 @@ pub marked_worlds : (w : World) (ms ns : List Mark) → ns ≡ ms ++ fresh w.fra
     → worlds_back w (reverse ns) ≡ w ∷ worlds_back w (reverse ms)
 marked_worlds w ms ns is = ap (λ ks. worlds_back w (reverse ks)) is ∙ ap (worlds_back w) (reverse-push ms (fresh w.frames w.exchanges))
 
-pub marked_returns : (t : Table) (frames exchanges : ℕ) (ms ns : List Mark) → ns ≡ ms ++ fresh frames exchanges ∷ [] → CanReturn t (reverse ms)
-    → CanReturn t (reverse ns)
-marked_returns t frames exchanges ms ns is h =
-    subst (CanReturn t) (sym (ap reverse is ∙ reverse-push ms (fresh frames exchanges))) (record { undoable = tt; ordered = refl }, h)
-
 -- the way back to the newest mark
 pub back_worlds : (w : World) (older : List Mark) (m : Mark) (ms : List Mark) → ms ≡ older ++ m ∷ []
     → worlds_back w (reverse ms) ≡ marked_world w m ∷ worlds_back (marked_world w m) (reverse older)
@@ -160,10 +155,6 @@ ends_in (m ∷ ms) some = go m ms
     go m [] = record { older = []; newest = m; is = refl }
     go m (n ∷ ms) = let rest = go n ms in record { older = m ∷ rest.older; newest = rest.newest; is = ap (λ xs. m ∷ xs) rest.is }
 
-pub no_end : (older : List Mark) (m : Mark) → older ++ m ∷ [] ≢ []
-no_end [] m e = cc
-no_end (x ∷ older) m e = cc
-
 -- a mark of the world, where there is room, and where there is none
 pub after_mark : (t : Timeline) → nat_lt (length t.marks) MOST_MARKS ≡ true → marked t ≡ record t { marks = t.now ∷ t.marks }
 after_mark t some = rw some refl
@@ -180,3 +171,11 @@ same_world t u ps qs f g x y et ep ef ex =
 pub same_time : (v w : World) (vs ws : List World) → v ≡ w → vs ≡ ws
     → ◌≡◌ {A = Timeline} (record { now = v; marks = vs }) (record { now = w; marks = ws })
 same_time v w vs ws e es = ap (λ a. record { now = a; marks = vs }) e ∙ ap (λ a. record { now = w; marks = a }) es
+
+-- marked worlds have their own number of exchanges
+pub same_worlds : (v w : World) (ms : List Mark) → v.table ≡ w.table → v.last ≡ w.last → worlds_back v ms ≡ worlds_back w ms
+same_worlds v w [] table last = refl
+same_worlds v w (m ∷ older) table last =
+    let same : marked_world v m ≡ marked_world w m = same_world _ _ _ _ m.frames m.frames m.exchanges m.exchanges (ap (undone m.undos) table)
+    (ap (or_kept m.kept) last) refl refl in
+    ap (λ u. u ∷ worlds_back u older) same

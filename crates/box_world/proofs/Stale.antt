@@ -34,7 +34,7 @@ none_gone handle [] h = refl
 none_gone handle (entry ∷ later) h = kept_one handle entry later (has handle entry) refl (none_gone handle later) h
 
 -- no exchanges either
-none_passed : (found : Option Live) (es : List (ℕ × Bounds)) (slot : ℕ) (body : Bounds) → is_some found ≡ false
+pub none_passed : (found : Option Live) (es : List (ℕ × Bounds)) (slot : ℕ) (body : Bounds) → is_some found ≡ false
     → passed_from (option_map (λ entry. entry.body) found) es slot body ≡ 0
 none_passed None es slot body h = refl
 none_passed (Some entry) es slot body h = absurd (cc)

@@ -1,12 +1,13 @@
 -- What the calls of a world see of it, why each of them refuses, and what their answers say.
-use Rattle.std.specs.Prelude.{◌≡◌, Bool, true, false, ◌||◌, ◌==◌, nat_lt, List, [], length, sum, if◌then◌else◌, Option, None, Some}
+use Rattle.std.specs.Prelude.{◌≡◌, Bool, true, false, ◌||◌, ◌==◌, nat_lt, List, [], length, if◌then◌else◌, Option, None, Some}
 use Rattle.std.specs.Prelude.{is_some, Result, Ok, Err, ◌⊎◌}
 use Rattle.fixed_box.specs.declared.TheConstants.{SLOTS}
 use Rattle.live_table.specs.declared.handle.Handle.{Handle}
 use Rattle.live_table.specs.Entries.{entry_at}
+use Rattle.live_table.specs.Table.{least_free}
 use Rattle.pair_events.specs.declared.told.Told.{Told}
 use Rattle.pair_events.specs.PairEvents.{events}
-use Rattle.box_world.specs.declared.TheConstants.{MOST_COUNTED, MOST_EXCHANGES}
+use Rattle.box_world.specs.declared.TheConstants.{MOST_FRAMES_COUNTED, MOST_EXCHANGES}
 use Rattle.box_world.specs.declared.refusal.Refusal.{Refusal}
 use Rattle.box_world.specs.declared.refusal.Refusal.TheVariants.{Stale, Full, Exhausted, NoMemory}
 use Rattle.box_world.specs.World.{World, Timeline, beginning, pairs, framed}
@@ -40,11 +41,11 @@ is_live w handle = is_some (entry_at handle w.table.entries)
 abbrev pub is_counted_out : World → Bool
 is_counted_out w = nat_lt MOST_EXCHANGES w.exchanges
 
--- Why a box can't come: all slots are taken, or the gives or the exchanges are at their end.
+-- Why a box can't come: all slots are taken, or each slot without a box was given as often as may be, or the exchanges are at their end.
 abbrev pub add_refusal : World → Option Refusal
 add_refusal w =
     if length w.table.entries == SLOTS then Some Full
-    else if sum w.table.gives == MOST_COUNTED || is_counted_out w then Some Exhausted
+    else if least_free w.table == SLOTS || is_counted_out w then Some Exhausted
     else None
 
 -- Why a box can't be moved: no live box has the handle, or the exchanges are at their end.
@@ -57,7 +58,7 @@ change_refusal w handle = if is_live w handle then None else Some Stale
 
 -- Why a frame can't end: the frames are at their end.
 abbrev pub frame_refusal : World → Option Refusal
-frame_refusal w = if w.frames == MOST_COUNTED then Some Exhausted else None
+frame_refusal w = if w.frames == MOST_FRAMES_COUNTED then Some Exhausted else None
 
 -- The call did what it is for.
 pub record IsDone (cause : Option Refusal) (after old new : State) : Type 0 where
@@ -71,11 +72,21 @@ pub record IsRefused (cause : Option Refusal) (refusal : Refusal) (old new : Sta
   pub why : cause ≡ Some refusal
   pub same : new ≡ old
 
--- Memory ran out in this call, for which there was no cause to refuse: the world is as before, or spent.
+-- Memory ran out while the index was changed: the world is spent, and has what it had. Of the present world the number of exchanges
+-- alone is free.
+pub record IsSpentFrom (old new : State) : Type 0 where
+  pub spent : new.spent ≡ true
+  pub told : new.told ≡ old.told
+  pub marks : new.time.marks ≡ old.time.marks
+  pub table : new.time.now.table ≡ old.time.now.table
+  pub last : new.time.now.last ≡ old.time.now.last
+  pub frames : new.time.now.frames ≡ old.time.now.frames
+
+-- Memory ran out in this call, for which there was no cause to refuse: the world is as before, or spent with what it had.
 pub record RanOut (cause : Option Refusal) (old new : State) : Type 0 where
   pub sound : old.spent ≡ false
   pub allowed : cause ≡ None
-  pub left : (new ≡ old) ⊎ (new.spent ≡ true)
+  pub left : (new ≡ old) ⊎ IsSpentFrom old new
 
 -- Memory ran out in a change before, and the world stays as it is.
 pub record StaysSpent (old new : State) : Type 0 where

@@ -1,3 +1,4 @@
 pub mod Answers
 pub mod Parts
+pub mod Steps
 pub mod World

@@ -58,6 +58,15 @@ pub record IsChanged {B : Type 0} (bodies : B → FinMap nat_cmp Bounds) (spent 
   pub events : new.events ≡ old.events
   pub kept : IsSound bodies spent exchanges new
 
+-- All but the index is as it was, and memory ran out there.
+pub record IsCutOff {B : Type 0} (spent : B → Bool) (old new : Parts B) : Type 0 where
+  pub index : spent new.index ≡ true
+  pub table : new.table ≡ old.table
+  pub last : new.pair_table ≡ old.pair_table
+  pub marks : new.marks.marks ≡ old.marks.marks
+  pub frames : new.frames ≡ old.frames
+  pub events : new.events ≡ old.events
+
 -- What is to be noted of a handle's box before a change: nothing where no mark is held, and else the box as it is.
 abbrev pub IsToNote : List Mark → Option Live → ℕ → Option Live → Type 0
 IsToNote marks found spare None = marks ≡ []

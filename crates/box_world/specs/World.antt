@@ -5,8 +5,7 @@ use Rattle.live_table.specs.declared.group.Group.{Group}
 use Rattle.live_table.specs.declared.handle.Handle.{Handle}
 use Rattle.live_table.specs.declared.masks.Masks.{Masks}
 use Rattle.live_table.specs.Bodies.{slots_with_bodies, body_of}
-use Rattle.live_table.specs.Entries.{least_free}
-use Rattle.live_table.specs.Table.{Table, empty_table, after_give, after_set_box, after_set_masks, after_take}
+use Rattle.live_table.specs.Table.{Table, least_free, empty_table, after_give, after_set_box, after_set_masks, after_take}
 use Rattle.broad_index.specs.Exchanges.{passed_from_above, passed_from}
 use Rattle.pair_events.specs.declared.hpair.HPair.{HPair}
 use Rattle.live_queries.specs.Pairs.{pairs_of}
@@ -29,7 +28,7 @@ pairs w = pairs_of w.table.entries
 
 -- the exchanges of a new box, which comes under the least free slot
 abbrev pub exchanges_of_add : World → Bounds → ℕ
-exchanges_of_add w body = passed_from_above (slots_with_bodies w.table.entries) (least_free w.table.entries) body
+exchanges_of_add w body = passed_from_above (slots_with_bodies w.table.entries) (least_free w.table) body
 
 -- the exchanges of a move, none where no live box has the handle
 abbrev pub exchanges_of_move : World → Handle → Bounds → ℕ

@@ -1,16 +1,24 @@
-ghost use Rattle.std.specs.Prelude.{◌≡◌, ◌≢◌, ◌↔◌, ◌^◌, Bool, Option, Some, Result, Err, false};
+//! Laws of worlds for proofs: what an answer says, what a stale handle changes, and where counting ends.
+
+ghost use Rattle.std.specs.Prelude.{◌≡◌, ◌≢◌, ◌↔◌, ◌^◌, ◌*◌, ◌≤◌, Bool, Option, Some, Result, Err, List, true, false};
 ghost use Rattle.fixed_box.specs.Bounds.{Bounds};
-ghost use Rattle.box_world.specs.declared.TheConstants.{MOST_COUNTED, MOST_EXCHANGES};
+ghost use Rattle.fixed_box.specs.declared.TheConstants.{SLOTS};
+ghost use Rattle.live_table.specs.Table.{IsTable};
+ghost use Rattle.box_world.specs.declared.TheConstants.{MOST_FRAMES_COUNTED, MOST_EXCHANGES};
 ghost use Rattle.box_world.specs.declared.refusal.Refusal.{Refusal};
 ghost use Rattle.box_world.specs.declared.refusal.Refusal.TheVariants.{NoMemory};
 ghost use Rattle.live_table.specs.declared.handle.Handle.{Handle};
 ghost use Rattle.live_table.specs.declared.masks.Masks.{Masks};
-ghost use Rattle.box_world.specs.World.{World, moved, masked, removed};
+ghost use Rattle.live_table.specs.Changes.{IsGone};
+ghost use Rattle.box_world.specs.Steps.{Step, world_after};
+ghost use Rattle.box_world.specs.World.{World, moved, masked, removed, counted, exchanges_of_add, exchanges_of_move};
 ghost use Rattle.box_world.specs.Answers.{Answers, State, is_live, add_refusal, shift_refusal, change_refusal, frame_refusal};
+
+use broad_index::exchange_laws;
 
 /// A law for proofs, with nothing to run: with other ends of counting this crate has no proof.
 pub fn count_law()
-    ensures counted { MOST_COUNTED ≡ 4294967295 }
+    ensures frames { MOST_FRAMES_COUNTED ≡ 18446744073709551615 }
     ensures exchanges { MOST_EXCHANGES ≡ 2 ^ 62 }
 {}
 
@@ -32,3 +40,24 @@ pub fn stale_law()
     ensures masked { (w : World) (handle : Handle) (masks : Masks) → is_live w handle ≡ false → masked w handle masks ≡ w }
     ensures removed { (w : World) (handle : Handle) → is_live w handle ≡ false → removed w handle ≡ w }
 {}
+
+/// A law for proofs, with nothing to run: a change counts at most so many exchanges. On each of three axes two endpoints pass at most
+/// two of each slot.
+pub fn exchange_law()
+    ensures added { (counts : Bool) (w : World) (body : Bounds) → IsTable w.table → counted counts (exchanges_of_add w body) ≤ 12 * SLOTS }
+    ensures moved { (counts : Bool) (w : World) (handle : Handle) (body : Bounds) → IsTable w.table
+        → counted counts (exchanges_of_move w handle body) ≤ 12 * SLOTS }
+{
+    exchange_laws();
+}
+
+/// A law for whoever keeps handles: once its box was removed a handle is stale for ever, whatever comes, moves or goes afterwards and
+/// however many frames end, while nobody goes back. And a handle whose slot is `SLOTS` or above names no box, under any generation.
+pub fn gone_law()
+    ensures removed { (w : World) (handle : Handle) → IsTable w.table → is_live w handle ≡ true → IsGone handle (removed w handle).table }
+    ensures gone { (counts : Bool) (w : World) (steps : List Step) (handle : Handle) → IsGone handle w.table
+        → is_live (world_after counts w steps) handle ≡ false }
+    ensures past { (w : World) (handle : Handle) → IsTable w.table → SLOTS ≤ handle.slot → is_live w handle ≡ false }
+{
+    live_table::gone_law();
+}

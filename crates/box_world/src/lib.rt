@@ -9,12 +9,12 @@ mod reading;
 mod refusal;
 mod world;
 
-pub use laws::{answer_law, count_law, stale_law};
+pub use laws::{answer_law, count_law, exchange_law, gone_law, stale_law};
 pub use refusal::Refusal;
 pub use world::BoxWorld;
 
-/// Up to this number the boxes that were ever given are counted, and the frames.
-pub const MOST_COUNTED: u32 = u32::MAX;
+/// Up to this number frames are counted, which takes longer than any machine lasts.
+pub const MOST_FRAMES_COUNTED: u64 = u64::MAX;
 
 /// Where more exchanges were counted than this, no box comes or moves before the next frame. One change counts some 98,000 at
 /// most, so that their number always fits 64 bits.

@@ -1,4 +1,6 @@
-ghost use Rattle.std.specs.Prelude.{◌≡◌, IfOk, IfErr};
+//! The box as it is before a change, for the newest mark, with room to note it.
+
+ghost use Rattle.std.specs.Prelude.{◌≡◌, [], Ok, None, IfOk, IfErr};
 ghost use Rattle.live_table.specs.Entries.{entry_at};
 ghost use Rattle.box_world.specs.Parts.{IsToNote, Explains};
 
@@ -13,6 +15,7 @@ pub(crate) fn box_to_note(
     handle: Handle,
 ) -> Result<Option<Live>, Refusal>
     ensures ok { IfOk result (IsToNote marks.old.marks (entry_at handle table.now.entries) marks.new.spare) }
+    ensures unmarked { marks.old.marks ≡ [] → result ≡ Ok None }
     ensures err { IfErr result (Explains (entry_at handle table.now.entries)) }
     ensures marks { marks.new.marks ≡ marks.old.marks }
 {

@@ -1,14 +1,17 @@
+//! The live boxes, the index, the last pairs and the marks of a world, changed together.
+
 ghost use Rattle.std.specs.Prelude.{◌≡◌, ◌≢◌, ◌≤◌, ◌<◌, ◌↔◌, ◌+◌, ◌^◌, ◌++◌, [], true, false, length, sum, nat_lt, is_some, None, IfOk, IfErr, OnOk};
 ghost use Rattle.std.specs.Prelude.{OnErr, Ok, Err};
+ghost use Rattle.std.specs.FinMap.{contains_key};
 ghost use Rattle.fixed_box.specs.declared.TheConstants.{SLOTS};
 ghost use Rattle.live_table.specs.Entries.{entry_at};
-ghost use Rattle.box_world.specs.declared.TheConstants.{MOST_COUNTED, MOST_EXCHANGES};
+ghost use Rattle.box_world.specs.declared.TheConstants.{MOST_FRAMES_COUNTED, MOST_EXCHANGES};
 
-use crate::{MOST_EXCHANGES, Refusal};
-use broad_index::{BroadPhase, Pair, exchange_laws};
+use crate::{MOST_EXCHANGES, Refusal, exchange_law};
+use broad_index::{BroadPhase, Pair};
 use fixed_box::{FBox, NoMemory};
 use live_queries::{pairs_law, push_pairs};
-use live_table::{Full, Group, Handle, Live, LiveTable, Masks, undo_laws};
+use live_table::{Group, Handle, Live, LiveTable, Masks, map_laws, undo_laws};
 use pair_events::{PairTable, Told};
 use std::alloc::Global;
 use std::mem;
@@ -22,7 +25,7 @@ pub(crate) struct Parts<B: Drop> {
     pub table: LiveTable,
     pub pair_table: PairTable,
     pub marks: Marks,
-    pub frames: u32,
+    pub frames: u64,
     // The exchanges of the world before the index was last cleared on a way back.
     pub earlier: u64,
     pub events: Vec<Told>,
@@ -36,14 +39,14 @@ impl<B: BroadPhase + Drop> Parts<B> {
     ghost use Rattle.broad_index.specs.Fresh.{IsFresh};
     ghost use Rattle.broad_index.specs.Near.{near};
     ghost use Rattle.live_table.specs.Bodies.{bodies_of};
-    ghost use Rattle.live_table.specs.Table.{IsTable, next_handle};
+    ghost use Rattle.live_table.specs.Table.{IsTable, IsLeastFree, next_handle};
     ghost use Rattle.live_queries.specs.Pairs.{pairs_of};
     ghost use Rattle.pair_events.specs.PairEvents.{events};
     ghost use Rattle.world_marks.specs.declared.TheConstants.{MOST_MARKS};
-    ghost use Rattle.box_world.specs.declared.refusal.Refusal.TheVariants.{Stale};
+    ghost use Rattle.box_world.specs.declared.refusal.Refusal.TheVariants.{Stale, NoMemory as no_memory};
     ghost use Rattle.box_world.specs.World.{beginning, added, moved, masked, removed, framed, marked, gone_back};
     ghost use Rattle.box_world.specs.Answers.{is_counted_out};
-    ghost use Rattle.box_world.specs.Parts.{world_in, timeline_in, IsSound, IsChanged, IsToNote, Explains};
+    ghost use Rattle.box_world.specs.Parts.{world_in, timeline_in, IsSound, IsChanged, IsCutOff, IsToNote, Explains};
 
     // The opening world.
     pub(crate) fn new(alloc: Global, index: B) -> Result<Parts<B>, NoMemory>
@@ -85,31 +88,38 @@ impl<B: BroadPhase + Drop> Parts<B> {
         self.exchanges() > MOST_EXCHANGES
     }
 
-    // A new box under the least free slot. There is room to note it.
-    pub(crate) fn add(&mut self, body: FBox, masks: Masks, group: Group) -> Result<Handle, NoMemory>
+    // A new box under the next handle of the table, in the index first, which alone takes memory. There is room to note it.
+    pub(crate) fn add(
+        &mut self,
+        handle: Handle,
+        body: FBox,
+        masks: Masks,
+        group: Group,
+    ) -> Result<(), NoMemory>
         requires sound { IsSound B.bodies B.spent B.exchanges self.old }
-        requires free { length self.old.table.entries < SLOTS }
-        requires gives { sum self.old.table.gives < MOST_COUNTED }
+        requires next { handle ≡ next_handle self.old.table }
+        requires small { handle.slot < SLOTS }
+        requires free { IsLeastFree handle.slot self.old.table }
+        requires absent { contains_key (bodies_of self.old.table.entries) handle.slot ≡ false }
         requires countable { self.old.earlier + B.exchanges self.old.index ≤ MOST_EXCHANGES }
         requires room { 0 < self.old.marks.spare }
-        ensures handle { IfOk result (λ handle. handle ≡ next_handle self.old.table) }
         ensures added { OnOk result (IsChanged B.bodies B.spent B.exchanges (added B.COUNTS (world_in B.exchanges self.old) body masks group) self.old
             self.new) }
+        ensures cut_off { OnErr result (IsCutOff B.spent self.old self.new) }
     {
         undo_laws();
         undone_laws();
-        exchange_laws();
-        match self.table.give(body, masks, group) {
-            Ok(handle) => {
-                self.index.add(handle.slot, body)?;
-                self.marks.note(Undo::Given { handle });
-                Ok(handle)
-            }
-            Err(Full) => unreachable!(),
-        }
+        exchange_law();
+        self.index.add(handle.slot, body)?;
+        let Ok(_) = self.table.give(body, masks, group) else {
+            unreachable!()
+        };
+        self.marks.note(Undo::Given { handle });
+        Ok(())
     }
 
-    // The handle's box gets another body. Where a mark is held, `before` is the box as it was, and there is room to note it.
+    // The handle's box gets another body, in the index first, which alone takes memory. Where a mark is held, `before` is the box as it
+    // was, and there is room to note it.
     pub(crate) fn shift(
         &mut self,
         handle: Handle,
@@ -123,12 +133,17 @@ impl<B: BroadPhase + Drop> Parts<B> {
         ensures live { OnOk result (is_some (entry_at handle self.old.table.entries) ≡ true) }
         ensures err { IfErr result (Explains (entry_at handle self.old.table.entries)) }
         ensures same { result ≡ Err Stale → self.new ≡ self.old }
+        ensures cut_off { result ≡ Err no_memory → IsCutOff B.spent self.old self.new }
     {
         undo_laws();
         undone_laws();
-        exchange_laws();
-        self.table.set_box(handle, body)?;
+        map_laws();
+        exchange_law();
+        self.table.find(handle)?;
         self.index.shift(handle.slot, body)?;
+        let Ok(()) = self.table.set_box(handle, body) else {
+            unreachable!()
+        };
         if let Some(live) = before {
             self.marks.note(Undo::Moved {
                 handle,
@@ -188,7 +203,7 @@ impl<B: BroadPhase + Drop> Parts<B> {
     pub(crate) fn end_frame(&mut self) -> Result<u32, NoMemory>
         requires sound { IsSound B.bodies B.spent B.exchanges self.old }
         requires pairs { self.old.pairs.items ≡ near (bodies_of self.old.table.entries) }
-        requires frames { self.old.frames < MOST_COUNTED }
+        requires frames { self.old.frames < MOST_FRAMES_COUNTED }
         ensures count { IfOk result (λ count. count ≡ length (pairs_of self.old.table.entries)) }
         ensures time { OnOk result (timeline_in B.exchanges self.new
             ≡ record (timeline_in B.exchanges self.old) { now = framed (world_in B.exchanges self.old) }) }
@@ -225,12 +240,13 @@ impl<B: BroadPhase + Drop> Parts<B> {
         self.marks.mark(self.frames, exchanges)
     }
 
-    // Goes back to the newest mark. False where none is held. After an `Err` the index is spent.
+    // Goes back to the newest mark. False where none is held. After an `Err` the index is spent, and all else is as before.
     pub(crate) fn back(&mut self) -> Result<bool, NoMemory>
         requires sound { IsSound B.bodies B.spent B.exchanges self.old }
         ensures held { IfOk result (λ went. went ≡ nat_lt 0 (length (timeline_in B.exchanges self.old).marks)) }
         ensures none { self.old.marks.marks ≡ [] → result ≡ Ok false }
         ensures back { OnOk result (timeline_in B.exchanges self.new ≡ gone_back (timeline_in B.exchanges self.old)) }
+        ensures cut_off { OnErr result (IsCutOff B.spent self.old self.new) }
         ensures events { self.new.events ≡ self.old.events }
         ensures sound { OnOk result (IsSound B.bodies B.spent B.exchanges self.new) }
     {

@@ -1,3 +1,5 @@
+//! What a world tells of itself, and the queries among its live boxes.
+
 ghost use Rattle.std.specs.Prelude.{◌≡◌, ◌++◌, true, false, length, min, OnOk, OnErr};
 ghost use Rattle.fixed_box.specs.declared.TheConstants.{SLOTS};
 ghost use Rattle.live_table.specs.Bodies.{bodies_of};
@@ -31,7 +33,7 @@ impl<B: BroadPhase + Drop> BoxWorld<B> {
     }
 
     /// The number of frames that have ended. A way back lowers it to what it was at the mark.
-    pub fn frames(&self) -> u32
+    pub fn frames(&self) -> u64
         ensures { result ≡ self.now.time.now.frames }
     {
         self.parts.frames

@@ -1,3 +1,5 @@
+//! Why a call of a world did nothing.
+
 use fixed_box::NoMemory;
 use live_table::Stale;
 
@@ -8,9 +10,10 @@ pub enum Refusal {
     Stale,
     /// All slots are taken.
     Full,
-    /// A number is at its end: the boxes ever given or the frames, at `MOST_COUNTED`, or the exchanges, past `MOST_EXCHANGES`.
+    /// A number is at its end: the gives of each slot without a box, at `MOST_GIVES`, the exchanges, past `MOST_EXCHANGES`, or the
+    /// frames, at `MOST_FRAMES_COUNTED`.
     Exhausted,
-    /// Memory ran out. The world is as before, or it is spent and answers nothing else from then on.
+    /// Memory ran out. The world is as before, or it is spent: it has what it had, and answers nothing else from then on.
     NoMemory,
 }
 

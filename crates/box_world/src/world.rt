@@ -1,13 +1,16 @@
-ghost use Rattle.std.specs.Prelude.{◌≡◌, [], true, false, length, Ok, None, nat_lt, IfOk, OnErr};
+//! A world and its changes: boxes come, move and go, frames end, and marks are gone back to.
+
+ghost use Rattle.std.specs.Prelude.{◌≡◌, ◌≢◌, [], true, false, length, Ok, Err, None, nat_lt, IfOk, OnErr};
 ghost use Rattle.live_table.specs.Table.{next_handle};
 ghost use Rattle.world_marks.specs.declared.TheConstants.{MOST_MARKS};
+ghost use Rattle.box_world.specs.declared.refusal.Refusal.TheVariants.{NoMemory as no_memory};
 ghost use Rattle.box_world.specs.World.{added, moved, masked, removed, marked, gone_back, pairs};
 ghost use Rattle.box_world.specs.Answers.{Answers, opened, with_world, with_time, after_frame};
 ghost use Rattle.box_world.specs.Answers.{add_refusal, shift_refusal, change_refusal, frame_refusal};
 
 use crate::noting::box_to_note;
 use crate::parts::Parts;
-use crate::{MOST_COUNTED, Refusal};
+use crate::{MOST_FRAMES_COUNTED, Refusal};
 use broad_index::{BroadPhase, Gate};
 use fixed_box::{FBox, NoMemory, SLOTS};
 use live_table::{Group, Handle, Masks, Stale};
@@ -22,18 +25,21 @@ use work_pieces::MOST_WORKERS;
 /// Clauses see the world with its marks, what was told, and whether memory ran out in a change. No call but `new` asks for
 /// anything. What an answer says is the table `Answers`: an `Ok` made the world that the call is for, `Stale`, `Full` and
 /// `Exhausted` come exactly where that cause stands, the earlier one first, and leave the world as it was; `answer_law` has this
-/// as a law. `NoMemory` may come wherever memory is taken, and leaves the world as it was, or spent.
+/// as a law. `NoMemory` may come wherever memory is taken, and leaves the world as it was, or spent. Without a mark `mask` and `remove`
+/// take no memory.
 ///
-/// A world is spent where memory ran out while its index was changed, since index and table may disagree then. From then on it
-/// answers `NoMemory` to each change, frame, mark, way back and query, and stays as it is: `get`, `len`, `frames`, `held`, `events`,
-/// `pairs` and `table` tell what it has, `exchanges` is 0, and nothing is said of `index`.
+/// A world is spent where memory ran out while its index was changed, since index and table may disagree then. That change wasn't
+/// done: the world has the live boxes, pairs, events, frames and marks that it had before. From then on it answers `NoMemory` to each
+/// change, frame, mark, way back and query, and stays as it is: `get`, `len`, `frames`, `held`, `events`, `pairs` and `table` tell what
+/// it has, `exchanges` is 0, and nothing is said of `index`. Over an index that can't run out of memory in a change, whose `RUNS_OUT`
+/// is false, no world is ever spent.
 ///
 /// A change costs what the index takes for it, and a look-up. While a mark is held it is noted too, with one more look-up and
 /// memory for the note; without one that costs a test.
 #[derive(Drop)]
 pub struct BoxWorld<B: BroadPhase + Drop> {
     pub(crate) parts: Parts<B>,
-    // Whether memory ran out in a change, so that the index and the table may disagree.
+    // Whether memory ran out in a change, so that the index may disagree with the table, which has what it had.
     pub(crate) spent: bool,
 }
 
@@ -47,7 +53,7 @@ impl<B: BroadPhase + Drop> Model for BoxWorld<B> {
 
     ghost view = { λ w. state_in B.exchanges w.spent w.parts };
 
-    ghost invariant = { λ w. w.spent ≡ false → IsSound B.bodies B.spent B.exchanges w.parts };
+    ghost invariant = { λ w. (w.spent ≡ false → IsSound B.bodies B.spent B.exchanges w.parts) × (B.RUNS_OUT ≡ false → w.spent ≡ false) };
 }
 
 impl<B: BroadPhase + Drop> BoxWorld<B> {
@@ -66,20 +72,22 @@ impl<B: BroadPhase + Drop> BoxWorld<B> {
         })
     }
 
-    /// Whether memory ran out in a change.
+    /// Whether memory ran out in a change. That change wasn't done, and a spent world has what it had before.
     pub fn is_spent(&self) -> bool
-        ensures { result ≡ self.now.spent }
+        ensures spent { result ≡ self.now.spent }
+        ensures lasting { B.RUNS_OUT ≡ false → result ≡ false }
     {
         self.spent
     }
 
     /// A new box under the least free slot, a proxy that is created. `Full` comes where `SLOTS` boxes are live, and `Exhausted`
-    /// where `MOST_COUNTED` were given or more than `MOST_EXCHANGES` exchanges counted.
+    /// where each slot without a box was given `MOST_GIVES` times or more than `MOST_EXCHANGES` exchanges were counted.
     #[tactic(auto, using(crate::proofs::Refused::may_add))]
     pub fn add(&mut self, body: FBox, masks: Masks, group: Group) -> Result<Handle, Refusal>
         ensures answer { Answers (add_refusal self.old.time.now) (with_world self.old (added B.COUNTS self.old.time.now body masks group)) result
             self.old self.new }
         ensures handle { IfOk result (λ handle. handle ≡ next_handle self.old.time.now.table) }
+        ensures lasting { B.RUNS_OUT ≡ false → self.new.spent ≡ false }
     {
         if self.spent {
             return Err(Refusal::NoMemory);
@@ -87,12 +95,15 @@ impl<B: BroadPhase + Drop> BoxWorld<B> {
         if self.parts.table.len() == SLOTS {
             return Err(Refusal::Full);
         }
-        if self.parts.table.given() == MOST_COUNTED || self.parts.is_counted_out() {
+        if self.parts.is_counted_out() {
             return Err(Refusal::Exhausted);
         }
+        let Some(handle) = self.parts.table.next() else {
+            return Err(Refusal::Exhausted);
+        };
         self.parts.marks.room()?;
-        match self.parts.add(body, masks, group) {
-            Ok(handle) => Ok(handle),
+        match self.parts.add(handle, body, masks, group) {
+            Ok(()) => Ok(handle),
             Err(NoMemory) => {
                 self.spent = true;
                 Err(Refusal::NoMemory)
@@ -105,6 +116,7 @@ impl<B: BroadPhase + Drop> BoxWorld<B> {
     pub fn shift(&mut self, handle: Handle, body: FBox) -> Result<(), Refusal>
         ensures answer { Answers (shift_refusal self.old.time.now handle) (with_world self.old (moved B.COUNTS self.old.time.now handle body)) result
             self.old self.new }
+        ensures lasting { B.RUNS_OUT ≡ false → self.new.spent ≡ false }
     {
         if self.spent {
             return Err(Refusal::NoMemory);
@@ -131,6 +143,7 @@ impl<B: BroadPhase + Drop> BoxWorld<B> {
     pub fn mask(&mut self, handle: Handle, masks: Masks) -> Result<(), Refusal>
         ensures answer { Answers (change_refusal self.old.time.now handle) (with_world self.old (masked self.old.time.now handle masks)) result
             self.old self.new }
+        ensures unmarked { self.old.spent ≡ false → self.old.time.marks ≡ [] → result ≢ Err no_memory }
         ensures same { OnErr result (self.new ≡ self.old) }
     {
         if self.spent {
@@ -144,6 +157,7 @@ impl<B: BroadPhase + Drop> BoxWorld<B> {
     /// spends the world.
     pub fn remove(&mut self, handle: Handle) -> Result<(), Refusal>
         ensures answer { Answers (change_refusal self.old.time.now handle) (with_world self.old (removed self.old.time.now handle)) result self.old self.new }
+        ensures unmarked { self.old.spent ≡ false → self.old.time.marks ≡ [] → result ≢ Err no_memory }
         ensures same { OnErr result (self.new ≡ self.old) }
     {
         if self.spent {
@@ -154,7 +168,7 @@ impl<B: BroadPhase + Drop> BoxWorld<B> {
     }
 
     /// The frame ends: its pairs are those of the boxes as they stand, and what became of each since the last frame is told. Answers
-    /// how many pairs there are; `pairs` and `events` have them. `Exhausted` comes where `MOST_COUNTED` frames have ended. After
+    /// how many pairs there are; `pairs` and `events` have them. `Exhausted` comes where `MOST_FRAMES_COUNTED` frames have ended. After
     /// any `Err` all is as before.
     ///
     /// It searches on the caller's thread. The two lists of events are kept and serve by turns; the list of pairs is a new one,
@@ -167,7 +181,7 @@ impl<B: BroadPhase + Drop> BoxWorld<B> {
         if self.spent {
             return Err(Refusal::NoMemory);
         }
-        if self.parts.frames == MOST_COUNTED {
+        if self.parts.frames == MOST_FRAMES_COUNTED {
             return Err(Refusal::Exhausted);
         }
         self.parts.pairs.clear();
@@ -192,7 +206,7 @@ impl<B: BroadPhase + Drop> BoxWorld<B> {
         if self.spent {
             return Err(Refusal::NoMemory);
         }
-        if self.parts.frames == MOST_COUNTED {
+        if self.parts.frames == MOST_FRAMES_COUNTED {
             return Err(Refusal::Exhausted);
         }
         let workers = workers.max(1).min(MOST_WORKERS);
@@ -226,6 +240,7 @@ impl<B: BroadPhase + Drop> BoxWorld<B> {
         ensures answer { Answers None (with_time self.old (gone_back self.old.time)) result self.old self.new }
         ensures held { IfOk result (λ went. went ≡ nat_lt 0 (length self.old.time.marks)) }
         ensures none { self.old.spent ≡ false → self.old.time.marks ≡ [] → result ≡ Ok false }
+        ensures lasting { B.RUNS_OUT ≡ false → self.new.spent ≡ false }
     {
         if self.spent {
             return Err(Refusal::NoMemory);

@@ -1,21 +1,21 @@
--- The table gives a handle, the index gets the box under its slot, and the newest mark what undoes it.
-use Rattle.std.proofs.Common.{◌≡◌, ◌+◌, ◌*◌, ◌≤◌, ◌<◌, true, is_some, reverse, refl, ap, sym, ◌∙◌, subst}
+-- The index gets the box under the next handle's slot, the table gives that handle, and the newest mark has what undoes it.
+use Rattle.std.proofs.Common.{◌≡◌, ◌+◌, ◌<◌, true, is_some, reverse, refl, ap, sym, ◌∙◌, subst}
 use Rattle.std.specs.FinMap.{contains_key, entries, insert}
 use Rattle.fixed_box.specs.declared.TheConstants.{SLOTS}
-use Rattle.live_table.specs.Bodies.{slots_with_bodies}
-use Rattle.live_table.specs.Entries.{entry_at, least_free, IsLeastFree}
-use Rattle.live_table.specs.Table.{after_give, after_ungive}
+use Rattle.live_table.specs.Bodies.{slots_with_bodies, bodies_of}
+use Rattle.live_table.specs.Entries.{entry_at}
+use Rattle.live_table.specs.Table.{IsLeastFree, least_free, after_give, after_ungive}
 use Rattle.broad_index.specs.Exchanges.{passed_from_above}
 use Rattle.world_marks.specs.declared.undo.Undo.TheVariants.{Given}
 use Rattle.world_marks.specs.Marks.{noted, with_newest}
 use Rattle.box_world.specs.Parts.{world_in, worlds_back}
 use Rattle.box_world.specs.World.{added, counted, exchanges_of_add}
-use Rattle.box_world.proofs.Counted.{few_bodies, counted_on, counted_few, still_fits}
+use Rattle.box_world.proofs.Counted.{counted_on, still_fits}
 use Rattle.box_world.proofs.Marked.{changed_worlds, changed_returns, same_world, same_time}
 use Rattle.box_world.proofs.parts.Parts.add.Goals as goal
 
 pub add-requires-clause-absent : goal.add-requires-clause-absent
-add-requires-clause-absent g c _ = ap (λ b. contains_key b c.in-Ok.handle.slot) c.requires.sound.boxes ∙ c.in-Ok.ensures.absent
+add-requires-clause-absent g c _ = ap (λ b. contains_key b c.args.handle.slot) c.requires.sound.boxes ∙ c.requires.absent
 
 pub returns-clause-added : goal.returns-clause-added
 returns-clause-added g c =
@@ -23,28 +23,23 @@ returns-clause-added g c =
     let old = c.args.self.now in
     let t = old.table in
     let given = c.in-Ok.ensures in
-    let put = c.in_ok-add-in-Ok.ensures in
-    let handle = c.in-Ok.handle in
+    let put = c.in_ok-add.ensures in
+    let handle = c.args.handle in
     let exchanges = g.B.BroadPhase.exchanges in
     let counts = g.B.BroadPhase.COUNTS in
-    let bodies = g.B.BroadPhase.bodies old.index in
     let w = world_in exchanges old in
-    let slot : handle.slot ≡ least_free t.entries = ap (λ h. h.slot) given.handle in
-    let least : IsLeastFree (least_free t.entries) t.entries = subst (λ s. IsLeastFree s t.entries) slot given.free in
-    let small : least_free t.entries < SLOTS = subst (λ s. s < SLOTS) slot given.small in
+    let slot : handle.slot ≡ least_free t = ap (λ h. h.slot) c.requires.next in
+    let least : IsLeastFree (least_free t) t = subst (λ s. IsLeastFree s t) slot c.requires.free in
     let body = c.args.body in
     let next = after_give t body c.args.masks c.args.group in
-    let back : after_ungive c.give.new.self handle ≡ t = ap (λ s. after_ungive s handle) given.given ∙ ap (after_ungive next) given.handle
-    ∙ c.undo_laws.ensures.given t body c.args.masks c.args.group kept.table least small in
+    let back : after_ungive c.give.new.self handle ≡ t = ap (λ s. after_ungive s handle) given.given ∙ ap (after_ungive next) c.requires.next
+    ∙ c.undo_laws.ensures.given t body c.args.masks c.args.group kept.table least (subst (λ s. s < SLOTS) slot c.requires.small) in
     let can : is_some (entry_at handle c.give.new.self.entries) ≡ true = ap (λ s. is_some (entry_at handle s.entries)) given.given
-    ∙ ap (λ h. is_some (entry_at h next.entries)) given.handle ∙ c.undo_laws.ensures.given_lives t body c.args.masks c.args.group least in
+    ∙ ap (λ h. is_some (entry_at h next.entries)) c.requires.next ∙ c.undo_laws.ensures.given_lives t body c.args.masks c.args.group least in
     let marks : c.note.new.self.marks ≡ with_newest (noted (Given handle)) old.marks.marks = c.note.ensures.noted in
     let passed : counts ≡ true → exchanges c.add.new.self ≡ exchanges old.index + exchanges_of_add w body = λ on. put.counted on
     ∙ ap (λ es. exchanges old.index + passed_from_above es handle.slot body) (ap entries kept.boxes ∙ kept.table.mapped)
     ∙ ap (λ s. exchanges old.index + passed_from_above (slots_with_bodies t.entries) s body) slot in
-    let few : exchanges_of_add w body ≤ 12 * SLOTS = subst (λ n. n ≤ 12 * SLOTS) (ap (λ es. passed_from_above es handle.slot body) (ap entries kept.boxes
-    ∙ kept.table.mapped) ∙ ap (λ s. passed_from_above (slots_with_bodies t.entries) s body) slot)
-    (c.exchange_laws.ensures.added bodies handle.slot body (few_bodies bodies t kept.boxes kept.table)) in
     let total : old.earlier + exchanges c.add.new.self ≡ old.earlier + exchanges old.index + counted counts (exchanges_of_add w body) = counted_on counts
     old.earlier (exchanges old.index) (exchanges c.add.new.self) (exchanges_of_add w body) passed (g.met.B.BroadPhase.uncounted old.index)
     (g.met.B.BroadPhase.uncounted c.add.new.self) in
@@ -59,11 +54,12 @@ returns-clause-added g c =
       events = refl;
       kept = record {
         sound = put.sound;
-        boxes = put.ok ∙ ap (λ b. insert b handle.slot body) kept.boxes ∙ sym given.bodies;
+        boxes = put.ok ∙ ap (λ b. insert b handle.slot body) kept.boxes
+            ∙ sym (given.bodies ∙ ap (λ h. insert (bodies_of t.entries) h.slot body) (given.handle ∙ sym c.requires.next));
         table = given.table;
         returns = changed_returns c.undone_laws.ensures.append c.undone_laws.ensures.whole t c.give.new.self (Given handle) old.marks.marks
             c.note.new.self.marks marks can back kept.returns;
         counted = still_fits (old.earlier + exchanges c.add.new.self) (old.earlier + exchanges old.index) (counted counts (exchanges_of_add w body)) total
-            c.requires.countable (counted_few counts (exchanges_of_add w body) few);
+            c.requires.countable (c.exchange_law.ensures.added counts w body kept.table);
       };
     }

@@ -1,26 +1,27 @@
 -- The newest mark has the box as it was. Where no mark is held nothing is noted.
-use Rattle.std.proofs.Common.{◌≡◌, ◌+◌, ◌*◌, ◌≤◌, ◌<◌, [], true, is_some, Some, reverse, refl, ap, sym, ◌∙◌, subst}
+use Rattle.std.proofs.Common.{◌≡◌, ◌+◌, ◌<◌, [], true, is_some, Some, reverse, refl, ap, sym, ◌∙◌, subst}
 use Rattle.std.specs.FinMap.{contains_key, insert}
-use Rattle.fixed_box.specs.declared.TheConstants.{SLOTS}
 use Rattle.live_table.specs.Entries.{entry_at}
 use Rattle.live_table.specs.Table.{after_set_box}
 use Rattle.world_marks.specs.declared.undo.Undo.TheVariants.{Moved}
 use Rattle.world_marks.specs.Marks.{noted, with_newest}
 use Rattle.box_world.specs.Parts.{world_in, worlds_back, IsToNote}
 use Rattle.box_world.specs.World.{moved, counted, exchanges_of_move}
-use Rattle.box_world.proofs.Counted.{few_bodies, counted_on, counted_few, still_fits, move_passes}
+use Rattle.box_world.proofs.Counted.{counted_on, still_fits, move_passes}
 use Rattle.box_world.proofs.Marked.{changed_worlds, changed_returns, unmarked_worlds, unmarked_returns, same_world, same_time}
 use Rattle.box_world.proofs.parts.Parts.shift.Goals as goal
 
 pub shift-requires-clause-present : goal.shift-requires-clause-present
-shift-requires-clause-present g c _ = ap (λ b. contains_key b c.args.handle.slot) c.requires.sound.boxes ∙ c.in_ok-set_box.ensures.present
+shift-requires-clause-present g c _ =
+    ap (λ b. contains_key b c.args.handle.slot) c.requires.sound.boxes
+    ∙ c.map_laws.ensures.present c.args.self.now.table c.args.handle c.requires.sound.table (sym (ap is_some c.in_ok-find.ensures.found))
 
 pub returns-in-Some-clause-moved : goal.returns-in-Some-clause-moved
 returns-in-Some-clause-moved g c =
     let kept = c.requires.sound in
     let old = c.args.self.now in
     let t = old.table in
-    let set = c.in_ok-set_box.ensures in
+    let set = c.in-Ok.ensures in
     let put = c.in_ok-shift.ensures in
     let handle = c.args.handle in
     let body = c.args.body in
@@ -31,8 +32,6 @@ returns-in-Some-clause-moved g c =
     let number = exchanges_of_move w handle body in
     let next = after_set_box t handle body in
     let same = move_passes bodies t handle body kept.boxes kept.table set.former in
-    let few : number ≤ 12 * SLOTS = subst (λ n. n ≤ 12 * SLOTS) same (c.exchange_laws.ensures.shifted bodies handle.slot body
-    (few_bodies bodies t kept.boxes kept.table)) in
     let total : old.earlier + exchanges c.shift.new.self ≡ old.earlier + exchanges old.index + counted counts number = counted_on counts
     old.earlier (exchanges old.index) (exchanges c.shift.new.self) number (λ on. put.counted on ∙ ap (λ n. exchanges old.index + n) same)
     (g.met.B.BroadPhase.uncounted old.index) (g.met.B.BroadPhase.uncounted c.shift.new.self) in
@@ -61,16 +60,16 @@ returns-in-Some-clause-moved g c =
         returns = changed_returns c.undone_laws.ensures.append c.undone_laws.ensures.whole t c.set_box.new.self (Moved handle live.body)
             old.marks.marks c.note.new.self.marks marks can back kept.returns;
         counted = still_fits (old.earlier + exchanges c.shift.new.self) (old.earlier + exchanges old.index) (counted counts number) total
-            c.requires.countable (counted_few counts number few);
+            c.requires.countable (c.exchange_law.ensures.moved counts w handle body kept.table);
       };
     }
 
-pub returns-in_default-clause-moved : goal.returns-in_default-clause-moved
-returns-in_default-clause-moved g c =
+pub returns-in_default-before-clause-moved : goal.returns-in_default-before-clause-moved
+returns-in_default-before-clause-moved g c =
     let kept = c.requires.sound in
     let old = c.args.self.now in
     let t = old.table in
-    let set = c.in_ok-set_box.ensures in
+    let set = c.in-Ok.ensures in
     let put = c.in_ok-shift.ensures in
     let handle = c.args.handle in
     let body = c.args.body in
@@ -81,8 +80,6 @@ returns-in_default-clause-moved g c =
     let number = exchanges_of_move w handle body in
     let next = after_set_box t handle body in
     let same = move_passes bodies t handle body kept.boxes kept.table set.former in
-    let few : number ≤ 12 * SLOTS = subst (λ n. n ≤ 12 * SLOTS) same (c.exchange_laws.ensures.shifted bodies handle.slot body
-    (few_bodies bodies t kept.boxes kept.table)) in
     let total : old.earlier + exchanges c.shift.new.self ≡ old.earlier + exchanges old.index + counted counts number = counted_on counts
     old.earlier (exchanges old.index) (exchanges c.shift.new.self) number (λ on. put.counted on ∙ ap (λ n. exchanges old.index + n) same)
     (g.met.B.BroadPhase.uncounted old.index) (g.met.B.BroadPhase.uncounted c.shift.new.self) in
@@ -90,7 +87,7 @@ returns-in_default-clause-moved g c =
     let now = record w { table = c.set_box.new.self; exchanges = old.earlier + exchanges c.shift.new.self } in
     let world : now ≡ moved counts w handle body = same_world c.set_box.new.self next old.pair_table old.pair_table old.frames old.frames
     (old.earlier + exchanges c.shift.new.self) (old.earlier + exchanges old.index + counted counts number) table refl refl total in
-    let none : old.marks.marks ≡ [] = subst (IsToNote old.marks.marks (entry_at handle t.entries) old.marks.spare) c.in_default.is c.requires.before in
+    let none : old.marks.marks ≡ [] = subst (IsToNote old.marks.marks (entry_at handle t.entries) old.marks.spare) c.in_default-before.is c.requires.before in
     record {
       time = same_time now (moved counts w handle body) (worlds_back now (reverse old.marks.marks)) (worlds_back w (reverse old.marks.marks)) world
           (unmarked_worlds now w old.marks.marks old.marks.marks none refl);
@@ -101,6 +98,6 @@ returns-in_default-clause-moved g c =
         table = set.table;
         returns = unmarked_returns c.set_box.new.self old.marks.marks old.marks.marks none refl;
         counted = still_fits (old.earlier + exchanges c.shift.new.self) (old.earlier + exchanges old.index) (counted counts number) total
-            c.requires.countable (counted_few counts number few);
+            c.requires.countable (c.exchange_law.ensures.moved counts w handle body kept.table);
       };
     }
