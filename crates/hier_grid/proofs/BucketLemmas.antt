@@ -15,7 +15,7 @@ use Rattle.broad_index.specs.declared.pair.Pair.{Pair}
 use Rattle.broad_index.specs.Members.{has_pair, has_slot, both_meet}
 use Rattle.broad_index.specs.Touched.{ordered}
 use Rattle.hier_grid.specs.declared.slot_box.SlotBox.{SlotBox}
-use Rattle.hier_grid.specs.Buckets.{AreOf, is_met, met_pairs}
+use Rattle.hier_grid.specs.Buckets.{AreOf, pairs_up, met_pairs}
 use Rattle.hier_grid.specs.Search.{is_partner, IsSound}
 use Rattle.hier_grid.proofs.RunLemmas.{parted, rest_of}
 use Rattle.hier_grid.proofs.PartnerLemmas.{found_pairs, sound_pairs, pair_in}
@@ -41,19 +41,19 @@ entry_or_rest (e ∷ es) d l s h =
 
 -- the box beside a slot is met where the slot is a partner
 met_one : (bodies : FinMap nat_cmp Bounds) (own : SlotBox) (any : Bool) (e : SlotBox) → get bodies e.slot ≡ Some e.body
-    → is_met own any e ≡ is_partner bodies own.slot own.body any e.slot
+    → pairs_up own any e ≡ is_partner bodies own.slot own.body any e.slot
 met_one bodies own any e h = ap (λ o. not (e.slot == own.slot) && (any || nat_lt own.slot e.slot) && both_meet (Some own.body) o) (sym h)
 
 met_is : (bodies : FinMap nat_cmp Bounds) (own : SlotBox) (any : Bool) (es : List SlotBox) → AreOf bodies es
     → met_pairs own any es ≡ found_pairs bodies own.slot own.body any (slots_of es)
 met_is bodies own any [] h = refl
 met_is bodies own any (e ∷ es) h =
-    ap (λ t. map (λ (x : SlotBox). ordered own.slot x.slot) (cond t (e ∷ filter (is_met own any) es) (filter (is_met own any) es)))
+    ap (λ t. map (λ (x : SlotBox). ordered own.slot x.slot) (cond t (e ∷ filter (pairs_up own any) es) (filter (pairs_up own any) es)))
     (met_one bodies own any e (h 0 e (omega arith)))
     ∙ either (is_partner bodies own.slot own.body any e.slot) (met_is bodies own any es (λ i d l. h (suc i) d (omega arith)))
   where
     either : (t : Bool) → met_pairs own any es ≡ found_pairs bodies own.slot own.body any (slots_of es)
-        → map (λ (x : SlotBox). ordered own.slot x.slot) (cond t (e ∷ filter (is_met own any) es) (filter (is_met own any) es))
+        → map (λ (x : SlotBox). ordered own.slot x.slot) (cond t (e ∷ filter (pairs_up own any) es) (filter (pairs_up own any) es))
         ≡ map (ordered own.slot) (cond t (e.slot ∷ filter (is_partner bodies own.slot own.body any) (slots_of es))
         (filter (is_partner bodies own.slot own.body any) (slots_of es)))
     either true rest = ap (λ ps. ordered own.slot e.slot ∷ ps) rest

@@ -6,7 +6,7 @@ use Rattle.fixed_box.specs.Bounds.{Bounds, encloses, meets}
 use Rattle.fixed_box.specs.declared.point.Point.{Point}
 use Rattle.fixed_box.specs.Point.{is_at_most}
 use Rattle.fixed_box.specs.Space.{space}
-use Rattle.hier_grid.specs.Grid.{is_held, is_met}
+use Rattle.hier_grid.specs.Grid.{is_held, meets_part}
 use Rattle.fixed_box.proofs.Corners.{all_three, at_most_chain}
 use Rattle.fixed_box.proofs.Numbers.{test_of_le}
 
@@ -30,7 +30,7 @@ held_between lo hi b (Some x) made o l h =
 
 -- a box that two corners in order reach meets the box that they make
 pub met_between : (lo hi : Point) (b : Bounds) (o : Option Bounds) → SomeIff o (IsTrue (is_at_most lo hi)) (record { lo = lo; hi = hi })
-    → is_at_most lo hi ≡ true → is_at_most lo b.hi ≡ true → is_at_most b.lo hi ≡ true → is_met o b ≡ true
+    → is_at_most lo hi ≡ true → is_at_most lo b.hi ≡ true → is_at_most b.lo hi ≡ true → meets_part o b ≡ true
 met_between lo hi b None made o l h = absurd (made o)
 met_between lo hi b (Some x) made o l h =
     ap (λ (a : Bounds). meets a b) made.1 ∙ and_from (is_at_most lo b.hi) (is_at_most b.lo hi) l h

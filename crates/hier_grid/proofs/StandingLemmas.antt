@@ -17,16 +17,9 @@ use Rattle.hier_grid.proofs.CellLemmas.{beside}
 max_left : (l f : ℕ) → f ≤ l → max l f ≡ l
 max_left l f h = omega arith
 
-max_right : (l f : ℕ) → l ≤ f → max l f ≡ f
-max_right l f h = omega arith
-
 -- a box whose level is at the floor or above it stands in its own cell
 pub stands_own : (floor : ℕ) (b : Bounds) → floor ≤ level_of b → standing_cell floor b ≡ cell_of b
 stands_own floor b h = ap (λ n. cell_on n b.lo) (max_left (level_of b) floor h)
-
--- one of a lower level stands at the floor
-pub stands_low : (floor : ℕ) (b : Bounds) → level_of b ≤ floor → standing_cell floor b ≡ cell_on floor b.lo
-stands_low floor b h = ap (λ n. cell_on n b.lo) (max_right (level_of b) floor h)
 
 -- what a box that stands in its own cell is to find by the cells of boxes, it is to find by those in which they stand
 pub due_stands : (floor slot : ℕ) (body : Bounds) (q : ℕ) (b : Bounds) → floor ≤ level_of body → IsDue cell_of slot body q b

@@ -10,7 +10,7 @@ use Rattle.cell_table.specs.declared.cell_key.CellKey.{CellKey}
 use Rattle.cell_table.specs.Listed.{Lists}
 use Rattle.hier_grid.specs.declared.bucket_boxes.BucketBoxes.{BucketBoxes}
 use Rattle.hier_grid.specs.declared.slot_box.SlotBox.{SlotBox}
-use Rattle.hier_grid.specs.declared.listing.Listing.{Listing}
+use Rattle.hier_grid.specs.declared.grid_listing.GridListing.{GridListing}
 use Rattle.cell_table.specs.declared.TheConstants.{LEVELS}
 use Rattle.hier_grid.specs.Search.{Finds}
 use Rattle.hier_grid.specs.Standing.{AreStanding, IsMerged, standing_cell}
@@ -45,17 +45,17 @@ abbrev pub KeepsMerged : FinMap nat_cmp Bounds → BucketBoxes → Type 0
 KeepsMerged bodies boxes = IfSome boxes.merged (IsMerged bodies)
 
 -- where a listing is fresh, it has all boxes; merged cells are up to date in any case
-pub record IsListing (bodies : FinMap nat_cmp Bounds) (listing : Listing) : Type 0 where
+pub record IsListing (bodies : FinMap nat_cmp Bounds) (listing : GridListing) : Type 0 where
   pub listed : listing.fresh ≡ true → HasBuckets bodies listing.boxes
   pub merged : KeepsMerged bodies listing.boxes
 
 -- a partner: another slot, any such one or only a higher one, whose box meets the slot's
-abbrev pub is_met : SlotBox → Bool → SlotBox → Bool
-is_met own any e = not (e.slot == own.slot) && (any || nat_lt own.slot e.slot) && meets own.body e.body
+abbrev pub pairs_up : SlotBox → Bool → SlotBox → Bool
+pairs_up own any e = not (e.slot == own.slot) && (any || nat_lt own.slot e.slot) && meets own.body e.body
 
 -- a slot's pairs with its partners among others
 abbrev pub met_pairs : SlotBox → Bool → List SlotBox → List Pair
-met_pairs own any entries = map (λ e. ordered own.slot e.slot) (filter (is_met own any) entries)
+met_pairs own any entries = map (λ e. ordered own.slot e.slot) (filter (pairs_up own any) entries)
 
 -- what a search of a slot finds in some cells, whichever boxes were copied
 abbrev pub FindsIn : BucketBoxes → SlotBox → Bool → (CellKey → Type 0) → List Pair → List Pair → Type 0

@@ -25,9 +25,9 @@ is_held None b = false
 is_held (Some outer) b = encloses outer b
 
 -- a box meets another, if there is one
-abbrev pub is_met : Option Bounds → Bounds → Bool
-is_met None b = false
-is_met (Some a) b = meets a b
+abbrev pub meets_part : Option Bounds → Bounds → Bool
+meets_part None b = false
+meets_part (Some a) b = meets a b
 
 -- The boxes are keyed by their cells, each is sized, and all lie in the hull.
 pub record IsGrid (bodies : FinMap nat_cmp Bounds) (cells : FinMap nat_cmp CellKey) (hull : Option Bounds) : Type 0 where

@@ -1,15 +1,16 @@
+//! Copies of all boxes in the order of buckets, so that a row of cells is compared in place.
 ghost use Rattle.std.specs.Prelude.{◌≡◌, ◌<◌, ◌++◌, true, None, OnOk, All, length, map as mapped};
 ghost use Rattle.std.specs.FinMap as map;
 ghost use Rattle.std.specs.Ordering.{nat_cmp};
 ghost use Rattle.fixed_box.specs.Bounds.{Bounds};
 ghost use Rattle.hier_grid.specs.Cells.{IsAmong, IsInBlock, IsInPlane, IsInRow};
-ghost use Rattle.hier_grid.specs.Buckets.{AreOf, FindsIn, HasBuckets, KeepsMerged, is_met, met_pairs};
+ghost use Rattle.hier_grid.specs.Buckets.{AreOf, FindsIn, HasBuckets, KeepsMerged, pairs_up, met_pairs};
 ghost use Rattle.hier_grid.specs.Standing.{AreStanding};
 
 use crate::cell_block::CellBlock;
 use crate::cell_row::CellRow;
 use crate::floor::floor_for;
-use crate::kept_boxes::KeptBoxes;
+use crate::grid_boxes::GridBoxes;
 use crate::later_cells::LaterCells;
 use crate::merged_cells::MergedCells;
 use crate::near_cells::{row_at, with_x};
@@ -48,7 +49,7 @@ impl BucketBoxes {
     }
 
     /// Copies all boxes, those of low levels merged where that pays.
-    pub(crate) fn fill(&mut self, kept: &KeptBoxes) -> Result<(), NoMemory>
+    pub(crate) fn fill(&mut self, kept: &GridBoxes) -> Result<(), NoMemory>
         requires { KeepsMerged kept.now self.old }
         ensures filled { OnOk result (HasBuckets kept.now self.new) }
         ensures merged { KeepsMerged kept.now self.new }
@@ -62,7 +63,7 @@ impl BucketBoxes {
     }
 
     // Copies all boxes, each at its own level.
-    fn fill_own(&mut self, kept: &KeptBoxes) -> Result<(), NoMemory>
+    fn fill_own(&mut self, kept: &GridBoxes) -> Result<(), NoMemory>
         requires { KeepsMerged kept.now self.old }
         ensures filled { OnOk result (HasBuckets kept.now self.new) }
         ensures merged { KeepsMerged kept.now self.new }
@@ -72,7 +73,7 @@ impl BucketBoxes {
     }
 
     // Copies all boxes, those of lower levels at a floor.
-    fn fill_merged(&mut self, kept: &KeptBoxes, floor: u8) -> Result<(), NoMemory>
+    fn fill_merged(&mut self, kept: &GridBoxes, floor: u8) -> Result<(), NoMemory>
         requires low { floor < LEVELS }
         requires merged { KeepsMerged kept.now self.old }
         ensures filled { OnOk result (HasBuckets kept.now self.new) }
@@ -111,7 +112,7 @@ impl BucketBoxes {
     }
 
     // Copies all boxes, in the order of the buckets of the cells in which they stand.
-    fn fill_cells(&mut self, kept: &KeptBoxes, cells: &CellTable) -> Result<(), NoMemory>
+    fn fill_cells(&mut self, kept: &GridBoxes, cells: &CellTable) -> Result<(), NoMemory>
         requires low { self.old.floor < LEVELS }
         requires standing { AreStanding kept.now self.old.floor cells.now }
         ensures filled { OnOk result (HasBuckets kept.now self.new) }
@@ -245,7 +246,7 @@ fn push_met(
     let mine = *own;
     let mut rest = others;
     'others: while let [other, more @ ..] = rest {
-        if is_met(&mine, any, other) {
+        if pairs_up(&mine, any, other) {
             pairs.push(Pair::ordered(mine.slot, other.slot))?;
         }
         rest = more;
@@ -255,8 +256,8 @@ fn push_met(
 
 // Whether another box is a partner. No branch is taken on which slots may be partners, since that is past telling
 // beforehand.
-fn is_met(own: &SlotBox, any: bool, other: &SlotBox) -> bool
-    ensures { result ≡ is_met own.now any other.now }
+fn pairs_up(own: &SlotBox, any: bool, other: &SlotBox) -> bool
+    ensures { result ≡ pairs_up own.now any other.now }
 {
     is_sought(own.slot, any, other.slot) & own.body.overlaps(&other.body)
 }

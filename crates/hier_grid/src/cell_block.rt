@@ -1,10 +1,11 @@
+//! A block of cells of one level, and how it is cut in two.
 ghost use Rattle.std.specs.Prelude.{◌<◌, IsTrue};
 ghost use Rattle.fixed_box.specs.Bounds.{Bounds};
 ghost use Rattle.hier_grid.specs.Cells.{cell_of, IsCut, IsInBlock};
 ghost use Rattle.hier_grid.specs.Grid.{IsSized, is_held};
 
+use crate::block_cut::{BlockCut, CutAxis};
 use crate::cell::{high_face, low_face};
-use crate::cut::{Axis, Cut};
 use cell_table::{CellKey, LEVELS};
 use fixed_box::{FBox, Point};
 
@@ -18,53 +19,53 @@ pub(crate) struct CellBlock {
 impl CellBlock {
     /// How many cells there are, as far as 64 bits go.
     pub(crate) fn len(&self) -> u64 {
-        let x = u64::from(self.len_on(Axis::X));
-        let y = u64::from(self.len_on(Axis::Y));
-        let z = u64::from(self.len_on(Axis::Z));
+        let x = u64::from(self.len_on(CutAxis::X));
+        let y = u64::from(self.len_on(CutAxis::Y));
+        let z = u64::from(self.len_on(CutAxis::Z));
         // the first product fits
         (x * y).saturating_mul(z)
     }
 
     /// How many cells there are along an axis.
     #[inline(always)]
-    pub(crate) fn len_on(&self, axis: Axis) -> u32 {
+    pub(crate) fn len_on(&self, axis: CutAxis) -> u32 {
         let (from, end) = self.ends_on(axis);
         from.abs_diff(end)
     }
 
     /// From where on the cells lie on an axis, and below where.
     #[inline(always)]
-    pub(crate) fn ends_on(&self, axis: Axis) -> (i32, i32) {
+    pub(crate) fn ends_on(&self, axis: CutAxis) -> (i32, i32) {
         match axis {
-            Axis::X => (self.from.x, self.end.x),
-            Axis::Y => (self.from.y, self.end.y),
-            Axis::Z => (self.from.z, self.end.z),
+            CutAxis::X => (self.from.x, self.end.x),
+            CutAxis::Y => (self.from.y, self.end.y),
+            CutAxis::Z => (self.from.z, self.end.z),
         }
     }
 
     /// The axis along which there are most cells.
-    pub(crate) fn longest(&self) -> Axis {
-        let x = self.len_on(Axis::X);
-        let y = self.len_on(Axis::Y);
-        let z = self.len_on(Axis::Z);
+    pub(crate) fn longest(&self) -> CutAxis {
+        let x = self.len_on(CutAxis::X);
+        let y = self.len_on(CutAxis::Y);
+        let z = self.len_on(CutAxis::Z);
         if (x >= y) & (x >= z) {
-            Axis::X
+            CutAxis::X
         } else if y >= z {
-            Axis::Y
+            CutAxis::Y
         } else {
-            Axis::Z
+            CutAxis::Z
         }
     }
 
     /// The two parts of the block, the first one first.
     #[inline(always)]
-    pub(crate) fn parts(&self, cut: &Cut) -> (CellBlock, CellBlock)
+    pub(crate) fn parts(&self, cut: &BlockCut) -> (CellBlock, CellBlock)
         ensures { IsCut self.now result.0 result.1 }
     {
         let parts = match cut.axis {
-            Axis::X => self.cut_x(cut.at),
-            Axis::Y => self.cut_y(cut.at),
-            Axis::Z => self.cut_z(cut.at),
+            CutAxis::X => self.cut_x(cut.at),
+            CutAxis::Y => self.cut_y(cut.at),
+            CutAxis::Z => self.cut_z(cut.at),
         };
         if cut.turned {
             turned(self, parts)

@@ -1,7 +1,8 @@
+//! The lowest level that pays in a list by bucket: levels with few boxes are merged upwards.
 ghost use Rattle.std.specs.Prelude.{◌<◌};
 
 use crate::cell::standing_cell;
-use crate::kept_boxes::{KeptBoxes, MOST_BESIDE};
+use crate::grid_boxes::{GridBoxes, MOST_BESIDE};
 use crate::near_cells::count_beside;
 use cell_table::LEVELS;
 use fixed_box::FBox;
@@ -19,7 +20,7 @@ const MOST_SHARED: u32 = 4;
 /// The level below which no box is to stand in a list by bucket. Each level costs a search some nine rows of cells, so
 /// levels are merged as long as their boxes are no more than the cells that the hull of all boxes has at the highest of them,
 /// unless they lie in heaps there. Any level would do: it decides on cost alone.
-pub(crate) fn floor_for(kept: &KeptBoxes) -> u8
+pub(crate) fn floor_for(kept: &GridBoxes) -> u8
     ensures { result < LEVELS }
 {
     let Some(hull) = kept.hull() else {
@@ -34,7 +35,7 @@ pub(crate) fn floor_for(kept: &KeptBoxes) -> u8
 }
 
 // The same where the hull is known.
-fn floor_in(kept: &KeptBoxes, hull: &FBox) -> u8
+fn floor_in(kept: &GridBoxes, hull: &FBox) -> u8
     ensures { result < LEVELS }
 {
     let mut floor = 0;

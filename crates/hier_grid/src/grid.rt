@@ -1,3 +1,4 @@
+//! The broad phase over the grid: boxes come, move and go in their cells, and all pairs are sought anew.
 ghost use Rattle.std.specs.Prelude.{◌≡◌, ◌↔◌, ◌<◌, ◌≤◌, ◌^◌, true, false, length, refl, Ok, None, is_some, IfOk, IfSome};
 ghost use Rattle.std.specs.FinMap as map;
 ghost use Rattle.std.specs.List.{All};
@@ -6,10 +7,10 @@ ghost use Rattle.hier_grid.specs.Grid.{AreKeyed};
 ghost use Rattle.hier_grid.specs.Search.{FindsRun};
 ghost use Rattle.slot_lists.specs.Present.{present};
 
-use crate::findings::Findings;
+use crate::grid_boxes::GridBoxes;
+use crate::grid_findings::GridFindings;
+use crate::grid_listing::GridListing;
 use crate::hits::{push_hits, push_reach};
-use crate::kept_boxes::KeptBoxes;
-use crate::listing::Listing;
 use crate::pair_search::PairSearch;
 use crate::slot_box::SlotBox;
 use broad_index::{
@@ -51,10 +52,10 @@ const LISTED_FROM: u32 = 1_024;
 #[derive(Drop)]
 pub struct HierGrid {
     alloc: Global,
-    kept: KeptBoxes,
-    listing: Listing,
+    kept: GridBoxes,
+    listing: GridListing,
     slots: Vec<u32>,
-    found: Findings,
+    found: GridFindings,
     looked: u64,
 }
 
@@ -81,10 +82,10 @@ impl HierGrid {
     {
         Ok(HierGrid {
             alloc,
-            kept: KeptBoxes::new(alloc)?,
-            listing: Listing::new(alloc),
+            kept: GridBoxes::new(alloc)?,
+            listing: GridListing::new(alloc),
             slots: Vec::new(alloc),
-            found: Findings::new(alloc),
+            found: GridFindings::new(alloc),
             looked: 0,
         })
     }
@@ -125,7 +126,7 @@ impl PairSeeker for HierGrid {
 
     /// Answers the number of comparisons of two exact boxes.
     fn seek_pairs(&self, alloc: Global, slots: &[u32]) -> Result<(Vec<Pair>, u64), NoMemory> {
-        let mut found = Findings::new(alloc);
+        let mut found = GridFindings::new(alloc);
         let search = PairSearch::new(&self.kept, &self.listing);
         let looked = search.find_run(slots, &mut found)?;
         // in this thread, so that the pieces are only merged behind
@@ -144,6 +145,8 @@ impl BroadPhase for HierGrid {
 
     ghost COUNTS = { false };
 
+    ghost RUNS_OUT = { false };
+
     ghost exchanges = { λ _. 0 };
 
     // It changes nothing.
@@ -156,6 +159,8 @@ impl BroadPhase for HierGrid {
     type Shared = HierGrid;
 
     ghost uncounted = { λ _ _. refl };
+
+    ghost lasting = { λ _ _. refl };
 
     fn add(&mut self, slot: u32, body: FBox) -> Result<(), NoMemory>
         requires small { slot < SLOTS }

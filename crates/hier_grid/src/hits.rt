@@ -1,3 +1,4 @@
+//! A query asked of a grid: levels are scanned, or the cells beside it are followed.
 ghost use Rattle.std.specs.Prelude.{◌≡◌, ◌++◌, Some, OnOk, OnErr, filter};
 ghost use Rattle.std.specs.FinMap as map;
 ghost use Rattle.broad_index.specs.Found.{found};
@@ -5,7 +6,7 @@ ghost use Rattle.broad_index.specs.Members.{is_found};
 ghost use Rattle.broad_index.specs.Reach.{reach};
 ghost use Rattle.hier_grid.specs.Search.{HasHitsBelow, IsRegionOf};
 
-use crate::kept_boxes::KeptBoxes;
+use crate::grid_boxes::GridBoxes;
 use crate::line_path::LinePath;
 use crate::nearby::Nearby;
 use crate::partners::push_partners;
@@ -19,7 +20,7 @@ use std::alloc::Global;
 
 /// Appends the present slots whose boxes meet a query, rising. After an `Err` `out` is as before.
 pub(crate) fn push_hits(
-    kept: &KeptBoxes,
+    kept: &GridBoxes,
     alloc: Global,
     query: &Query,
     out: &mut Vec<u32>,
@@ -38,7 +39,7 @@ pub(crate) fn push_hits(
 
 // The same for a query that is tested against the boxes near its region.
 fn push_near<T: BoxTest>(
-    kept: &KeptBoxes,
+    kept: &GridBoxes,
     alloc: Global,
     region: &FBox,
     test: &T,
@@ -55,7 +56,7 @@ fn push_near<T: BoxTest>(
 
 // The same for a line, which is prepared if its numbers fit 32 bits.
 fn push_line(
-    kept: &KeptBoxes,
+    kept: &GridBoxes,
     region: &FBox,
     line: &Query,
     out: &mut Vec<u32>,
@@ -73,7 +74,7 @@ fn push_line(
 
 // The same for a line as it is asked, which is followed by the cells that it crosses.
 fn push_crossed<T: BoxTest>(
-    kept: &KeptBoxes,
+    kept: &GridBoxes,
     region: &FBox,
     path: &LinePath,
     test: &T,
@@ -90,7 +91,7 @@ fn push_crossed<T: BoxTest>(
 
 // Appends those of some slots whose boxes meet a query, rising, where all that do are among them.
 fn push_found<T: BoxTest>(
-    kept: &KeptBoxes,
+    kept: &GridBoxes,
     slots: &[u32],
     test: &T,
     out: &mut Vec<u32>,
@@ -136,7 +137,7 @@ fn is_met<T: BoxTest>(boxes: &SlotBoxes, slot: u32, test: &T) -> bool
 /// Appends the other present slots whose boxes meet a present slot's, rising, and answers how many exact boxes were
 /// compared. After an `Err` `out` is as before.
 pub(crate) fn push_reach(
-    kept: &KeptBoxes,
+    kept: &GridBoxes,
     alloc: Global,
     own: &SlotBox,
     out: &mut Vec<u32>,

@@ -1,7 +1,8 @@
+//! The hull of boxes, grown by one more, and the part of a region that lies in it.
 ghost use Rattle.std.specs.Prelude.{◌≡◌, true, IsTrue};
 ghost use Rattle.fixed_box.specs.Bounds.{Bounds, encloses, meets};
 ghost use Rattle.fixed_box.specs.Point.{is_at_most};
-ghost use Rattle.hier_grid.specs.Grid.{is_held, is_met};
+ghost use Rattle.hier_grid.specs.Grid.{is_held, meets_part};
 
 use fixed_box::{FBox, Point, box_laws};
 
@@ -21,7 +22,7 @@ pub(crate) fn grown(hull: &Option<FBox>, body: &FBox) -> FBox
 /// box does.
 pub(crate) fn part_in(hull: &FBox, region: &FBox) -> Option<FBox>
     ensures { (b : Bounds) → IsTrue (is_at_most b.lo b.hi) → IsTrue (encloses hull.now b) → IsTrue (meets region.now b)
-        → IsTrue (is_met result b) }
+        → IsTrue (meets_part result b) }
 {
     FBox::new(
         greater(&hull.lo(), &region.lo()),

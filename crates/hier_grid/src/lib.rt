@@ -2,24 +2,24 @@
 //! Collision Detection*, 2005, 7.2).
 #![tactic(auto)]
 
+mod block_cut;
 mod bucket_boxes;
 mod cell;
 mod cell_block;
 mod cell_row;
 mod crossed_cells;
-mod cut;
-mod findings;
 mod floor;
 mod grid;
+mod grid_boxes;
+mod grid_findings;
+mod grid_listing;
 mod hits;
 mod hull;
-mod kept_boxes;
 mod later_cells;
 mod level_columns;
 mod leveled_boxes;
 mod line_path;
 mod list_search;
-mod listing;
 mod merged_cells;
 mod near_cells;
 mod nearby;

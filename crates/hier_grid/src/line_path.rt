@@ -1,8 +1,9 @@
+//! About where a line runs through a block of cells, by which a block is cut well.
 ghost use Rattle.std.specs.Prelude.{◌<◌};
 
+use crate::block_cut::{BlockCut, CutAxis};
 use crate::cell::{reach_of, start_of};
 use crate::cell_block::CellBlock;
-use crate::cut::{Axis, Cut};
 use broad_index::Query;
 use cell_table::LEVELS;
 use fixed_box::FBox;
@@ -13,7 +14,7 @@ use ray_slabs::WPoint;
 #[derive(Drop)]
 pub(crate) struct LinePath {
     // The axis on which the line goes farthest, where it starts on it, and the ends of its region there.
-    main: Axis,
+    main: CutAxis,
     start: i64,
     least: i64,
     most: i64,
@@ -53,9 +54,9 @@ impl LinePath {
         let hi = region.hi();
         let main = way.main();
         let (start, far, least, most) = match main {
-            Axis::X => (from.x(), way.x, lo.x, hi.x),
-            Axis::Y => (from.y(), way.y, lo.y, hi.y),
-            Axis::Z => (from.z(), way.z, lo.z, hi.z),
+            CutAxis::X => (from.x(), way.x, lo.x, hi.x),
+            CutAxis::Y => (from.y(), way.y, lo.y, hi.y),
+            CutAxis::Z => (from.z(), way.z, lo.z, hi.z),
         };
         LinePath {
             main,
@@ -82,7 +83,7 @@ impl LinePath {
     /// Where a block is to be cut, the first part of it one that the line misses most likely, or `None` where its cells are so
     /// few that a look at each is best. On the main axis it is cut in the middle, down to thin slabs, and a slab about
     /// the path.
-    pub(crate) fn cut(&self, block: &CellBlock) -> Option<Cut>
+    pub(crate) fn cut(&self, block: &CellBlock) -> Option<BlockCut>
         requires { block.now.from.level < LEVELS }
     {
         let cells = block.len();
@@ -101,14 +102,14 @@ impl LinePath {
 
     // Where a part on one side of the path is cut off, as the path passes by a block on the main axis. `None` where there is
     // no such part.
-    fn cut_aside(&self, block: &CellBlock) -> Option<Cut>
+    fn cut_aside(&self, block: &CellBlock) -> Option<BlockCut>
         requires { block.now.from.level < LEVELS }
     {
         let passed = self.passed(block);
         let (second, third) = match self.main {
-            Axis::X => (Axis::Y, Axis::Z),
-            Axis::Y => (Axis::X, Axis::Z),
-            Axis::Z => (Axis::X, Axis::Y),
+            CutAxis::X => (CutAxis::Y, CutAxis::Z),
+            CutAxis::Y => (CutAxis::X, CutAxis::Z),
+            CutAxis::Z => (CutAxis::X, CutAxis::Y),
         };
         let cut = self.cut_on(second, block, passed);
         if cut.is_some() {
@@ -119,19 +120,19 @@ impl LinePath {
     }
 
     // The same on one axis.
-    fn cut_on(&self, axis: Axis, block: &CellBlock, passed: (i64, i64)) -> Option<Cut>
+    fn cut_on(&self, axis: CutAxis, block: &CellBlock, passed: (i64, i64)) -> Option<BlockCut>
         requires { block.now.from.level < LEVELS }
     {
         let (from, end) = block.ends_on(axis);
         let (first, last) = self.course(axis).cells(block.from.level, passed);
         if (from < first) & (first < end) {
-            Some(Cut {
+            Some(BlockCut {
                 axis,
                 at: first,
                 turned: false,
             })
         } else if (from < last) & (last < end) {
-            Some(Cut {
+            Some(BlockCut {
                 axis,
                 at: last,
                 turned: true,
@@ -141,11 +142,11 @@ impl LinePath {
         }
     }
 
-    fn course(&self, axis: Axis) -> &Course {
+    fn course(&self, axis: CutAxis) -> &Course {
         match axis {
-            Axis::X => &self.x,
-            Axis::Y => &self.y,
-            Axis::Z => &self.z,
+            CutAxis::X => &self.x,
+            CutAxis::Y => &self.y,
+            CutAxis::Z => &self.z,
         }
     }
 
@@ -172,16 +173,16 @@ impl LinePath {
 
 impl Way {
     // The axis on which it is farthest.
-    fn main(&self) -> Axis {
+    fn main(&self) -> CutAxis {
         let x = self.x.unsigned_abs();
         let y = self.y.unsigned_abs();
         let z = self.z.unsigned_abs();
         if (x >= y) & (x >= z) {
-            Axis::X
+            CutAxis::X
         } else if y >= z {
-            Axis::Y
+            CutAxis::Y
         } else {
-            Axis::Z
+            CutAxis::Z
         }
     }
 }
@@ -215,9 +216,9 @@ impl Course {
 }
 
 // A cut in the middle of an axis.
-fn middle_of(block: &CellBlock, axis: Axis) -> Cut {
+fn middle_of(block: &CellBlock, axis: CutAxis) -> BlockCut {
     let (from, end) = block.ends_on(axis);
-    Cut::between(axis, from, end)
+    BlockCut::between(axis, from, end)
 }
 
 // How far a direction goes.

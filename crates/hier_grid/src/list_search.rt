@@ -1,3 +1,4 @@
+//! The search for pairs along the list by bucket.
 ghost use Rattle.std.specs.Prelude.{◌≡◌, ◌<◌, ◌≤◌, true, max, OnOk};
 ghost use Rattle.fixed_box.specs.Bounds.{Bounds, level_of};
 ghost use Rattle.hier_grid.specs.Buckets.{HasBuckets};
@@ -8,8 +9,8 @@ ghost use Rattle.hier_grid.specs.Standing.{standing_cell};
 use crate::bucket_boxes::BucketBoxes;
 use crate::cell::cell_in;
 use crate::cell_row::row_of;
-use crate::findings::Findings;
-use crate::kept_boxes::KeptBoxes;
+use crate::grid_boxes::GridBoxes;
+use crate::grid_findings::GridFindings;
 use crate::near_cells::{block_beside, cells_after};
 use crate::slot_box::SlotBox;
 use cell_table::LEVELS;
@@ -19,7 +20,7 @@ use std::marker::Model;
 /// What a search for pairs reads where all boxes are listed by bucket.
 #[derive(Drop)]
 pub(crate) struct ListSearch<'a> {
-    kept: &'a KeptBoxes,
+    kept: &'a GridBoxes,
     boxes: &'a BucketBoxes,
     // A level above those of all boxes.
     end: u8,
@@ -40,7 +41,7 @@ impl<'a> Model for ListSearch<'a> {
 
 impl ListSearch<'_> {
     /// A search among all boxes, below a level that is above those of all.
-    pub(crate) fn new<'a>(kept: &'a KeptBoxes, boxes: &'a BucketBoxes, end: u8) -> ListSearch<'a>
+    pub(crate) fn new<'a>(kept: &'a GridBoxes, boxes: &'a BucketBoxes, end: u8) -> ListSearch<'a>
         requires filled { HasBuckets kept.now boxes.now }
         requires end { IsEnd kept.now end }
         ensures { result.bodies ≡ kept.now }
@@ -51,7 +52,7 @@ impl ListSearch<'_> {
     /// Finds the pairs of all boxes, each from the box whose cell comes first as they stand here, and answers how many boxes
     /// were compared. Two boxes of a level that is scanned, or of cells that share a bucket, may both find their pair. They
     /// are searched in the order of their buckets, so that a search reads much of what the one before it read.
-    pub(crate) fn find_all(&self, found: &mut Findings) -> Result<u64, NoMemory>
+    pub(crate) fn find_all(&self, found: &mut GridFindings) -> Result<u64, NoMemory>
         ensures { OnOk result (FindsAll self.now.bodies found.new.pairs.items) }
     {
         found.clear();
@@ -65,7 +66,7 @@ impl ListSearch<'_> {
 
     /// Finds the pairs of a slot with those partners that it is to find by the cells of their boxes, wherever these stand. So
     /// what a piece of the slots finds is told by the boxes alone.
-    pub(crate) fn find(&self, own: &SlotBox, found: &mut Findings) -> Result<(), NoMemory>
+    pub(crate) fn find(&self, own: &SlotBox, found: &mut GridFindings) -> Result<(), NoMemory>
         ensures { OnOk result (Finds self.now.bodies own.now true (IsDue cell_of own.now.slot own.now.body)
             found.old.pairs.items found.new.pairs.items) }
     {
@@ -78,7 +79,7 @@ impl ListSearch<'_> {
 
     // The same where the slot's box stands above its own level. Its partners there of lower levels are found too: so a pair
     // of boxes that both stand there is found twice.
-    fn find_raised(&self, own: &SlotBox, found: &mut Findings) -> Result<(), NoMemory>
+    fn find_raised(&self, own: &SlotBox, found: &mut GridFindings) -> Result<(), NoMemory>
         ensures { OnOk result (Finds self.now.bodies own.now true (IsDue cell_of own.now.slot own.now.body)
             found.old.pairs.items found.new.pairs.items) }
     {
@@ -88,7 +89,7 @@ impl ListSearch<'_> {
     }
 
     // Finds the pairs of a slot with those partners that it is to find by the cells in which their boxes stand.
-    fn find_standing(&self, own: &SlotBox, found: &mut Findings) -> Result<(), NoMemory>
+    fn find_standing(&self, own: &SlotBox, found: &mut GridFindings) -> Result<(), NoMemory>
         ensures { OnOk result (Finds self.now.bodies own.now true (IsDue (standing_cell self.now.floor) own.now.slot own.now.body)
             found.old.pairs.items found.new.pairs.items) }
     {
@@ -99,7 +100,7 @@ impl ListSearch<'_> {
     }
 
     // The same with those that stand at the slot's level.
-    fn find_there(&self, level: u8, own: &SlotBox, found: &mut Findings) -> Result<(), NoMemory>
+    fn find_there(&self, level: u8, own: &SlotBox, found: &mut GridFindings) -> Result<(), NoMemory>
         requires low { level < LEVELS }
         requires level { level ≡ max (level_of own.now.body) self.now.floor }
         ensures { OnOk result (Finds self.now.bodies own.now true (IsDueBeside (standing_cell self.now.floor) own.now.slot own.now.body)
@@ -121,7 +122,7 @@ impl ListSearch<'_> {
     }
 
     // The same by the cells beside the slot's box.
-    fn find_due(&self, level: u8, own: &SlotBox, found: &mut Findings) -> Result<(), NoMemory>
+    fn find_due(&self, level: u8, own: &SlotBox, found: &mut GridFindings) -> Result<(), NoMemory>
         requires low { level < LEVELS }
         requires level { level ≡ max (level_of own.now.body) self.now.floor }
         ensures { OnOk result (Finds self.now.bodies own.now true (IsDueBeside (standing_cell self.now.floor) own.now.slot own.now.body)
@@ -139,7 +140,7 @@ impl ListSearch<'_> {
 
     // Finds the pairs of a slot with its partners at the levels from one on.
     #[inline(always)]
-    fn find_from(&self, first: u8, own: &SlotBox, found: &mut Findings) -> Result<(), NoMemory>
+    fn find_from(&self, first: u8, own: &SlotBox, found: &mut GridFindings) -> Result<(), NoMemory>
         requires { self.now.floor ≤ first }
         ensures { OnOk result (Finds self.now.bodies own.now true (λ _ b. first ≤ level_of b) found.old.pairs.items found.new.pairs.items) }
     {
@@ -150,7 +151,7 @@ impl ListSearch<'_> {
     }
 
     // Finds the pairs of a slot with its partners at a level.
-    fn find_at(&self, level: u8, own: &SlotBox, found: &mut Findings) -> Result<(), NoMemory>
+    fn find_at(&self, level: u8, own: &SlotBox, found: &mut GridFindings) -> Result<(), NoMemory>
         requires low { level < LEVELS }
         requires high { self.now.floor ≤ level }
         ensures { OnOk result (Finds self.now.bodies own.now true (λ _ b. level_of b ≡ level) found.old.pairs.items found.new.pairs.items) }
@@ -167,7 +168,12 @@ impl ListSearch<'_> {
     }
 
     // Finds the pairs of a slot with its partners of a level by a scan of the level.
-    fn find_scanned(&self, level: u8, own: &SlotBox, found: &mut Findings) -> Result<(), NoMemory>
+    fn find_scanned(
+        &self,
+        level: u8,
+        own: &SlotBox,
+        found: &mut GridFindings,
+    ) -> Result<(), NoMemory>
         requires { level < LEVELS }
         ensures { OnOk result (Finds self.now.bodies own.now true (λ _ b. level_of b ≡ level) found.old.pairs.items found.new.pairs.items) }
     {
@@ -178,7 +184,12 @@ impl ListSearch<'_> {
     }
 
     // Finds the pairs of a slot with its partners that stand at a level, by all cells beside its box.
-    fn find_beside(&self, level: u8, own: &SlotBox, found: &mut Findings) -> Result<(), NoMemory>
+    fn find_beside(
+        &self,
+        level: u8,
+        own: &SlotBox,
+        found: &mut GridFindings,
+    ) -> Result<(), NoMemory>
         requires { level < LEVELS }
         ensures { OnOk result (Finds self.now.bodies own.now true (λ _ b. max (level_of b) self.now.floor ≡ level)
             found.old.pairs.items found.new.pairs.items) }

@@ -1,3 +1,4 @@
+//! The cells of boxes whose low levels are merged, kept up to date with each change.
 ghost use Rattle.std.specs.Prelude.{◌≡◌, ◌<◌, IfOk};
 ghost use Rattle.std.specs.FinMap as map;
 ghost use Rattle.std.specs.Ordering.{nat_cmp};
@@ -5,7 +6,7 @@ ghost use Rattle.fixed_box.specs.Bounds.{Bounds};
 ghost use Rattle.hier_grid.specs.Standing.{IsMerged};
 
 use crate::cell::standing_cell;
-use crate::kept_boxes::KeptBoxes;
+use crate::grid_boxes::GridBoxes;
 use crate::standing_cells::{drop_key, set_key, settle_cells};
 use cell_table::{CellTable, LEVELS};
 use fixed_box::{FBox, NoMemory, SLOTS};
@@ -36,7 +37,7 @@ impl Model for MergedCells {
 
 impl MergedCells {
     /// The cells of all boxes, in a time by the number of slots.
-    pub(crate) fn new(kept: &KeptBoxes, floor: u8, alloc: Global) -> Result<MergedCells, NoMemory>
+    pub(crate) fn new(kept: &GridBoxes, floor: u8, alloc: Global) -> Result<MergedCells, NoMemory>
         requires { floor < LEVELS }
         ensures { IfOk result (λ merged. IsMerged kept.now merged × (merged.floor ≡ floor)) }
     {
@@ -46,7 +47,7 @@ impl MergedCells {
     }
 
     /// Has all boxes stand above another floor, in a time by the number of slots where it is another one.
-    pub(crate) fn set_floor(&mut self, kept: &KeptBoxes, floor: u8)
+    pub(crate) fn set_floor(&mut self, kept: &GridBoxes, floor: u8)
         requires low { floor < LEVELS }
         requires merged { IsMerged kept.now self.old }
         ensures merged { IsMerged kept.now self.new }

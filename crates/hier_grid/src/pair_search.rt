@@ -1,3 +1,4 @@
+//! The search for pairs of boxes: along the list by bucket if it is fresh, or else along the rings of cells.
 ghost use Rattle.std.specs.Prelude.{◌≡◌, ◌<◌, true, false, OnOk};
 ghost use Rattle.fixed_box.specs.Bounds.{level_of};
 ghost use Rattle.hier_grid.specs.Buckets.{IsListing};
@@ -6,10 +7,10 @@ ghost use Rattle.hier_grid.specs.Search.{IsDue, IsNearby, IsOther, Finds, FindsA
 
 use crate::cell::cell_of;
 use crate::cell_row::{CellRow, row_of};
-use crate::findings::Findings;
-use crate::kept_boxes::KeptBoxes;
+use crate::grid_boxes::GridBoxes;
+use crate::grid_findings::GridFindings;
+use crate::grid_listing::GridListing;
 use crate::list_search::ListSearch;
-use crate::listing::Listing;
 use crate::near_cells::visit_row;
 use crate::slot_box::SlotBox;
 use cell_table::LEVELS;
@@ -20,7 +21,7 @@ use std::marker::Model;
 /// followed.
 #[derive(Drop)]
 pub(crate) struct PairSearch<'a> {
-    kept: &'a KeptBoxes,
+    kept: &'a GridBoxes,
     listed: Option<ListSearch<'a>>,
     // A level above those of all boxes.
     end: u8,
@@ -45,7 +46,7 @@ impl<'a> Model for PairSearch<'a> {
 
 impl PairSearch<'_> {
     /// A search among all boxes.
-    pub(crate) fn new<'a>(kept: &'a KeptBoxes, listing: &'a Listing) -> PairSearch<'a>
+    pub(crate) fn new<'a>(kept: &'a GridBoxes, listing: &'a GridListing) -> PairSearch<'a>
         requires { IsListing kept.now listing.now }
         ensures { result ≡ kept.now }
     {
@@ -61,7 +62,7 @@ impl PairSearch<'_> {
     pub(crate) fn find_all(
         &self,
         slots: &mut Vec<u32>,
-        found: &mut Findings,
+        found: &mut GridFindings,
     ) -> Result<u64, NoMemory>
         ensures { OnOk result (FindsAll self.now found.new.pairs.items) }
     {
@@ -72,7 +73,7 @@ impl PairSearch<'_> {
     }
 
     // The same by slot, rising. The slots are listed first.
-    fn find_by_slot(&self, slots: &mut Vec<u32>, found: &mut Findings) -> Result<u64, NoMemory>
+    fn find_by_slot(&self, slots: &mut Vec<u32>, found: &mut GridFindings) -> Result<u64, NoMemory>
         ensures { OnOk result (FindsAll self.now found.new.pairs.items) }
     {
         self.kept.boxes().list(slots)?;
@@ -81,7 +82,7 @@ impl PairSearch<'_> {
     }
 
     /// Finds the pairs that some slots are to find, each at least once, and answers how many boxes were compared.
-    pub(crate) fn find_run(&self, slots: &[u32], found: &mut Findings) -> Result<u64, NoMemory>
+    pub(crate) fn find_run(&self, slots: &[u32], found: &mut GridFindings) -> Result<u64, NoMemory>
         ensures { OnOk result (FindsRun self.now slots.now found.new.pairs.items) }
     {
         found.clear();
@@ -94,7 +95,7 @@ impl PairSearch<'_> {
     }
 
     // Finds the pairs of a slot with its partners, if it is present.
-    fn find_for(&self, slot: u32, found: &mut Findings) -> Result<(), NoMemory>
+    fn find_for(&self, slot: u32, found: &mut GridFindings) -> Result<(), NoMemory>
         ensures { OnOk result (FindsSlot self.now slot found.old.pairs.items found.new.pairs.items) }
     {
         let Some(body) = self.kept.boxes().box_of(slot) else {
@@ -105,7 +106,7 @@ impl PairSearch<'_> {
     }
 
     // Finds the pairs of a slot with those partners that it is to find.
-    fn find_from(&self, own: &SlotBox, found: &mut Findings) -> Result<(), NoMemory>
+    fn find_from(&self, own: &SlotBox, found: &mut GridFindings) -> Result<(), NoMemory>
         ensures { OnOk result (Finds self.now own.now true (IsDue cell_of own.now.slot own.now.body) found.old.pairs.items found.new.pairs.items) }
     {
         match &self.listed {
@@ -115,7 +116,7 @@ impl PairSearch<'_> {
     }
 
     // The same by the rings of links.
-    fn find_linked(&self, own: &SlotBox, found: &mut Findings) -> Result<(), NoMemory>
+    fn find_linked(&self, own: &SlotBox, found: &mut GridFindings) -> Result<(), NoMemory>
         ensures { OnOk result (Finds self.now own.now true (IsDue cell_of own.now.slot own.now.body) found.old.pairs.items found.new.pairs.items) }
     {
         let cell = cell_of(&own.body);
@@ -125,7 +126,12 @@ impl PairSearch<'_> {
     }
 
     // Finds the pairs of a slot with its partners of higher slots in its own cell, the only one of a row.
-    fn find_own(&self, own: &SlotBox, row: &CellRow, found: &mut Findings) -> Result<(), NoMemory>
+    fn find_own(
+        &self,
+        own: &SlotBox,
+        row: &CellRow,
+        found: &mut GridFindings,
+    ) -> Result<(), NoMemory>
         ensures { OnOk result (Finds self.now own.now false (λ _ b. IsInRow row.now (cell_of b))
             found.old.pairs.items found.new.pairs.items) }
     {
@@ -137,7 +143,12 @@ impl PairSearch<'_> {
     }
 
     // Finds the pairs of a slot with its partners in later cells of its level and at the levels above it.
-    fn find_others(&self, own: &SlotBox, level: u8, found: &mut Findings) -> Result<(), NoMemory>
+    fn find_others(
+        &self,
+        own: &SlotBox,
+        level: u8,
+        found: &mut GridFindings,
+    ) -> Result<(), NoMemory>
         requires low { level < LEVELS }
         requires level { level ≡ level_of own.now.body }
         ensures { OnOk result (Finds self.now own.now true (λ _ b. IsOther cell_of own.now.body b) found.old.pairs.items found.new.pairs.items) }
@@ -152,7 +163,7 @@ impl PairSearch<'_> {
 
     // Finds the pairs of a slot with its partners among what is near. The slots in rows of cells are compared with the others
     // that are near.
-    fn find_near(&self, own: &SlotBox, found: &mut Findings) -> Result<(), NoMemory>
+    fn find_near(&self, own: &SlotBox, found: &mut GridFindings) -> Result<(), NoMemory>
         ensures { OnOk result (Finds self.now own.now true (IsNearby found.old.near) found.old.pairs.items found.new.pairs.items) }
     {
         self.kept.push_rows(&mut found.near)?;

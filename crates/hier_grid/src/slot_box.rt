@@ -1,3 +1,4 @@
+//! A slot beside its box.
 use fixed_box::FBox;
 
 /// A slot beside its box.

@@ -1,16 +1,17 @@
+//! The key of each slot in a table of merged cells.
 ghost use Rattle.std.specs.Prelude.{◌≡◌, ℕ, ◌<◌, option_map};
 ghost use Rattle.std.specs.FinMap as map;
 ghost use Rattle.hier_grid.specs.Standing.{AreStanding, standing_cell};
 
 use crate::cell::standing_cell;
-use crate::kept_boxes::{KeptBoxes, rekey};
+use crate::grid_boxes::{GridBoxes, rekey};
 use cell_table::{CellKey, CellTable, LEVELS};
 use fixed_box::SLOTS;
 use slot_lists::SlotBoxes;
 
 /// Makes a table that of the cells in which boxes stand where none stands below a floor, whatever it was. A slot that has its
 /// cell there keeps it.
-pub(crate) fn settle_cells(kept: &KeptBoxes, floor: u8, cells: &mut CellTable)
+pub(crate) fn settle_cells(kept: &GridBoxes, floor: u8, cells: &mut CellTable)
     requires { floor < LEVELS }
     ensures { AreStanding kept.now floor cells.new }
 {

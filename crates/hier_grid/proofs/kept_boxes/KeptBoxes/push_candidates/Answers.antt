@@ -1,5 +1,0 @@
--- No box has a level above those that were asked.
-use Rattle.hier_grid.proofs.kept_boxes.KeptBoxes.push_candidates.Goals as goal
-
-pub returns : goal.returns
-returns c q b e from below m = c.in_ok-push_rows.ensures q b e (c.in_ok-push_from.ensures.found q b e from (c.levels_end.ensures.above q b e) m)

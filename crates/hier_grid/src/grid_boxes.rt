@@ -1,0 +1,424 @@
+//! Boxes under slots in the cells of their levels, and the candidates near a region.
+ghost use Rattle.std.specs.Prelude.{◌≡◌, ℕ, ◌<◌, ◌≤◌, true, false, Some, IsTrue, IfOk, OnOk};
+ghost use Rattle.std.specs.FinMap as map;
+ghost use Rattle.fixed_box.specs.Bounds.{Bounds, meets};
+ghost use Rattle.hier_grid.specs.Grid.{AreKeyed, IsSized, is_held, meets_part};
+ghost use Rattle.hier_grid.specs.Search.{HasHits, HasHitsBelow, HasMet, HasMetIn, HasMore, HasNearby};
+ghost use Rattle.hier_grid.specs.Search.{IsBare, IsEnd, IsRegionOf, NearsAfter, NearsIn, NearsLevel, StaysNearby};
+ghost use Rattle.fixed_box.specs.Space.{space};
+
+use crate::cell::cell_of;
+use crate::crossed_cells::push_crossed;
+use crate::hull::{grown, part_in};
+use crate::leveled_boxes::LeveledBoxes;
+use crate::line_path::LinePath;
+use crate::near_cells::{block_beside, count_beside, push_after, push_beside, visit_rows};
+use crate::nearby::Nearby;
+use cell_table::{CellKey, CellTable, LEVELS};
+use fixed_box::{FBox, NoMemory, SLOTS};
+use prepared_query::BoxTest;
+use slot_lists::SlotBoxes;
+use std::alloc::Global;
+use std::marker::Model;
+
+// A scan of so many boxes for a line costs about as much as a step along it.
+const BOXES_PER_STEP: u32 = 16;
+
+// A box is shorter than the cells of its level, so that it lies in at most two of them on each axis, and has at most so many
+// beside it.
+pub(crate) const MOST_BESIDE: u32 = 27;
+
+/// The boxes under their slots, each in the cell of its level, seen as a map from slot to box.
+#[derive(Drop)]
+pub(crate) struct GridBoxes {
+    boxes: LeveledBoxes,
+    cells: CellTable,
+    // It grows with each box that is put, and stays as boxes go, until the last one goes.
+    hull: Option<FBox>,
+}
+
+impl Model for GridBoxes {
+    ghost use Rattle.std.specs.Ordering.{nat_cmp};
+    ghost use Rattle.std.specs.Coded.{coded_ℕ};
+    ghost use Rattle.std.specs.FinMap.{FinMap, code};
+    ghost use Rattle.fixed_box.specs.Bounds.{Bounds, coded_bounds};
+    ghost use Rattle.hier_grid.specs.Grid.{IsGrid};
+
+    ghost Value = { FinMap nat_cmp Bounds };
+
+    ghost coded = { code coded_ℕ coded_bounds };
+
+    ghost view = { λ k. k.boxes };
+
+    ghost invariant = { λ k. IsGrid k.boxes k.cells k.hull };
+}
+
+impl GridBoxes {
+    /// No box, with the memory for all slots.
+    pub(crate) fn new(alloc: Global) -> Result<GridBoxes, NoMemory>
+        ensures { IfOk result (λ kept. kept ≡ map.empty) }
+    {
+        Ok(GridBoxes {
+            boxes: LeveledBoxes::new(alloc)?,
+            cells: CellTable::new(alloc)?,
+            hull: None,
+        })
+    }
+
+    /// The boxes.
+    pub(crate) fn boxes(&self) -> &SlotBoxes
+        ensures { result.now ≡ self.now }
+    {
+        self.boxes.boxes()
+    }
+
+    /// The cells of the boxes.
+    pub(crate) fn cells(&self) -> &CellTable
+        ensures { AreKeyed self.now result.now }
+    {
+        &self.cells
+    }
+
+    /// A box in which all boxes lie, if there is one. It may be wider than they are: it shrinks only where no box is left.
+    pub(crate) fn hull(&self) -> Option<FBox>
+        ensures { (slot : ℕ) (b : Bounds) → map.get self.now slot ≡ Some b → IsTrue (is_held result b) }
+    {
+        self.hull
+    }
+
+    /// A law for proofs, with nothing to run: each box lies in space.
+    pub(crate) fn space_law(&self)
+        ensures { (slot : ℕ) (b : Bounds) → map.get self.now slot ≡ Some b → IsTrue (meets space b) }
+    {
+        self.sized_law();
+    }
+
+    /// A law for proofs, with nothing to run: each slot is one of those that there may be.
+    pub(crate) fn slots_law(&self)
+        ensures { (slot : ℕ) (b : Bounds) → map.get self.now slot ≡ Some b → slot < SLOTS }
+    {
+        self.boxes.slots_law();
+    }
+
+    /// A law for proofs, with nothing to run: each box is shorter than the cells of its level.
+    pub(crate) fn sized_law(&self)
+        ensures { (slot : ℕ) (b : Bounds) → map.get self.now slot ≡ Some b → IsSized b }
+    {
+        // what a value keeps is known where it is read
+        let _boxes = &self.boxes;
+    }
+
+    /// Puts a box under an absent slot. It takes no memory.
+    pub(crate) fn put(&mut self, slot: u32, body: FBox)
+        requires small { slot < SLOTS }
+        requires absent { map.contains_key self.old slot ≡ false }
+        ensures { self.new ≡ map.insert self.old slot body }
+    {
+        self.cells.put(slot, cell_of(&body));
+        self.hull = Some(grown(&self.hull, &body));
+        self.boxes.put(slot, body);
+    }
+
+    /// Gives a present slot another box. It takes no memory.
+    pub(crate) fn set(&mut self, slot: u32, body: FBox)
+        requires small { slot < SLOTS }
+        requires present { map.contains_key self.old slot ≡ true }
+        ensures { self.new ≡ map.insert self.old slot body }
+    {
+        rekey(&mut self.cells, slot, cell_of(&body));
+        self.hull = Some(grown(&self.hull, &body));
+        self.boxes.set(slot, body);
+    }
+
+    /// Takes a present slot out. It takes no memory.
+    pub(crate) fn take(&mut self, slot: u32)
+        requires { map.contains_key self.old slot ≡ true }
+        ensures { self.new ≡ map.remove self.old slot }
+    {
+        self.cells.take(slot);
+        self.boxes.take(slot);
+        self.hull = hull_left(self.boxes.boxes(), &self.hull);
+    }
+
+    /// Lists slots and rows of cells, and among them all boxes of a level that meet a box of it and lie in cells after its
+    /// cell. Where the level has few boxes those in cells before it are among them too.
+    pub(crate) fn push_after(
+        &self,
+        level: u8,
+        body: &FBox,
+        near: &mut Nearby,
+    ) -> Result<(), NoMemory>
+        requires { level < LEVELS }
+        ensures { OnOk result (NearsAfter self.now level body.now near.new) }
+    {
+        if self.has_few_beside(level, body) {
+            self.scan(level, body, near)
+        } else {
+            self.push_after_cell(level, body, near)
+        }
+    }
+
+    // Lists the rows of cells of a level beside a region after the cell of its lower corner.
+    fn push_after_cell(&self, level: u8, body: &FBox, near: &mut Nearby) -> Result<(), NoMemory>
+        requires { level < LEVELS }
+        ensures { OnOk result (NearsAfter self.now level body.now near.new) }
+    {
+        self.sized_law();
+        push_after(level, body, &mut near.rows)?;
+        Ok(())
+    }
+
+    /// A level above those of all boxes.
+    pub(crate) fn levels_end(&self) -> u8
+        ensures { IsEnd self.now result }
+    {
+        let mut end = LEVELS;
+        'end: while end > 0 {
+            if self.has_some(end - 1) {
+                break;
+            }
+            end -= 1;
+        }
+        end
+    }
+
+    /// Appends slots, and among them all whose boxes meet a region.
+    pub(crate) fn push_candidates(&self, region: &FBox, near: &mut Nearby) -> Result<(), NoMemory>
+        ensures { OnOk result (HasMetIn self.now 0 LEVELS region.now near.new.slots.items) }
+    {
+        self.push_from(0, self.levels_end(), region, near)?;
+        self.push_rows(near)?;
+        Ok(())
+    }
+
+    /// Appends slots, and among them all whose boxes meet a line that has a region. `near` has no rows that count.
+    pub(crate) fn push_crossed<T: BoxTest>(
+        &self,
+        region: &FBox,
+        path: &LinePath,
+        test: &T,
+        near: &mut Nearby,
+    ) -> Result<(), NoMemory>
+        requires { IsRegionOf self.now (T.asks test.now) region.now }
+        ensures { OnOk result (HasHitsBelow self.now LEVELS (T.asks test.now) near.new.slots.items) }
+    {
+        match self.part_of(region) {
+            Some(part) => self.push_crossed_in(&part, path, test, near),
+            None => Ok(()),
+        }
+    }
+
+    // The part of a region in which there may be boxes: each box that meets the region meets it. `None` only where no box does.
+    fn part_of(&self, region: &FBox) -> Option<FBox>
+        ensures { (slot : ℕ) (b : Bounds) → map.get self.now slot ≡ Some b → meets region.now b ≡ true → IsTrue (meets_part result b) }
+    {
+        self.sized_law();
+        match &self.hull {
+            Some(hull) => part_in(hull, region),
+            None => None,
+        }
+    }
+
+    // The same as `push_crossed`, level by level.
+    fn push_crossed_in<T: BoxTest>(
+        &self,
+        region: &FBox,
+        path: &LinePath,
+        test: &T,
+        near: &mut Nearby,
+    ) -> Result<(), NoMemory>
+        requires { IsRegionOf self.now (T.asks test.now) region.now }
+        ensures { OnOk result (HasHitsBelow self.now LEVELS (T.asks test.now) near.new.slots.items) }
+    {
+        'levels: for level in 0..self.levels_end() {
+            self.push_crossed_at(level, region, path, test, near)?;
+        }
+        Ok(())
+    }
+
+    // The same of one level. Where the line crosses too much of it, the level is scanned.
+    fn push_crossed_at<T: BoxTest>(
+        &self,
+        level: u8,
+        region: &FBox,
+        path: &LinePath,
+        test: &T,
+        near: &mut Nearby,
+    ) -> Result<(), NoMemory>
+        requires level { level < LEVELS }
+        requires region { IsRegionOf self.now (T.asks test.now) region.now }
+        ensures more { OnOk result (HasMore near.old.slots.items near.new.slots.items) }
+        ensures found { OnOk result (HasHits self.now level (T.asks test.now) near.new.slots.items) }
+    {
+        if !self.has_some(level) || self.follow(level, region, path, test, near)? {
+            return Ok(());
+        }
+        self.boxes
+            .scan(level, region, &mut near.places, &mut near.slots)
+    }
+
+    // Appends slots of a level, and among them all whose boxes meet a line, where that is expected to cost less than a scan, and
+    // takes at most twice as many steps along the line as expected. Else it answers false.
+    fn follow<T: BoxTest>(
+        &self,
+        level: u8,
+        region: &FBox,
+        path: &LinePath,
+        test: &T,
+        near: &mut Nearby,
+    ) -> Result<bool, NoMemory>
+        requires level { level < LEVELS }
+        requires region { IsRegionOf self.now (T.asks test.now) region.now }
+        ensures more { OnOk result (HasMore near.old.slots.items near.new.slots.items) }
+        ensures found { IfOk result (λ whole. whole ≡ true → HasHits self.now level (T.asks test.now) near.new.slots.items) }
+    {
+        self.sized_law();
+        let block = block_beside(level, region);
+        let expected = path.steps_through(&block);
+        if expected > self.cells.level_len(level) / BOXES_PER_STEP {
+            return Ok(false);
+        }
+        near.rows.clear();
+        let mut steps = expected.saturating_mul(2);
+        let whole = push_crossed(&block, path, test, &mut steps, &mut near.rows)?;
+        if whole {
+            visit_rows(&self.cells, &near.rows, &mut near.slots)?;
+        }
+        Ok(whole)
+    }
+
+    /// Appends the slots in the rows of cells that are near, and others that share their buckets.
+    pub(crate) fn push_rows(&self, near: &mut Nearby) -> Result<(), NoMemory>
+        ensures { OnOk result (HasNearby self.now near.old near.new.slots.items) }
+    {
+        visit_rows(&self.cells, &near.rows, &mut near.slots)?;
+        Ok(())
+    }
+
+    /// Lists slots and rows of cells, and among them all boxes that meet a region and have a level from one on and below an
+    /// end.
+    pub(crate) fn push_from(
+        &self,
+        first: u8,
+        end: u8,
+        region: &FBox,
+        near: &mut Nearby,
+    ) -> Result<(), NoMemory>
+        requires { end ≤ LEVELS }
+        ensures more { OnOk result (StaysNearby near.old near.new) }
+        ensures found { OnOk result (NearsIn self.now first end region.now near.new) }
+    {
+        'levels: for level in first..end {
+            self.push_near(level, region, near)?;
+        }
+        Ok(())
+    }
+
+    // Lists slots or rows of cells, and among them all boxes of a level that meet a region.
+    fn push_near(&self, level: u8, region: &FBox, near: &mut Nearby) -> Result<(), NoMemory>
+        requires { level < LEVELS }
+        ensures more { OnOk result (StaysNearby near.old near.new) }
+        ensures found { OnOk result (NearsLevel self.now level region.now near.new) }
+    {
+        if !self.has_some(level) {
+            return Ok(());
+        }
+        if self.has_few(level, region) {
+            self.scan(level, region, near)
+        } else {
+            self.push_from_cells(level, region, near)
+        }
+    }
+
+    /// Whether a level has boxes.
+    pub(crate) fn has_some(&self, level: u8) -> bool
+        requires { level < LEVELS }
+        ensures { result ≡ false → IsBare self.now level }
+    {
+        self.cells.level_len(level) > 0
+    }
+
+    /// Whether a box has more cells of a level, its own or a higher one, beside it than the level has boxes. Such a level is
+    /// told by its boxes alone where they are no fewer than such cells can be.
+    pub(crate) fn has_few_beside(&self, level: u8, body: &FBox) -> bool
+        requires { level < LEVELS }
+    {
+        self.cells.level_len(level) < MOST_BESIDE && self.has_few(level, body)
+    }
+
+    // Whether a region has more cells of a level beside it than the level has boxes.
+    fn has_few(&self, level: u8, region: &FBox) -> bool
+        requires { level < LEVELS }
+    {
+        count_beside(level, region) > u64::from(self.cells.level_len(level))
+    }
+
+    /// Appends the slots of a level whose boxes meet a region. Each box of the level is compared, and counted.
+    pub(crate) fn scan(&self, level: u8, region: &FBox, near: &mut Nearby) -> Result<(), NoMemory>
+        requires { level < LEVELS }
+        ensures more { OnOk result (StaysNearby near.old near.new) }
+        ensures met { OnOk result (HasMet self.now level region.now near.new.slots.items) }
+        ensures found { OnOk result (NearsLevel self.now level region.now near.new) }
+    {
+        near.looked = near
+            .looked
+            .saturating_add(u64::from(self.cells.level_len(level)));
+        self.boxes
+            .scan(level, region, &mut near.places, &mut near.slots)?;
+        Ok(())
+    }
+
+    // Lists the rows of cells of a level beside a region.
+    fn push_from_cells(&self, level: u8, region: &FBox, near: &mut Nearby) -> Result<(), NoMemory>
+        requires { level < LEVELS }
+        ensures more { OnOk result (StaysNearby near.old near.new) }
+        ensures found { OnOk result (NearsLevel self.now level region.now near.new) }
+    {
+        self.sized_law();
+        push_beside(level, region, &mut near.rows)?;
+        Ok(())
+    }
+}
+
+// A hull, if a box is left that it may hold.
+fn hull_left(boxes: &SlotBoxes, hull: &Option<FBox>) -> Option<FBox>
+    ensures { (slot : ℕ) (b : Bounds) → map.get boxes.now slot ≡ Some b → IsTrue (is_held hull.now b) → IsTrue (is_held result b) }
+{
+    if is_bare(boxes) { None } else { *hull }
+}
+
+fn is_bare(boxes: &SlotBoxes) -> bool
+    ensures { result ≡ true → map.len boxes.now ≡ 0 }
+{
+    boxes.len() == 0
+}
+
+/// Gives a present slot another key.
+pub(crate) fn rekey(cells: &mut CellTable, slot: u32, key: CellKey)
+    requires small { slot < SLOTS }
+    requires level { key.level < LEVELS }
+    requires present { map.contains_key cells.old slot ≡ true }
+    ensures { cells.new ≡ map.insert cells.old slot key }
+{
+    if is_kept(cells, slot, &key) {
+        return;
+    }
+    cells.take(slot);
+    cells.put(slot, key);
+}
+
+// Whether a slot has a key.
+fn is_kept(cells: &CellTable, slot: u32, key: &CellKey) -> bool
+    ensures { result ≡ true → map.get cells.now slot ≡ Some key.now }
+{
+    match cells.key_of(slot) {
+        Some(own) => is_same(&own, key),
+        None => false,
+    }
+}
+
+fn is_same(a: &CellKey, b: &CellKey) -> bool
+    ensures { result ≡ true → a.now ≡ b.now }
+{
+    (a.level == b.level) & (a.x == b.x) & (a.y == b.y) & (a.z == b.z)
+}
