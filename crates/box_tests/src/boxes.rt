@@ -1,3 +1,5 @@
+//! Boxes of two corners: what meets, holds, unites and grows.
+
 use fixed_box::{FBox, Fix, FixFault, Point, print_fix, read_fix};
 use std::test::Fail;
 

@@ -1,3 +1,5 @@
+//! Casts of boxes along a line: what they meet, and when, as rows.
+
 use box_cast::{Cast, cast_entry, cast_meets};
 use fixed_box::{FBox, Point};
 use std::test::Fail;

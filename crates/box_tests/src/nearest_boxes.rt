@@ -1,3 +1,5 @@
+//! The nearest boxes to a point over an index, with ties and squares.
+
 ghost use Rattle.std.specs.FinMap as map;
 
 use broad_index::{BroadPhase, PlainIndex};

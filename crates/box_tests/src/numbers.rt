@@ -1,3 +1,5 @@
+//! Texts read as fixed-point numbers and printed again, as rows.
+
 use fixed_box::Fix;
 use number_front::{digits_ahead, fix_ahead, printed_fix_ahead};
 

@@ -1,3 +1,5 @@
+//! Rays and segments against boxes, as rows, at faces, edges and corners.
+
 use fixed_box::{FBox, Point};
 use ray_slabs::{Entry, Ray, Seg, WBox, WPoint, ray_entry, ray_meets, seg_meets};
 use std::test::Fail;

@@ -1,4 +1,5 @@
 //! The width of the fat margin, as a law with nothing to run.
+
 ghost use Rattle.std.specs.Prelude.{◌≡◌};
 
 use crate::MARGIN;

@@ -1,4 +1,5 @@
 //! Fat boxes under slots as leaves of a tree, and when a changed tree is rebuilt.
+
 ghost use Rattle.std.specs.Prelude.{◌≡◌, ◌<◌, ◌≤◌, true, None, Some, is_some, slice_index_or, slice_set, IfOk, ℕ};
 ghost use Rattle.fixed_box.specs.declared.TheConstants.{SLOTS};
 ghost use Rattle.box_tree.specs.Ties.{Leafed};

@@ -1,4 +1,5 @@
 //! The boxes and slots of a preorder list that are touched.
+
 ghost use Rattle.std.specs.Prelude.{◌≡◌, ◌++◌, OnOk, map};
 ghost use Rattle.tree_search.specs.Crossed.{touched_of};
 ghost use Rattle.tree_search.specs.Preorder.{entry_at, listed};

@@ -1,4 +1,5 @@
 //! Whether a moved box left its fat box.
+
 /// What a shift did to the tree.
 #[derive(Clone, Copy, Debug, PartialEq, Eq)]
 pub enum Moved {

@@ -1,4 +1,5 @@
 //! The pair cache renewed: pairs of touched slots dropped, and what was found merged in.
+
 ghost use Rattle.std.specs.Prelude.{◌≡◌, ◌++◌, true, OnOk, OnErr};
 ghost use Rattle.std.specs.Ordering.{nat_cmp};
 ghost use Rattle.std.specs.FinMap.{FinMap};

@@ -1,4 +1,5 @@
 //! What the searches of touched slots found, and buffers that are kept from frame to frame.
+
 use broad_index::Pair;
 use fixed_box::NoMemory;
 use std::alloc::Global;

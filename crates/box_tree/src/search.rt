@@ -1,4 +1,5 @@
 //! One descent for each touched slot, and the slots that one box reaches.
+
 ghost use Rattle.std.specs.Prelude.{◌≡◌, ◌≤◌, ◌++◌, [], length, None, OnOk, IfOk, slice_index_or};
 ghost use Rattle.fixed_box.specs.declared.TheConstants.{SLOTS};
 ghost use Rattle.broad_index.specs.Touched.{gathered_with};

@@ -1,4 +1,5 @@
 //! The search for touched slots: in groups along the preorder list, or one by one where few are touched.
+
 ghost use Rattle.std.specs.Prelude.{◌≡◌, ◌≤◌, ◌++◌, List, [], length};
 ghost use Rattle.std.specs.Prelude.{OnOk, IfOk};
 ghost use Rattle.slot_lists.specs.SlotMap.{map_of};

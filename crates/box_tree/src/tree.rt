@@ -1,4 +1,5 @@
 //! The broad phase over the tree: boxes come, move and go, and pairs are sought for touched slots alone.
+
 ghost use Rattle.std.specs.Prelude.{◌≡◌, ◌↔◌, ℕ, ◌≤◌, ◌<◌, ◌^◌, true, false, None, Some, is_some, Ok, IfOk, IfSome};
 ghost use Rattle.std.specs.Prelude.{IsTrue, count_by, length, map as mapped, slice_set, refl};
 ghost use Rattle.std.specs.FinMap as map;

@@ -1,4 +1,5 @@
 //! Exact boxes under slots, each inside the fat box of its leaf.
+
 ghost use Rattle.std.specs.Prelude.{◌≡◌, ◌↔◌, ℕ, ◌<◌, true, false, None, Some, IfOk, IfSome, IsTrue, map as mapped, slice_index_or};
 ghost use Rattle.std.specs.FinMap as map;
 ghost use Rattle.fixed_box.specs.Bounds.{Bounds, encloses, fattened};

@@ -1,4 +1,5 @@
 //! The preorder list of a tree, and whether it is up to date.
+
 ghost use Rattle.std.specs.Prelude.{◌≡◌, true, false, IfSome, OnOk};
 ghost use Rattle.tree_search.specs.Preorder.{preorder_in};
 ghost use Rattle.box_tree.specs.Whole.{AreListed};

@@ -1,4 +1,5 @@
 //! All slots of a table listed bucket by bucket, so that a row of cells is one or two stretches of the list.
+
 ghost use Rattle.std.specs.Prelude.{◌≡◌, ◌≤◌, pos, ◌+ℤ◌, ◌≤ℤ◌, length, OnOk, OnErr};
 ghost use Rattle.std.specs.FinMap as map;
 ghost use Rattle.cell_table.specs.Kept.{AreStarts};

@@ -1,4 +1,5 @@
 //! The spatial hash: which bucket a cell falls into, and whether two keys are one cell.
+
 ghost use Rattle.std.specs.Prelude.{◌≡◌, ◌<◌};
 ghost use Rattle.cell_table.specs.Cells.{bucket_of, same_cell};
 

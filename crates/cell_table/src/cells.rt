@@ -1,4 +1,5 @@
 //! Walks over the rings of links: the slots of a level, of a cell, of a row of cells and of a bucket.
+
 ghost use Rattle.std.specs.Prelude.{◌≡◌, ℕ, ◌+◌, ◌<◌, ◌≤◌, ◌++◌, ◌==◌, None, IfOk, OnOk, OnErr, length, take, drop, vec_len, slice_index, slice_index_or};
 ghost use Rattle.std.specs.Ordering.{nat_cmp};
 ghost use Rattle.std.specs.List.Sorted.{IsPermutation, IsSorted};

@@ -1,4 +1,5 @@
 //! The number of levels and that of buckets, as a law with nothing to run.
+
 ghost use Rattle.std.specs.Prelude.{◌≡◌};
 
 use crate::{BUCKETS, LEVELS};

@@ -1,4 +1,5 @@
 //! Circular doubly linked lists in arrays, one for each bucket: linking and unlinking a slot.
+
 ghost use Rattle.std.specs.Prelude.{◌≡◌, ℕ, ◌<◌, IfOk, length, slice_index};
 ghost use Rattle.cell_table.specs.Kept.{put_next, put_prev, take_next, take_prev};
 

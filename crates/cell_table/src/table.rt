@@ -1,4 +1,5 @@
 //! The hash table of cells: which cell each slot is in, put, taken and found in constant time.
+
 ghost use Rattle.std.specs.Prelude.{◌≡◌, ℕ, ◌+◌, ◌<◌, ◌++◌, true, false, Some, IfOk, OnOk, OnErr, length, take};
 ghost use Rattle.std.specs.FinMap as map;
 ghost use Rattle.cell_table.specs.declared.cell_key.CellKey as key;

@@ -1,4 +1,5 @@
 //! Where a block of cells is cut in two, and on which axis.
+
 /// An axis of space.
 #[derive(Clone, Copy)]
 pub(crate) enum CutAxis {

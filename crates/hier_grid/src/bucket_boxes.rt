@@ -1,4 +1,5 @@
 //! Copies of all boxes in the order of buckets, so that a row of cells is compared in place.
+
 ghost use Rattle.std.specs.Prelude.{◌≡◌, ◌<◌, ◌++◌, true, None, OnOk, All, length, map as mapped};
 ghost use Rattle.std.specs.FinMap as map;
 ghost use Rattle.std.specs.Ordering.{nat_cmp};

@@ -1,4 +1,5 @@
 //! Which cell a box lies in, by its level and its lower corner.
+
 ghost use Rattle.std.specs.Prelude.{◌≡◌, ℤ, pos, negsuc, neg_ℤ, ◌+ℤ◌, ◌*ℤ◌, ◌<◌, ◌≤ℤ◌, ◌<ℤ◌, IsTrue};
 ghost use Rattle.fixed_box.specs.Bounds.{cell_side, encloses};
 ghost use Rattle.fixed_box.specs.Space.{space};

@@ -1,4 +1,5 @@
 //! A block of cells of one level, and how it is cut in two.
+
 ghost use Rattle.std.specs.Prelude.{◌<◌, IsTrue};
 ghost use Rattle.fixed_box.specs.Bounds.{Bounds};
 ghost use Rattle.hier_grid.specs.Cells.{cell_of, IsCut, IsInBlock};

@@ -1,4 +1,5 @@
 //! A row of cells along z.
+
 ghost use Rattle.std.specs.Prelude.{◌≡◌, ◌≤ℤ◌, true};
 ghost use Rattle.hier_grid.specs.Cells.{IsInRow};
 

@@ -1,4 +1,5 @@
 //! The lowest level that pays in a list by bucket: levels with few boxes are merged upwards.
+
 ghost use Rattle.std.specs.Prelude.{◌<◌};
 
 use crate::cell::standing_cell;

@@ -1,4 +1,5 @@
 //! The broad phase over the grid: boxes come, move and go in their cells, and all pairs are sought anew.
+
 ghost use Rattle.std.specs.Prelude.{◌≡◌, ◌↔◌, ◌<◌, ◌≤◌, ◌^◌, true, false, length, refl, Ok, None, is_some, IfOk, IfSome};
 ghost use Rattle.std.specs.FinMap as map;
 ghost use Rattle.std.specs.List.{All};

@@ -1,4 +1,5 @@
 //! The pairs that searches of a grid found, with the candidates of one search.
+
 ghost use Rattle.std.specs.Prelude.{◌≡◌, [], true, OnOk};
 ghost use Rattle.broad_index.specs.Members.{has_slot};
 ghost use Rattle.hier_grid.specs.Search.{Finds};

@@ -1,4 +1,5 @@
 //! The list of all boxes by bucket, and whether it is up to date.
+
 ghost use Rattle.std.specs.Prelude.{◌≡◌, ◌<◌, is_some, IfSome};
 ghost use Rattle.std.specs.FinMap as map;
 ghost use Rattle.std.specs.Ordering.{nat_cmp};

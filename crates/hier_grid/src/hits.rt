@@ -1,4 +1,5 @@
 //! A query asked of a grid: levels are scanned, or the cells beside it are followed.
+
 ghost use Rattle.std.specs.Prelude.{◌≡◌, ◌++◌, Some, OnOk, OnErr, filter};
 ghost use Rattle.std.specs.FinMap as map;
 ghost use Rattle.broad_index.specs.Found.{found};

@@ -1,4 +1,5 @@
 //! The hull of boxes, grown by one more, and the part of a region that lies in it.
+
 ghost use Rattle.std.specs.Prelude.{◌≡◌, true, IsTrue};
 ghost use Rattle.fixed_box.specs.Bounds.{Bounds, encloses, meets};
 ghost use Rattle.fixed_box.specs.Point.{is_at_most};

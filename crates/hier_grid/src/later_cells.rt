@@ -1,4 +1,5 @@
 //! The half of the neighbour cells that come after a cell, so that each pair is sought once.
+
 use cell_table::CellKey;
 
 /// Those cells of a level beside a region that come after the cell of its lower corner: the rest of that cell's row, the rows

@@ -1,4 +1,5 @@
 //! The boxes of one level in columns for vector lanes, beside their slots.
+
 ghost use Rattle.std.specs.Prelude.{◌≡◌, ℕ, ◌+◌, ◌-◌, ◌<◌, ◌≤◌, ◌^◌, [], ◌∷◌, ◌++◌, true, IfOk, OnOk};
 ghost use Rattle.std.specs.Prelude.{length, map, slice_index, slice_index_or, slice_set, swap_remove};
 ghost use Rattle.fixed_box.specs.Bounds.{meets};

@@ -1,4 +1,5 @@
 //! All boxes by slot, and once more in the columns of their levels.
+
 ghost use Rattle.std.specs.Prelude.{◌≡◌, ℕ, ◌<◌, ◌≤◌, [], true, false, Some, IfOk, IfSome, OnOk, length};
 ghost use Rattle.std.specs.FinMap as map;
 ghost use Rattle.fixed_box.specs.Bounds.{Bounds, level_of};

@@ -1,4 +1,5 @@
 //! About where a line runs through a block of cells, by which a block is cut well.
+
 ghost use Rattle.std.specs.Prelude.{◌<◌};
 
 use crate::block_cut::{BlockCut, CutAxis};

@@ -1,4 +1,5 @@
 //! The search for pairs along the list by bucket.
+
 ghost use Rattle.std.specs.Prelude.{◌≡◌, ◌<◌, ◌≤◌, true, max, OnOk};
 ghost use Rattle.fixed_box.specs.Bounds.{Bounds, level_of};
 ghost use Rattle.hier_grid.specs.Buckets.{HasBuckets};

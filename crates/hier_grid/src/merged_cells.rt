@@ -1,4 +1,5 @@
 //! The cells of boxes whose low levels are merged, kept up to date with each change.
+
 ghost use Rattle.std.specs.Prelude.{◌≡◌, ◌<◌, IfOk};
 ghost use Rattle.std.specs.FinMap as map;
 ghost use Rattle.std.specs.Ordering.{nat_cmp};

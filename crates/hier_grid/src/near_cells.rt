@@ -1,4 +1,5 @@
 //! The neighbour cells of a region on one level, as rows along z.
+
 ghost use Rattle.std.specs.Prelude.{◌≡◌, ℤ, pos, ◌+ℤ◌, ◌-ℤ◌, ◌<◌, ◌≤ℤ◌, ◌<ℤ◌, OnOk};
 ghost use Rattle.cell_table.specs.declared.cell_key.CellKey as key;
 ghost use Rattle.hier_grid.specs.Cells.{cell_at, cell_on, IsAfter, IsAmong, IsBeside, IsInBlock, IsInRow, IsInRows};

@@ -1,4 +1,5 @@
 //! The candidates near one region: slots, rows of cells, and how many boxes were compared.
+
 ghost use Rattle.std.specs.Prelude.{◌≡◌, []};
 
 use crate::cell_row::CellRow;

@@ -1,4 +1,5 @@
 //! The search for pairs of boxes: along the list by bucket if it is fresh, or else along the rings of cells.
+
 ghost use Rattle.std.specs.Prelude.{◌≡◌, ◌<◌, true, false, OnOk};
 ghost use Rattle.fixed_box.specs.Bounds.{level_of};
 ghost use Rattle.hier_grid.specs.Buckets.{IsListing};

@@ -1,4 +1,5 @@
 //! Which candidates are partners of a slot: another slot whose box meets its box.
+
 ghost use Rattle.std.specs.Prelude.{◌≡◌, ◌++◌, ◌==◌, ◌&&◌, ◌||◌, true, not, nat_lt, filter, OnOk};
 ghost use Rattle.broad_index.specs.Touched.{ordered_pairs};
 ghost use Rattle.hier_grid.specs.Search.{is_partner, meets_at};

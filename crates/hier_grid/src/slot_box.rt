@@ -1,4 +1,5 @@
 //! A slot beside its box.
+
 use fixed_box::FBox;
 
 /// A slot beside its box.

@@ -1,4 +1,5 @@
 //! The key of each slot in a table of merged cells.
+
 ghost use Rattle.std.specs.Prelude.{◌≡◌, ℕ, ◌<◌, option_map};
 ghost use Rattle.std.specs.FinMap as map;
 ghost use Rattle.hier_grid.specs.Standing.{AreStanding, standing_cell};

@@ -1,4 +1,5 @@
 //! The trait that gives each structure its name and makes an empty one.
+
 ghost use Rattle.std.specs.Prelude.{◌≡◌, IfOk, refl};
 ghost use Rattle.broad_index.specs.Fresh.{IsFresh};
 ghost use Rattle.named_index.specs.Structures.{counts};

@@ -1,4 +1,5 @@
 //! Which broad phase keeps the boxes: a plain list, sorted endpoints, a tree or a grid.
+
 /// By which structure the boxes are kept.
 #[derive(Clone, Copy, Debug, PartialEq, Eq)]
 pub enum Structure {

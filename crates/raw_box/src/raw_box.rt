@@ -1,4 +1,5 @@
 //! A heap box taken apart into its pointer and its allocator, and put together again.
+
 ghost use Rattle.std.specs.Prelude.{◌≡◌};
 ghost use Rattle.std_alloc.specs.Box.{box_allocator};
 ghost use Rattle.std_alloc.specs.Box.Ownership.{box_owns};

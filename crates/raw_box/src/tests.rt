@@ -1,4 +1,5 @@
 //! One test: a boxed value goes out as a pointer, comes back, and is dropped once.
+
 use super::RawBox;
 use std::alloc::Global;
 use std::process::Abort;

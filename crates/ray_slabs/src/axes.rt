@@ -1,4 +1,5 @@
 //! The slab test of a line and a box, by pairs of axes.
+
 ghost use Rattle.std.specs.Prelude.{◌≡◌, pos, ◌^◌, ◌≤ℤ◌};
 ghost use Rattle.ray_slabs.specs.Mirrored.{all_overlap, meet_ahead, meet_on_way, latest_by};
 

@@ -1,4 +1,5 @@
 //! A slab and a line, mirrored so that the line rises, compared by cross products of 128 bits.
+
 ghost use Rattle.std.specs.Prelude.{◌≡◌, pos, ◌^◌, ◌≤ℤ◌, ◌-ℤ◌, ◌*ℤ◌, IsTrue};
 ghost use Rattle.ray_slabs.specs.Mirrored.{mirrored, is_ahead, is_on_way, enters_by, overlap};
 ghost use Rattle.ray_slabs.specs.Range.{IsInRange};

@@ -1,4 +1,5 @@
 //! A ray against a box: whether it meets it and where it enters, with the laws and worked examples of both.
+
 ghost use Rattle.std.specs.Prelude.{◌≡◌, ◌↔◌, pos, ◌^◌, ◌≤ℤ◌, IsTrue, true, false, SomeIff};
 ghost use Rattle.std.specs.declared.cmp.Ordering.TheVariants.{Less, Equal};
 ghost use Rattle.std.specs.List.{Contains};

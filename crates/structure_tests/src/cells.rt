@@ -1,4 +1,5 @@
 //! Tests of the table of cells: slots come, go and are found in order.
+
 ghost use Rattle.std.specs.Prelude.{◌<◌};
 
 use cell_table::{CellKey, CellTable, LEVELS};

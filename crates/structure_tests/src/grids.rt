@@ -1,4 +1,5 @@
 //! Tests of the grid with ample memory: pairs, queries, numbers and shared buckets.
+
 ghost use Rattle.std.specs.Prelude.{◌<◌};
 
 use broad_index::{BroadPhase, NoGate, Pair, Query, Seeker, seek_many};

@@ -1,4 +1,5 @@
 //! Tests of the tree of nodes: shapes, rotations, rebuilds and what is shown.
+
 ghost use Rattle.std.specs.Prelude.{◌≡◌, ◌+◌, ◌<◌, ℕ, IsSome};
 ghost use Rattle.fixed_box.specs.Bounds.{Bounds};
 ghost use Rattle.structure_tests.specs.Filled.{IsFilled};

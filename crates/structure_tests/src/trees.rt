@@ -1,4 +1,5 @@
 //! Tests of the broad phase over a tree with ample memory: touched slots, kept pairs and queries.
+
 ghost use Rattle.std.specs.Prelude.{◌<◌};
 
 mod threads;

@@ -1,4 +1,5 @@
 //! A gate that counts entries by piece.
+
 use std::sync::atomic::{AtomicU32, Ordering};
 use work_pieces::Gate;
 

@@ -1,4 +1,5 @@
 //! A gate that shows whether two pieces of a search run at the same time.
+
 use std::sync::atomic::{AtomicBool, AtomicU32, Ordering};
 use work_pieces::Gate;
 

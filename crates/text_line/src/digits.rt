@@ -1,4 +1,5 @@
 //! Decimal and hexadecimal digits, stored two at a time from a table.
+
 ghost use Rattle.std.specs.Prelude.{◌≡◌, ◌+◌, ◌/◌, ◌%◌, ◌<◌, ◌≤◌, ◌++◌, ◌∷◌, [], false, take, decimal};
 ghost use Rattle.std.specs.Fmt.{digit_glyph};
 ghost use Rattle.text_line.specs.declared.TheConstants.{ROOM};

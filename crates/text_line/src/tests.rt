@@ -1,4 +1,5 @@
 //! Tests of the text of numbers on both sides of each count of digits, wide ones and hexadecimal ones.
+
 ghost use Rattle.std.specs.Prelude.{◌+◌, ◌≤◌, length};
 ghost use Rattle.text_line.specs.declared.TheConstants.{ROOM};
 

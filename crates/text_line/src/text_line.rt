@@ -1,4 +1,5 @@
 //! The line as a buffer of fixed size, to which text and numbers are appended.
+
 ghost use Rattle.std.specs.Prelude.{◌≡◌, ◌+◌, ◌<◌, ◌≤◌, ◌++◌, false, [], length, decimal};
 ghost use Rattle.std.specs.Fmt.{digits};
 ghost use Rattle.text_line.specs.declared.TheConstants.{ROOM};

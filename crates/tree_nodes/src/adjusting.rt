@@ -1,4 +1,5 @@
 //! The way up after a change: each hull is refitted, and a node whose children differ by two in height is rotated.
+
 ghost use Rattle.std.specs.Prelude.{◌≡◌, ◌≢◌, ℕ};
 ghost use Rattle.slab.specs.Slab.{get};
 ghost use Rattle.tree_nodes.specs.Parts.{SameLeaves};

@@ -1,4 +1,5 @@
 //! Insertion of a leaf: down to the nearer child, and up again with rotations.
+
 ghost use Rattle.std.specs.Prelude.{◌≡◌, ◌≢◌, ℕ, ◌+◌, ◌<◌, ◌≤◌, false, length, ◌∷◌, All};
 ghost use Rattle.slab.specs.Slab.{get};
 ghost use Rattle.std.specs.List.Sorted.{IsPermutation};

@@ -1,4 +1,5 @@
 //! The parent and the sibling of a node, kept for the way up.
+
 // The parent and the sibling of a node, as they were noted last. Whoever follows them checks them as it goes, and searches
 // afresh where they lead elsewhere, so no promise rests on them.
 #[derive(Clone, Copy)]

@@ -1,4 +1,5 @@
 //! Laws of balanced trees with nothing to run: hulls enclose leaves, and heights stay low.
+
 ghost use Rattle.std.specs.Prelude.{◌≡◌, ℕ, ◌≤◌, length, false, IsTrue};
 ghost use Rattle.std.specs.List.{All, Contains};
 ghost use Rattle.fixed_box.specs.Bounds.{Bounds, encloses, meets};

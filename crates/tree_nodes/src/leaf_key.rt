@@ -1,4 +1,5 @@
 //! What a rebuild orders leaves by: about the centre of a box, read along one axis.
+
 use fixed_box::{FBox, Point};
 
 /// A leaf as a rebuild orders it: about the centre of its box, and its number.

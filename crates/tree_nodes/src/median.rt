@@ -1,4 +1,5 @@
 //! A split of leaves at the median along the axis on which their centres spread most.
+
 ghost use Rattle.std.specs.Prelude.{◌≤◌, length};
 ghost use Rattle.std.specs.List.Sorted.{IsPermutation};
 

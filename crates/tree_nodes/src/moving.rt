@@ -1,4 +1,5 @@
 //! A leaf whose box changes in its place, and the hulls above it: by the kept parents, or else from the root down.
+
 ghost use Rattle.std.specs.Prelude.{◌≡◌, ℕ, false, option_map};
 ghost use Rattle.slab.specs.Slab.{get};
 ghost use Rattle.tree_nodes.specs.Moved.{with_fat};

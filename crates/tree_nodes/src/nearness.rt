@@ -1,4 +1,5 @@
 //! Which of two children a box is nearer to, by the Manhattan distance of centres.
+
 ghost use Rattle.std.specs.Prelude.{◌≡◌, ◌<◌, ◌^◌, ◌⊎◌};
 ghost use Rattle.tree_nodes.specs.Stored.{StandsAt};
 ghost use Rattle.tree_nodes.specs.Tree.{Tree};

@@ -1,4 +1,5 @@
 //! A node as it is stored in 32 bytes: its box or hull, and its slot or children.
+
 ghost use Rattle.std.specs.Prelude.{◌≡◌};
 ghost use Rattle.tree_nodes.specs.Shown.{shown};
 

@@ -1,4 +1,5 @@
 //! The slab of nodes under numbers that stay, with room for all that there may be.
+
 ghost use Rattle.std.specs.Prelude.{◌≡◌, ◌≢◌, ℕ, ◌+◌, ◌≤◌, [], Some, None, IfOk, option_map};
 ghost use Rattle.fixed_box.specs.Bounds.{Bounds};
 ghost use Rattle.slab.specs.Slab.{get, slab_len, ContainsKey, HasRoomFor, Updates};

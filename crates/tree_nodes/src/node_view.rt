@@ -1,4 +1,5 @@
 //! A node as a search sees it: a leaf with its slot, or an inner node with its children and height.
+
 use fixed_box::FBox;
 
 /// One node of a tree of boxes, as a search reads it.

@@ -1,4 +1,5 @@
 //! The tree itself: leaves added, moved, dropped and rebuilt, and what each node shows.
+
 ghost use Rattle.std.specs.Prelude.{◌≡◌, ◌≢◌, ◌↔◌, ℕ, ◌<◌, ◌≤◌, ◌^◌, IfOk, IfSome, IsSome, option_map, map, length, [], ◌∷◌};
 ghost use Rattle.std.specs.List.{All};
 ghost use Rattle.std.specs.List.Sorted.{IsPermutation};

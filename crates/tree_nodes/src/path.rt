@@ -1,4 +1,5 @@
 //! The path from the root to a node, by the parents that are kept or else by a search.
+
 ghost use Rattle.std.specs.Prelude.{true, ◌≡◌, ℕ, []};
 ghost use Rattle.tree_nodes.specs.Path.{Leads, ToSearch, PathFound};
 ghost use Rattle.tree_nodes.specs.Tree.{Tree, view_at};

@@ -1,4 +1,5 @@
 //! A rebuild from the top down: all leaves gathered, and split at medians into a balanced tree.
+
 ghost use Rattle.std.specs.Prelude.{◌≡◌, ◌≢◌, ℕ, ◌+◌, ◌^◌, ◌≤◌, ◌++◌, map, length, vec_capacity};
 ghost use Rattle.std.specs.List.Sorted.{IsPermutation};
 ghost use Rattle.fixed_box.specs.declared.TheConstants.{SLOTS};

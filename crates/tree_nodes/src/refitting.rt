@@ -1,4 +1,5 @@
 //! One node refitted to its children: its hull, its height and their kin.
+
 ghost use Rattle.std.specs.Prelude.{◌≡◌, ◌≢◌, ℕ};
 ghost use Rattle.slab.specs.Slab.{get};
 ghost use Rattle.tree_nodes.specs.Moved.{refitted};

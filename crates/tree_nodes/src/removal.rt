@@ -1,4 +1,5 @@
 //! Removal of a leaf: its sibling takes the parent's place, and the way up is rebalanced.
+
 ghost use Rattle.std.specs.Prelude.{◌≡◌, ℕ, ◌⊎◌, ◌∷◌};
 ghost use Rattle.std.specs.List.Sorted.{IsPermutation};
 ghost use Rattle.tree_nodes.specs.Path.{ToRemove, Removed, Leads};

@@ -1,4 +1,5 @@
 //! A leaf whose box grows or shrinks in its place: hulls are refitted up to the first that stays.
+
 ghost use Rattle.std.specs.Prelude.{◌≡◌, ◌⊎◌, ℕ, ◌≤◌, true, false};
 ghost use Rattle.fixed_box.specs.Bounds.{Bounds};
 ghost use Rattle.tree_nodes.specs.Resized.{resized, Raises};

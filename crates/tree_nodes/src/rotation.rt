@@ -1,4 +1,5 @@
 //! A rotation: the higher child comes up, and the lower of its children goes down.
+
 ghost use Rattle.std.specs.Prelude.{◌≡◌, ◌≢◌, ℕ, ◌≤◌};
 ghost use Rattle.slab.specs.Slab.{get};
 ghost use Rattle.tree_nodes.specs.Rotation.{Children, RotationParts, rotated, lower, higher, rotated_up};

@@ -1,4 +1,5 @@
 //! A search for the pairs of many boxes, eight at a time against the nodes in preorder.
+
 ghost use Rattle.std.specs.Prelude.{◌≡◌, ◌||◌, ◌++◌, ◌==◌, ℕ, true, false, map, filter, not, OnOk, IfOk, slice_index_or};
 ghost use Rattle.broad_index.specs.declared.query.Query.TheVariants.{Region};
 ghost use Rattle.broad_index.specs.Found.{found_of};

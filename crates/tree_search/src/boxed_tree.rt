@@ -1,4 +1,5 @@
 //! A tree of fat boxes together with the exact boxes of its slots, as a search reads both.
+
 ghost use Rattle.std.specs.Prelude.{◌≡◌, option_map};
 ghost use Rattle.slot_lists.specs.SlotMap.{map_of};
 ghost use Rattle.broad_index.specs.Held.{Holds};

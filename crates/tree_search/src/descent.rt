@@ -1,4 +1,5 @@
 //! A descent from the root with a stack: only below hulls that are met, down to the leaves.
+
 ghost use Rattle.std.specs.Prelude.{◌≡◌, ◌<◌, ◌++◌, Some, OnOk, IfOk, IsSome, length};
 ghost use Rattle.tree_nodes.specs.Tree.{Tree, IsTree, top, view_in, visits_in};
 ghost use Rattle.broad_index.specs.declared.query.Query.{Query};

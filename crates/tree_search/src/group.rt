@@ -1,4 +1,5 @@
 //! Eight boxes searched for at once: a node is skipped with all below it if none of them meets its hull.
+
 ghost use Rattle.std.specs.Prelude.{◌≡◌, ◌==◌, ◌+◌, ◌≤◌, ◌++◌, List, Option, [], ◌∷◌, drop, not, map, filter, length, OnOk, IfOk};
 ghost use Rattle.fixed_box.specs.Bounds.{Bounds};
 ghost use Rattle.broad_index.specs.Touched.{ordered_pairs};

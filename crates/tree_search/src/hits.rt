@@ -1,4 +1,5 @@
 //! A query of each kind asked of a tree: as a box, or as a prepared line.
+
 ghost use Rattle.std.specs.Prelude.{◌≡◌, ◌++◌, OnOk};
 ghost use Rattle.fixed_box.specs.Bounds.{Bounds, holds, meets};
 ghost use Rattle.broad_index.specs.Found.{found_of};

@@ -1,4 +1,5 @@
 //! The law that a preorder list has the leaves of its tree, with nothing to run.
+
 ghost use Rattle.std.specs.Prelude.{◌≡◌, List, Option};
 ghost use Rattle.fixed_box.specs.Bounds.{Bounds};
 ghost use Rattle.tree_nodes.specs.Tree.{Tree};

@@ -1,4 +1,5 @@
 //! The nodes of a tree in preorder with skip counts, for searches that read onwards.
+
 ghost use Rattle.std.specs.Prelude.{◌≡◌, ◌+◌, ◌*◌, ◌<◌, ◌^◌, ◌++◌, None, OnOk, length, slice_index_or};
 ghost use Rattle.tree_nodes.specs.Tree.{Tree, leaves};
 ghost use Rattle.tree_search.specs.declared.preorder.NodeKind.TheVariants.{Inner as InnerKind};

@@ -1,4 +1,5 @@
 //! Buffers that a search of many boxes keeps from call to call.
+
 ghost use Rattle.std.specs.Prelude.{◌≡◌, [], IfOk};
 ghost use Rattle.tree_search.specs.Looked.{unmarked};
 

@@ -1,4 +1,5 @@
 //! One mark for each slot, as touched slots and finished searches are noted.
+
 ghost use Rattle.std.specs.Prelude.{◌≡◌, true, false, IfOk, length, slice_index_or, slice_set};
 ghost use Rattle.fixed_box.specs.declared.TheConstants.{SLOTS};
 ghost use Rattle.tree_search.specs.Looked.{unmarked};

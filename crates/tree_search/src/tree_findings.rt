@@ -1,4 +1,5 @@
 //! The pairs that searches of a tree found, with a buffer for one search.
+
 ghost use Rattle.std.specs.Prelude.{◌≡◌, []};
 
 use broad_index::Pair;

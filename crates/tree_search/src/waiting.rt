@@ -1,4 +1,5 @@
 //! The stack of a descent, of fixed size and on the frame.
+
 ghost use Rattle.std.specs.Prelude.{◌≡◌, ◌<◌, ◌++◌, [], ◌∷◌, None, length, option_map, option_to_list, if◌then◌else◌};
 ghost use Rattle.tree_nodes.specs.Shown.{shown};
 ghost use Rattle.tree_search.specs.declared.waiting.TheConstants.{MOST_WAITING};

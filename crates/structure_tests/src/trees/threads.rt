@@ -1,4 +1,5 @@
 //! Tests of the tree's searches on two threads.
+
 use super::{cube, edit, put, same_number, same_pairs, same_slots, two_here};
 use box_tree::BoxTree;
 use broad_index::{BroadPhase, NoGate, Pair, seek_many};
