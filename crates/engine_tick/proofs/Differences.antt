@@ -1,37 +1,20 @@
 -- The pairs of one rising list that another hasn't, one step of a pass over both at a time.
-use Rattle.std.proofs.Common.{◌≡◌, ◌<◌, ◌≤◌, ◌-◌, true, false, cond, not, ◌||◌, List, [], ◌∷◌, ◌++◌, append_assoc, length}
-use Rattle.std.proofs.Common.{take, drop, get_or, refl, sym, ap, ◌∙◌, arith, subst}
+use Rattle.std.proofs.Common.{◌≡◌, ◌<◌, ◌≤◌, true, false, cond, not, ◌||◌, List, [], ◌∷◌, ◌++◌, append_assoc, length}
+use Rattle.std.proofs.Common.{get_or, refl, sym, ap, ◌∙◌, arith, subst}
 use Rattle.std.specs.List.{list_all}
-use Rattle.std.specs.Cmp.{ranked, first_so, second_so}
+use Rattle.std.specs.Cmp.{first_so, second_so}
 use Rattle.std.specs.Cmp.Derive.{both_true}
-use Rattle.std.specs.Ordering.{nat_cmp, ordering_then}
-use Rattle.std.specs.declared.cmp.Ordering.TheVariants.{Less, Equal, Greater}
-use Rattle.std.proofs.Math.Seq.{take-length}
 use Rattle.std.proofs.lemmas.Bool.Decides.{nat_tests}
+use Rattle.slot_lists.specs.Patterns.{rest_of, rest_is}
 use Rattle.slot_lists.specs.RisingLaws.{all_weaker}
 use Rattle.broad_index.specs.declared.pair.Pair.{Pair}
 use Rattle.broad_index.specs.Members.{has_pair, same_pair}
 use Rattle.broad_index.specs.Near.{precedes, rises}
-use Rattle.broad_index.specs.PairOrder.{pair_cmp}
 use Rattle.engine_tick.specs.Colliding.{without}
-use Rattle.broad_index.proofs.Merging.{head, rest_of, rest_is}
-use Rattle.broad_index.proofs.Settled.{less_precedes, greater_precedes}
 
-by_first : (p q : Pair) → p.a < q.a → precedes p q ≡ true
-by_first p q h = grind (arith, nat_tests)
-
-by_second : (p q : Pair) → p.a ≡ q.a → p.b < q.b → precedes p q ≡ true
-by_second p q e h = grind (arith, nat_tests)
-
-by_both : (p q : Pair) → p.a ≡ q.a → p.b ≡ q.b → same_pair p q ≡ true
-by_both p q e f = grind (arith, nat_tests)
-
-pub equal : (p q : Pair) → Equal ≡ pair_cmp p q → same_pair p q ≡ true
-equal p q h = elim (nat_cmp p.a q.a) as (λ r. r ≡ nat_cmp p.a q.a → Equal ≡ ordering_then r (nat_cmp p.b q.b) → same_pair p q ≡ true) [
-  | Less ↦ λ _ g. cc
-  | Equal ↦ λ e g. by_both p q (ranked p.a q.a Equal e) (ranked p.b q.b Equal g)
-  | Greater ↦ λ _ g. cc
-] refl h
+-- a list's first pair, where it has one
+abbrev pub head : List Pair → Pair
+head ps = get_or ps 0 (record { a = 0; b = 0 })
 
 through : (p q r : Pair) → precedes p q ≡ true → precedes q r ≡ true → precedes p r ≡ true
 through p q r h g = grind (arith, nat_tests)

@@ -1,9 +1,11 @@
+//! The pairs of bodies that collide, and what a frame changes of them: which begin and which are over.
+
 ghost use Rattle.std.specs.Prelude.{◌≡◌, ◌++◌, [], true, filter, OnOk, OnErr};
 ghost use Rattle.broad_index.specs.Near.{rises};
 ghost use Rattle.engine_tick.specs.Colliding.{is_let, without};
 
 use crate::Kind;
-use broad_index::Pair;
+use broad_index::{Pair, order_laws};
 use fixed_box::NoMemory;
 use std::alloc::Global;
 use std::cmp::Ordering;
@@ -110,6 +112,7 @@ fn push_without(others: &[Pair], pairs: &[Pair], out: &mut Vec<Pair>) -> Result<
     requires pairs { rises pairs.now ≡ true }
     ensures { OnOk result (out.new.items ≡ out.old.items ++ without others.now pairs.now) }
 {
+    order_laws();
     let mut left = pairs;
     let mut right = others;
     'left: while let [pair, more_left @ ..] = left {

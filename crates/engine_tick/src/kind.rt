@@ -1,3 +1,5 @@
+//! A body's owner and groups, and which bodies they let collide.
+
 ghost use Rattle.std.specs.Prelude.{◌≡◌};
 ghost use Rattle.engine_tick.specs.Colliding.{may_collide};
 

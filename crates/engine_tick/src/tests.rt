@@ -1,3 +1,5 @@
+//! A few frames and ticks of bodies, over the plain list and over the tree.
+
 ghost use Rattle.std.specs.Prelude.{◌≡◌, ◌<◌, false, OnOk};
 
 use super::*;

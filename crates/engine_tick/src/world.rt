@@ -1,3 +1,5 @@
+//! Bodies under slots, over any broad phase: they come, move and go, and a tick tells which touch.
+
 ghost use Rattle.std.specs.Prelude.{◌≡◌, ◌++◌, ◌<◌, [], true, false, OnOk, OnErr};
 ghost use Rattle.std.specs.FinMap as map;
 ghost use Rattle.std.specs.List.{All};
@@ -9,7 +11,7 @@ ghost use Rattle.engine_tick.specs.Moves.{moved_all};
 ghost use Rattle.engine_tick.specs.Touching.{AreTouching};
 
 use crate::{Contacts, Kind};
-use broad_index::{BroadPhase, Pair, Query, member_laws};
+use broad_index::{BroadPhase, Pair, Query, member_laws, order_laws};
 use fixed_box::{FBox, NoMemory, SLOTS};
 
 /// Where an engine's bodies are: a box for each of them, under a slot that the engine has chosen.
@@ -77,6 +79,7 @@ impl<B: BroadPhase + Drop> World<B> {
         // Where a move ran out of memory the index is spent, and where the search did all moves are made.
         ensures left { OnErr result (B.spent self.new.index ≡ false → B.bodies self.new.index ≡ moved_all (B.bodies self.old.index) moved.now) }
     {
+        order_laws();
         member_laws();
         touching.clear();
         self.move_all(moved)?;

@@ -1,8 +1,7 @@
 -- the lesser of two first pairs is passed: of the one list it is told, and of the other it is not sought any more
-use Rattle.std.proofs.Common.{sym, ◌∙◌, arith}
-use Rattle.broad_index.proofs.Merging.{head}
-use Rattle.engine_tick.proofs.Differences.{equal, step_less, step_greater, step_equal, left_ended, right_ended}
-use Rattle.broad_index.proofs.Settled.{less_precedes, greater_precedes}
+use Rattle.std.proofs.Common.{sym, ap, ◌∙◌, arith}
+use Rattle.broad_index.specs.Members.{same_pair}
+use Rattle.engine_tick.proofs.Differences.{head, step_less, step_greater, step_equal, left_ended, right_ended}
 use Rattle.engine_tick.proofs.contacts.push_without.Goals as goal
 use Rattle.engine_tick.proofs.contacts.push_without.Goals.{in_default, in-len1-up+in_default-right}
 
@@ -10,17 +9,18 @@ pub left-preserved-in-Less : goal.left-preserved-in-Less
 left-preserved-in-Less c =
     rw c.in_ok-push-in-Less.ensures.items
     (step_less c.left.out.items c.left.left.now c.left.right.now _ c.in-len1-up.len_at_least c.in-len1-up-right.len_at_least
-    (less_precedes (head c.left.left.now) (head c.left.right.now) (sym c.in-Less.is ∙ c.cmp.ensures)) c.left.invariant)
+    (c.order_laws.ensures.less (head c.left.left.now) (head c.left.right.now) (sym c.cmp.ensures ∙ c.in-Less.is)) c.left.invariant)
 
 pub left-preserved-in-Greater : goal.left-preserved-in-Greater
 left-preserved-in-Greater c =
     step_greater c.left.out.items c.left.left.now c.left.right.now _ c.in-len1-up.len_at_least c.in-len1-up-right.len_at_least
-    (greater_precedes (head c.left.left.now) (head c.left.right.now) (sym c.in-Greater.is ∙ c.cmp.ensures)) c.left.invariant
+    (c.order_laws.ensures.greater (head c.left.left.now) (head c.left.right.now) (sym c.cmp.ensures ∙ c.in-Greater.is)) c.left.invariant
 
 pub left-preserved : goal.left-preserved
 left-preserved c =
     step_equal c.left.out.items c.left.left.now c.left.right.now _ c.in-len1-up.len_at_least c.in-len1-up-right.len_at_least
-    (equal (head c.left.left.now) (head c.left.right.now) (sym c.in-Equal.is ∙ c.cmp.ensures)) c.left.invariant
+    (ap (same_pair (head c.left.left.now)) (sym (c.order_laws.ensures.equal (head c.left.left.now) (head c.left.right.now) (sym c.cmp.ensures ∙ c.in-Equal.is)))
+    ∙ c.order_laws.ensures.itself (head c.left.left.now)) c.left.invariant
 
 pub returns : goal.returns
 returns c =
