@@ -1,3 +1,5 @@
+//! Counts of overlaps rise, fall and are forgotten.
+
 ghost use Rattle.std.specs.Prelude.{◌<◌};
 
 use broad_index::Pair;

@@ -1,3 +1,5 @@
+//! Each structure takes, moves, finds and drops boxes, by one thread and by two.
+
 ghost use Rattle.std.specs.Prelude.{◌<◌};
 
 use box_tree::BoxTree;

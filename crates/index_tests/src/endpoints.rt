@@ -1,3 +1,5 @@
+//! Nodes of a list change places, come and go.
+
 use endpoint_list::{EndList, NODES, list_laws};
 use std::test::Fail;
 

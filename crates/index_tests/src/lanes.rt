@@ -1,3 +1,5 @@
+//! Boxes in columns are scanned eight at a time, whatever their number.
+
 use fixed_box::{FBox, NoMemory, Point};
 use lane_boxes::{BoxPacket, Columns};
 use std::process::Abort;

@@ -1,3 +1,5 @@
+//! Pieces of a list are entered once each, and answered in order.
+
 ghost use Rattle.std.specs.Prelude.{◌≡◌, Ok};
 
 use fixed_box::NoMemory;

@@ -1,3 +1,5 @@
+//! Queries are answered in pieces, two of them at once.
+
 use broad_index::{BroadPhase, PlainIndex, Query};
 use fixed_box::{FBox, NoMemory, Point};
 use par_phase::hits_many;

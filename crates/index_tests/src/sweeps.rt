@@ -1,3 +1,5 @@
+//! A sweep keeps its endpoints in order, counts overlaps, and counts exchanges.
+
 ghost use Rattle.std.specs.Prelude.{◌≡◌, ◌<◌, false, OnOk};
 
 mod by_hand;

@@ -1,3 +1,5 @@
+//! What an owner tells of its boxes: which are asked for, and where each is.
+
 ghost use Rattle.std.specs.Prelude.{◌≡◌};
 ghost use Rattle.std.specs.Ordering.{nat_cmp};
 ghost use Rattle.std.specs.FinMap as map;

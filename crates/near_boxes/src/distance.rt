@@ -1,3 +1,5 @@
+//! The square of the distance from a point to a box.
+
 ghost use Rattle.std.specs.Prelude.{◌≡◌, ◌^◌, ◌<◌};
 ghost use Rattle.near_boxes.specs.Nearest.{above, gap, squared, square};
 

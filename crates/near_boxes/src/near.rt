@@ -1,3 +1,5 @@
+//! A slot with its square of the distance, and which of two such comes first.
+
 ghost use Rattle.std.specs.Cmp.{partial_order_from_own_ties};
 ghost use Rattle.std.specs.Cmp.Rules.{comparing};
 ghost use Rattle.std.specs.Ordering.{as_partial_cmp};

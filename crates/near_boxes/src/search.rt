@@ -1,3 +1,5 @@
+//! The nearest boxes, by cubes around the point that widen until they hold enough of them.
+
 ghost use Rattle.std.specs.Prelude.{◌≡◌, ◌<◌, ◌≤◌, ◌++◌, false, IsTrue, take, IfOk, OnOk, OnErr};
 ghost use Rattle.std.specs.List.{filter_map};
 ghost use Rattle.fixed_box.specs.declared.TheConstants.{SLOTS};

@@ -1,3 +1,5 @@
+//! Many queries at once, cut into pieces that several threads answer.
+
 ghost use Rattle.std.specs.Prelude.{◌≡◌, ◌^◌, ◌<◌, ◌≤◌, length, map, IfOk};
 ghost use Rattle.broad_index.specs.Found.{found};
 ghost use Rattle.work_pieces.specs.declared.TheConstants.{MOST_WORKERS};

@@ -1,3 +1,5 @@
+//! Changes of a core by hand, each where the core allows it.
+
 use endpoint_list::list_laws;
 use fixed_box::{NoMemory, SLOTS};
 use sweep_prune::Axis;
