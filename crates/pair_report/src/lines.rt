@@ -36,13 +36,13 @@ pub fn put_stale(handle: Handle, out: &mut Vec<u8>) -> Result<(), NoMemory>
 }
 
 /// A frame ended: `frame F P`, its number and the number of pairs.
-pub fn put_frame(number: u32, pairs: u32, out: &mut Vec<u8>) -> Result<(), NoMemory>
+pub fn put_frame(number: u64, pairs: u32, out: &mut Vec<u8>) -> Result<(), NoMemory>
     ensures ok { OnOk result (out.new.items ≡ out.old.items ++ frame_line number pairs) }
     ensures err { OnErr result (out.new.items ≡ out.old.items) }
 {
     let mut line = TextLine::new();
     line.text(b"frame ");
-    line.number(number);
+    line.wide_number(number);
     line.text(b" ");
     line.number(pairs);
     line.text(b"\n");
@@ -113,7 +113,7 @@ fn put_number(word: &[u8], number: u32, out: &mut Vec<u8>) -> Result<(), NoMemor
 }
 
 /// The input ended: `end LINES FRAMES LIVE`.
-pub fn put_end(lines: u32, frames: u32, live: u32, out: &mut Vec<u8>) -> Result<(), NoMemory>
+pub fn put_end(lines: u32, frames: u64, live: u32, out: &mut Vec<u8>) -> Result<(), NoMemory>
     ensures ok { OnOk result (out.new.items ≡ out.old.items ++ end_line lines frames live) }
     ensures err { OnErr result (out.new.items ≡ out.old.items) }
 {
@@ -121,7 +121,7 @@ pub fn put_end(lines: u32, frames: u32, live: u32, out: &mut Vec<u8>) -> Result<
     line.text(b"end ");
     line.number(lines);
     line.text(b" ");
-    line.number(frames);
+    line.wide_number(frames);
     line.text(b" ");
     line.number(live);
     line.text(b"\n");

@@ -1,26 +1,55 @@
 -- One line raises each number of a world by at most so much, and those of its marks not at all.
-use Rattle.std.proofs.Common.{◌≡◌, ◌⊎◌, inl, inr, ℕ, ◌+◌, ◌<◌, ◌≤◌, Bool, true, false, cond, nat_lt, List, [], ◌∷◌}
+use Rattle.std.proofs.Common.{◌≡◌, ◌≢◌, ◌⊎◌, inl, inr, ℕ, ◌+◌, ◌*◌, ◌^◌, ◌<◌, ◌≤◌, ◌||◌, Bool, true, false, cond, nat_lt, List, [], ◌∷◌, Some, None}
+use Rattle.std.proofs.Common.{eqb, eq-eqb, ne_eqb, true≢false, refl, sym, ◌∙◌}
 use Rattle.std.proofs.Common.{length, get_or, sum, ap, arith}
 use Rattle.std.specs.List.{All}
-use Rattle.std.proofs.lemmas.Bool.{cases_lt}
+use Rattle.std.proofs.lemmas.Bool.{cases_lt, le-ltb}
 use Rattle.std.proofs.lemmas.List.{set_past}
 use Rattle.std.proofs.lemmas.List.Sums.{sum_by-set}
 use Rattle.std.proofs.lemmas.List.Elements.{All-cons, All-head, All-tail, All-weaker}
 use Rattle.fixed_box.specs.Bounds.{Bounds}
+use Rattle.fixed_box.specs.declared.TheConstants.{SLOTS}
+use Rattle.live_table.specs.declared.TheConstants.{MOST_GIVES}
 use Rattle.live_table.specs.declared.group.Group.{Group}
 use Rattle.live_table.specs.declared.handle.Handle.{Handle}
 use Rattle.live_table.specs.declared.masks.Masks.{Masks}
-use Rattle.live_table.specs.Entries.{least_free}
-use Rattle.live_table.specs.Table.{IsTable, raised}
+use Rattle.live_table.specs.Table.{Table, IsTable, least_free, raised}
 use Rattle.world_marks.specs.declared.TheConstants.{MOST_MARKS}
-use Rattle.box_world.specs.World.{World as Boxes, Timeline, exchanges_of_add, exchanges_of_move, added, moved, marked, back_to}
+use Rattle.box_world.specs.declared.TheConstants.{MOST_EXCHANGES}
+use Rattle.box_world.specs.declared.refusal.Refusal.TheVariants.{Full, Exhausted}
+use Rattle.box_world.specs.Answers.{add_refusal, is_counted_out}
+use Rattle.box_world.specs.World.{World as Boxes, Timeline, counted, exchanges_of_add, exchanges_of_move, added, moved, marked, back_to}
 use Rattle.scene_words.specs.declared.command.Command.{Command}
 use Rattle.scene_words.specs.declared.command.Command.TheVariants.{Blank, Header, Add, Move, Mask, Remove, Frame, BoxQ, PointQ, RayQ, SegQ, Cast, Near, Mark}
 use Rattle.scene_words.specs.declared.command.Command.TheVariants.{Back}
 use Rattle.play_rules.specs.Counted.{IsSmall, IsCounted}
 use Rattle.play_rules.specs.World.{World, after}
-use Rattle.play_rules.proofs.FoundBodies.{FewAdded, FewShifted, add_passes_few, move_passes_few}
-use Rattle.box_world.proofs.Counted.{counted_few}
+
+-- what is known of the exchanges of one change
+abbrev pub FewAdded : Type 0
+FewAdded = (counts : Bool) (w : Boxes) (body : Bounds) → IsTable w.table → counted counts (exchanges_of_add w body) ≤ 12 * SLOTS
+
+abbrev pub FewMoved : Type 0
+FewMoved = (counts : Bool) (w : Boxes) (handle : Handle) (body : Bounds) → IsTable w.table → counted counts (exchanges_of_move w handle body) ≤ 12 * SLOTS
+
+-- what is known of a table without a free slot
+abbrev pub IsOpen : Type 0
+IsOpen = (t : Table) → IsTable t → sum t.gives < MOST_GIVES → least_free t ≡ SLOTS → length t.entries ≡ SLOTS
+
+-- no number that an add needs is at its end
+pub may_add : IsOpen → (n : ℕ) (w : Boxes) → IsTable w.table → n < 2 ^ 28 → IsSmall n w
+    → add_refusal w ≢ Some Exhausted
+may_add known n w is few small =
+    let gives = small.gives in let exchanges = small.exchanges in
+    elim (eqb (length w.table.entries) SLOTS) as (λ b. eqb (length w.table.entries) SLOTS ≡ b
+    → cond b (Some Full) (cond (eqb (least_free w.table) SLOTS || is_counted_out w) (Some Exhausted) None) ≢ Some Exhausted) [
+      | true ↦ λ _ e. cc
+      | false ↦ λ room.
+          let unfull : eqb (least_free w.table) SLOTS ≡ false = ne_eqb (least_free w.table) SLOTS
+          (λ full. absurd (true≢false (sym (eq-eqb (length w.table.entries) SLOTS (known w.table is (omega (arith, gives, few)) full)) ∙ room))) in
+          let within : is_counted_out w ≡ false = le-ltb MOST_EXCHANGES w.exchanges (omega (arith, exchanges, few)) in
+          rw (unfull, within) (λ e. cc)
+    ] refl
 
 -- one more give, or none where there is no such slot
 raised_sum : (gives : List ℕ) (slot : ℕ) → sum (raised gives slot) ≤ sum gives + 1
@@ -33,7 +62,7 @@ raised_sum gives slot = by_place (cases_lt slot (length gives))
         omega (arith, moved)
     by_place (inr past) = let same : sum (raised gives slot) ≡ sum gives = ap sum (set_past gives slot (get_or gives slot 0 + 1) past) in omega (arith, same)
 
-module _ (few_added : FewAdded) (few_shifted : FewShifted) (counts : Bool) (n : ℕ) where
+module _ (few_added : FewAdded) (few_moved : FewMoved) (counts : Bool) (n : ℕ) where
   small_later : (w : Boxes) → IsSmall n w → IsSmall (n + 1) w
   small_later w h =
       let gives = h.gives in let frames = h.frames in let exchanges = h.exchanges in
@@ -49,14 +78,14 @@ module _ (few_added : FewAdded) (few_shifted : FewShifted) (counts : Bool) (n : 
       → IsSmall (n + 1) (added counts w body masks group)
   small_added w body masks group is h =
       let gives = h.gives in let frames = h.frames in let exchanges = h.exchanges in
-      let more = raised_sum w.table.gives (least_free w.table.entries) in
-      let few = counted_few counts (exchanges_of_add w body) (add_passes_few few_added w.table (least_free w.table.entries) body is) in
+      let more = raised_sum w.table.gives (least_free w.table) in
+      let few = few_added counts w body is in
       record { gives = omega (arith, gives, more); frames = omega (arith, frames); exchanges = omega (arith, exchanges, few) }
 
   small_moved : (w : Boxes) (handle : Handle) (body : Bounds) → IsTable w.table → IsSmall n w → IsSmall (n + 1) (moved counts w handle body)
   small_moved w handle body is h =
       let gives = h.gives in let frames = h.frames in let exchanges = h.exchanges in
-      let few = counted_few counts (exchanges_of_move w handle body) (move_passes_few few_shifted w.table handle body is) in
+      let few = few_moved counts w handle body is in
       record { gives = omega (arith, gives); frames = omega (arith, frames); exchanges = omega (arith, exchanges, few) }
 
   counted_marked : (t : Timeline) → IsCounted n t → IsCounted (n + 1) (marked t)

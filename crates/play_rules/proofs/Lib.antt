@@ -1,5 +1,4 @@
 pub mod Counts
-pub mod FoundBodies
 pub mod PrintedLines
 pub mod PrintedPlay
 pub mod Uncounted

@@ -12,7 +12,8 @@ ghost use Rattle.play_rules.specs.Course.{run_from};
 ghost use Rattle.play_rules.specs.Play.{playing, played};
 ghost use Rattle.play_rules.specs.World.{World, opening, after};
 
-use broad_index::exchange_laws;
+use box_world::exchange_law;
+use live_table::give_law;
 
 /// Laws for proofs, with nothing to run: the numbers of a world rise by at most a line's worth with each line, whatever its
 /// marks lead back to. So in a play of fewer than 2^28 lines no call of a world finds a number at its end.
@@ -20,11 +21,12 @@ pub fn count_laws()
     ensures opening { IsCounted 0 beginning }
     ensures after { (counts : Bool) (n : ℕ) (w : World) (c : Command) → IsTable w.time.now.table → IsCounted n w.time
         → IsCounted (n + 1) (after counts w c).time }
-    ensures add { (n : ℕ) (w : Boxes) → n < 2 ^ 28 → IsSmall n w → add_refusal w ≢ Some Exhausted }
+    ensures add { (n : ℕ) (w : Boxes) → IsTable w.table → n < 2 ^ 28 → IsSmall n w → add_refusal w ≢ Some Exhausted }
     ensures shift { (n : ℕ) (w : Boxes) (handle : Handle) → n < 2 ^ 28 → IsSmall n w → shift_refusal w handle ≢ Some Exhausted }
     ensures frame { (n : ℕ) (w : Boxes) → n < 2 ^ 28 → IsSmall n w → frame_refusal w ≢ Some Exhausted }
 {
-    exchange_laws();
+    exchange_law();
+    give_law();
 }
 
 /// A law for proofs, with nothing to run: a play whose exchanges aren't counted has the report of one whose exchanges are, where they
