@@ -1,5 +1,5 @@
 -- What a world is, whatever its structure is.
-use Rattle.std.specs.Prelude.{Bool}
+use Rattle.std.specs.Prelude.{Bool, true, false}
 use Rattle.box_world.specs.Answers.{State}
 use Rattle.named_index.specs.declared.structure.Structure.{Structure}
 use Rattle.named_index.specs.declared.structure.Structure.TheVariants.{Plain as PlainName, Sap as SapName, Tree as TreeName, Grid as GridName}
@@ -20,6 +20,12 @@ structure_of (Plain w) = PlainName
 structure_of (Sap w) = SapName
 structure_of (Tree w) = TreeName
 structure_of (Grid w) = GridName
+
+-- whether a change may run out of memory over a structure: the tree and the grid have all that they need from the outset
+abbrev pub runs_out : Structure → Bool
+runs_out TreeName = false
+runs_out GridName = false
+runs_out other = true
 
 -- whether it counts exchanges: as its structure does
 abbrev pub counts_of : AnyWorld → Bool

@@ -1,10 +1,13 @@
-ghost use Rattle.std.specs.Prelude.{◌≡◌, [], true, false, length, Ok, None, nat_lt, IfOk, OnErr};
+//! A world over one of four structures, and its changes.
+
+ghost use Rattle.std.specs.Prelude.{◌≡◌, ◌≢◌, [], true, false, length, Ok, Err, None, nat_lt, IfOk, OnErr};
 ghost use Rattle.live_table.specs.Table.{next_handle};
 ghost use Rattle.world_marks.specs.declared.TheConstants.{MOST_MARKS};
+ghost use Rattle.box_world.specs.declared.refusal.Refusal.TheVariants.{NoMemory as no_memory};
 ghost use Rattle.box_world.specs.World.{added, moved, masked, removed, marked, gone_back, pairs};
 ghost use Rattle.box_world.specs.Answers.{Answers, opened, with_world, with_time, after_frame};
 ghost use Rattle.box_world.specs.Answers.{add_refusal, shift_refusal, change_refusal, frame_refusal};
-ghost use Rattle.any_world.specs.AnyWorld.{state_of, structure_of, counts_of};
+ghost use Rattle.any_world.specs.AnyWorld.{state_of, structure_of, counts_of, runs_out};
 
 use box_tree::BoxTree;
 use box_world::{BoxWorld, Refusal};
@@ -57,9 +60,11 @@ impl AnyWorld {
         }
     }
 
-    /// Whether memory ran out in a change.
+    /// Whether memory ran out in a change. That change wasn't done, and a spent world has what it had before. Over the tree or the grid
+    /// no world is ever spent.
     pub fn is_spent(&self) -> bool
-        ensures { result ≡ (state_of self.now).spent }
+        ensures spent { result ≡ (state_of self.now).spent }
+        ensures lasting { runs_out (structure_of self.now) ≡ false → result ≡ false }
     {
         match self {
             AnyWorld::Plain(world) => world.is_spent(),
@@ -69,12 +74,13 @@ impl AnyWorld {
         }
     }
 
-    /// A new box under the least free slot. `Full` comes where `SLOTS` boxes are live, and `Exhausted` where `MOST_COUNTED` were
-    /// given or more than `MOST_EXCHANGES` exchanges counted.
+    /// A new box under the least free slot. `Full` comes where `SLOTS` boxes are live, and `Exhausted` where each slot without a box
+    /// was given `MOST_GIVES` times or more than `MOST_EXCHANGES` exchanges were counted.
     pub fn add(&mut self, body: FBox, masks: Masks, group: Group) -> Result<Handle, Refusal>
         ensures answer { let old = state_of self.old in let world = old.time.now in
             Answers (add_refusal world) (with_world old (added (counts_of self.old) world body masks group)) result old (state_of self.new) }
         ensures handle { IfOk result (λ handle. handle ≡ next_handle (state_of self.old).time.now.table) }
+        ensures lasting { runs_out (structure_of self.old) ≡ false → (state_of self.new).spent ≡ false }
         ensures structure { structure_of self.new ≡ structure_of self.old }
     {
         match self {
@@ -90,6 +96,7 @@ impl AnyWorld {
     pub fn shift(&mut self, handle: Handle, body: FBox) -> Result<(), Refusal>
         ensures answer { let old = state_of self.old in let world = old.time.now in
             Answers (shift_refusal world handle) (with_world old (moved (counts_of self.old) world handle body)) result old (state_of self.new) }
+        ensures lasting { runs_out (structure_of self.old) ≡ false → (state_of self.new).spent ≡ false }
         ensures structure { structure_of self.new ≡ structure_of self.old }
     {
         match self {
@@ -105,6 +112,7 @@ impl AnyWorld {
     pub fn mask(&mut self, handle: Handle, masks: Masks) -> Result<(), Refusal>
         ensures answer { let old = state_of self.old in let world = old.time.now in
             Answers (change_refusal world handle) (with_world old (masked world handle masks)) result old (state_of self.new) }
+        ensures unmarked { (state_of self.old).spent ≡ false → (state_of self.old).time.marks ≡ [] → result ≢ Err no_memory }
         ensures same { OnErr result (state_of self.new ≡ state_of self.old) }
         ensures structure { structure_of self.new ≡ structure_of self.old }
     {
@@ -121,6 +129,7 @@ impl AnyWorld {
     pub fn remove(&mut self, handle: Handle) -> Result<(), Refusal>
         ensures answer { let old = state_of self.old in let world = old.time.now in
             Answers (change_refusal world handle) (with_world old (removed world handle)) result old (state_of self.new) }
+        ensures unmarked { (state_of self.old).spent ≡ false → (state_of self.old).time.marks ≡ [] → result ≢ Err no_memory }
         ensures same { OnErr result (state_of self.new ≡ state_of self.old) }
         ensures structure { structure_of self.new ≡ structure_of self.old }
     {
@@ -133,7 +142,7 @@ impl AnyWorld {
     }
 
     /// The frame ends: its pairs are those of the boxes as they stand, and what became of each since the last frame is told. Answers
-    /// how many pairs there are; `pairs` and `events` have them. `Exhausted` comes where `MOST_COUNTED` frames have ended. After
+    /// how many pairs there are; `pairs` and `events` have them. `Exhausted` comes where `MOST_FRAMES_COUNTED` frames have ended. After
     /// any `Err` all is as before. It searches on the caller's thread.
     pub fn update(&mut self) -> Result<u32, Refusal>
         ensures answer { let old = state_of self.old in
@@ -195,6 +204,7 @@ impl AnyWorld {
         ensures answer { let old = state_of self.old in Answers None (with_time old (gone_back old.time)) result old (state_of self.new) }
         ensures held { IfOk result (λ went. went ≡ nat_lt 0 (length (state_of self.old).time.marks)) }
         ensures none { (state_of self.old).spent ≡ false → (state_of self.old).time.marks ≡ [] → result ≡ Ok false }
+        ensures lasting { runs_out (structure_of self.old) ≡ false → (state_of self.new).spent ≡ false }
         ensures structure { structure_of self.new ≡ structure_of self.old }
     {
         match self {

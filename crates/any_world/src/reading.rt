@@ -1,3 +1,5 @@
+//! What such a world tells of itself, and the queries among its live boxes.
+
 ghost use Rattle.std.specs.Prelude.{◌≡◌, ◌++◌, true, false, length, min, OnOk, OnErr};
 ghost use Rattle.fixed_box.specs.declared.TheConstants.{SLOTS};
 ghost use Rattle.live_table.specs.Entries.{entry_at};
@@ -41,7 +43,7 @@ impl AnyWorld {
     }
 
     /// The number of frames that have ended. A way back lowers it to what it was at the mark.
-    pub fn frames(&self) -> u32
+    pub fn frames(&self) -> u64
         ensures { result ≡ (state_of self.now).time.now.frames }
     {
         match self {

@@ -27,12 +27,6 @@ one_more_owed entries text run longer asked is =
 pub none_owed : (entries : List Live) (text : List ℕ) (run : List Asked) → run ≡ [] → text ≡ text ++ answers entries run
 none_owed entries text run none = sym (append-nil text) ∙ ap (λ r. text ++ answers entries r) (sym none)
 
--- each has its query still
-pub same_pushed : (run longer : List Asked) (queries more : List Query) (asked : Asked) → queries ≡ map query_for run → longer ≡ run ++ asked ∷ []
-    → more ≡ queries ++ query_for asked ∷ [] → more ≡ map query_for longer
-same_pushed run longer queries more asked same is grown =
-    grown ∙ ap (λ qs. qs ++ query_for asked ∷ []) same ∙ sym (map-append query_for run (asked ∷ [])) ∙ ap (map query_for) (sym is)
-
 abbrev line_in : World → Option Asked → List ℕ
 line_in w None = []
 line_in w (Some asked) = answer_line (live_in w) asked

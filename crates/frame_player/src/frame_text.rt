@@ -14,7 +14,7 @@ use play_io::{Sink, SinkFault};
 // written a part at a time.
 #[tactic(auto, using(crate::proofs::Sending::report_out_of_memory))]
 pub(crate) fn send_frame<K: Sink>(
-    number: u32,
+    number: u64,
     pairs: u32,
     events: &[Told],
     exchanges: Option<u64>,

@@ -10,7 +10,7 @@ use play_rules::Status;
 // How the reading of a scene ends. The answers to the last queries are owed still.
 #[derive(Clone, Copy)]
 pub(crate) enum Last {
-    End { lines: u32, frames: u32, live: u32 },
+    End { lines: u32, frames: u64, live: u32 },
     Refused { line: u32, cause: Cause },
     ReadFault,
 }

@@ -3,7 +3,7 @@ use Rattle.std.proofs.Common.{◌≡◌, ◌⊎◌, inl, inr, ℕ, ◌+◌, ◌-
 use Rattle.std.proofs.Common.{refl, sym, ap, ◌∙◌, arith, subst}
 use Rattle.std.proofs.lemmas.List.{length-drop}
 use Rattle.box_world.specs.World.{World}
-use Rattle.box_world.specs.Answers.{State, with_world}
+use Rattle.box_world.specs.Answers.{State, with_world, IsSpentFrom}
 use Rattle.held_world.specs.declared.TheConstants.{OK}
 use Rattle.held_world.specs.Batches.{Steps, world_after, state_after, stops_first, stops_at, Stopped, RanOutAt, WasSpent, IsBatch}
 use Rattle.held_world.specs.Steps.{StepDone, StepRefused, StepRanOut, StepSpent}
@@ -77,7 +77,7 @@ ran_out by all more x count status old now new u s = record {
   allowed = stops_next by all more x count old now u ∙ s.allowed;
   left = elim s.left [
     | inl same ↦ inl (same ∙ u.made)
-    | inr spent ↦ inr spent
+    | inr spent ↦ inr (subst (λ s. IsSpentFrom s new) u.made spent)
   ];
   sound = sound_still by all (x ∷ more) count old now u ∙ s.sound;
 }

@@ -1,7 +1,7 @@
 -- What a batch of steps comes to, told by how many of them were done.
 use Rattle.std.specs.Prelude.{◌≡◌, ◌⊎◌, ℕ, ◌<◌, ◌≤◌, true, false, List, [], ◌∷◌, length, take, drop, Option, None, Some}
 use Rattle.box_world.specs.World.{World}
-use Rattle.box_world.specs.Answers.{State, with_world}
+use Rattle.box_world.specs.Answers.{State, with_world, IsSpentFrom}
 use Rattle.held_world.specs.declared.TheConstants.{OK, NO_MEMORY}
 
 -- What a kind of step makes of a world, and why it is refused there, by its status. Want of memory is no such cause.
@@ -41,12 +41,12 @@ pub record Stopped {A : Type 0} (by : Steps A) (steps : List A) (done status : �
   pub made : new ≡ state_after by old steps done
   pub sound : old.spent ≡ false
 
--- Memory ran out in a step that had no cause to be refused: those before it were done, or the world is spent.
+-- Memory ran out in a step that had no cause to be refused: the world is as those before it made it, or spent with what it had then.
 pub record RanOutAt {A : Type 0} (by : Steps A) (steps : List A) (done status : ℕ) (old new : State) : Type 0 where
   pub some : done < length steps
   pub none : status ≡ NO_MEMORY
   pub allowed : stops_at by old steps done ≡ None
-  pub left : (new ≡ state_after by old steps done) ⊎ (new.spent ≡ true)
+  pub left : (new ≡ state_after by old steps done) ⊎ IsSpentFrom (state_after by old steps done) new
   pub sound : old.spent ≡ false
 
 -- Memory had run out in a change before, and the world stays as it is.

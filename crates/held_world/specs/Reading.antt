@@ -10,7 +10,7 @@ info_of world = let s = state_of world in let w = s.time.now in record {
   structure = structure_out (structure_of world);
   spent = if s.spent then 1 else 0;
   boxes = length w.table.entries;
-  frames = w.frames;
   marks = length s.time.marks;
+  frames = w.frames;
   exchanges = if s.spent then 0 else w.exchanges;
 }

@@ -1,6 +1,6 @@
 -- What one step of a batch comes to.
 use Rattle.std.specs.Prelude.{◌≡◌, ◌⊎◌, ℕ, true, false, None, Some, Result, Ok, Err}
-use Rattle.box_world.specs.Answers.{State, with_world}
+use Rattle.box_world.specs.Answers.{State, with_world, IsSpentFrom}
 use Rattle.held_world.specs.declared.TheConstants.{NO_MEMORY}
 use Rattle.held_world.specs.Batches.{Steps}
 
@@ -16,12 +16,12 @@ pub record StepRefused {A : Type 0} (by : Steps A) (x : A) (status : ℕ) (old n
   pub why : by.stops old.time.now x ≡ Some status
   pub same : new ≡ old
 
--- Memory ran out in it.
+-- Memory ran out in it: the world is as before, or spent with what it had.
 pub record StepRanOut {A : Type 0} (by : Steps A) (x : A) (status : ℕ) (old new : State) : Type 0 where
   pub sound : old.spent ≡ false
   pub allowed : by.stops old.time.now x ≡ None
   pub none : status ≡ NO_MEMORY
-  pub left : (new ≡ old) ⊎ (new.spent ≡ true)
+  pub left : (new ≡ old) ⊎ IsSpentFrom old new
 
 -- Memory had run out before.
 pub record StepSpent (status : ℕ) (old new : State) : Type 0 where

@@ -1,3 +1,5 @@
+//! What a call came to, as the numbers that C reads.
+
 ghost use Rattle.std.specs.Prelude.{◌≡◌};
 ghost use Rattle.held_world.specs.declared.TheConstants.{OK, STALE, FULL, NO_MEMORY, INVERTED, CLOSED, ARGUMENT, EXHAUSTED};
 ghost use Rattle.held_world.specs.declared.TheConstants.{NO_MARK, NOT_A_NUMBER, OUT_OF_RANGE};

@@ -1,3 +1,5 @@
+//! Queries among the live boxes, whose handles are copied into the caller's room.
+
 ghost use Rattle.std.specs.Prelude.{◌≡◌, min, length, Some, option_map, OnOk, OnErr};
 ghost use Rattle.fixed_box.specs.declared.TheConstants.{SLOTS};
 ghost use Rattle.live_queries.specs.Pairs.{hits_of};

@@ -1,8 +1,10 @@
-ghost use Rattle.std.specs.Prelude.{◌≡◌, ◌≢◌, ◌↔◌, [], false, None, length};
+//! The calls that change a world once: other masks, the end of a frame, a mark and a way back.
+
+ghost use Rattle.std.specs.Prelude.{◌≡◌, ◌≢◌, ◌↔◌, [], true, false, None, length};
 ghost use Rattle.box_world.specs.World.{masked, marked, gone_back};
 ghost use Rattle.box_world.specs.Answers.{with_world, with_time, after_frame, change_refusal, frame_refusal};
 ghost use Rattle.any_world.specs.AnyWorld.{state_of, structure_of};
-ghost use Rattle.held_world.specs.declared.TheConstants.{OK, NO_MARK};
+ghost use Rattle.held_world.specs.declared.TheConstants.{OK, NO_MEMORY, NO_MARK};
 ghost use Rattle.held_world.specs.Plain.{handle_in, masks_in};
 ghost use Rattle.held_world.specs.Tells.{Tells, mark_refusal};
 
@@ -12,11 +14,12 @@ use crate::reading::PwCounts;
 use crate::{FULL, HeldWorld, NO_MARK, OK};
 
 impl HeldWorld {
-    /// The handle's box gets other masks.
+    /// The handle's box gets other masks. It takes memory only where a mark is held.
     pub fn mask(&mut self, handle: &PwHandle, masks: &PwMasks) -> u32
         ensures answer { let old = state_of self.old.world in let world = old.time.now in
             Tells (change_refusal world (handle_in handle.now)) (with_world old (masked world (handle_in handle.now) (masks_in masks.now)))
             result old (state_of self.new.world) }
+        ensures unmarked { let old = state_of self.old.world in old.spent ≡ false → old.time.marks ≡ [] → result ≢ NO_MEMORY }
         ensures same { result ≢ OK → state_of self.new.world ≡ state_of self.old.world }
         ensures structure { structure_of self.new.world ≡ structure_of self.old.world }
     {
@@ -51,10 +54,13 @@ impl HeldWorld {
         }
     }
 
-    /// Marks the world as it stands. `FULL` comes where `MOST_MARKS` are held.
+    /// Marks the world as it stands. `FULL` comes where `MOST_MARKS` are held. It takes no memory: `NO_MEMORY` comes where the world is
+    /// spent. After any status but `OK` all is as before.
     pub fn mark(&mut self) -> u32
         ensures answer { let old = state_of self.old.world in
             Tells (mark_refusal old.time) (with_time old (marked old.time)) result old (state_of self.new.world) }
+        ensures spent { result ≡ NO_MEMORY → (state_of self.old.world).spent ≡ true }
+        ensures same { result ≢ OK → state_of self.new.world ≡ state_of self.old.world }
         ensures structure { structure_of self.new.world ≡ structure_of self.old.world }
     {
         match self.world.mark() {

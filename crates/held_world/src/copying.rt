@@ -1,3 +1,5 @@
+//! Lists copied into a caller's room, as far as it goes.
+
 ghost use Rattle.std.specs.Prelude.{◌≡◌, ◌-◌, length, min, drop};
 ghost use Rattle.held_world.specs.Copies.{copied};
 ghost use Rattle.held_world.specs.Plain.{handle_out, pair_out, told_out};

@@ -1,3 +1,5 @@
+//! A box of floats, given by their bits, as a box of fixed-point numbers.
+
 ghost use Rattle.std.specs.Prelude.{◌≡◌, [], ◌∷◌};
 ghost use Rattle.float_bounds.specs.Format.{binary32, binary64};
 ghost use Rattle.float_bounds.specs.Around.{box_around};

@@ -1,4 +1,6 @@
-ghost use Rattle.std.specs.Prelude.{◌≡◌, ◌≢◌, ◌↔◌, ◌⊎◌, ◌<◌, ◌≤◌, ◌-◌, ◌++◌, min, length, map, zip, take, drop};
+//! The world behind a caller in C, and its batches of boxes that come, move and go.
+
+ghost use Rattle.std.specs.Prelude.{◌≡◌, ◌≢◌, ◌↔◌, ◌⊎◌, ◌<◌, ◌≤◌, ◌-◌, ◌++◌, [], false, min, length, map, zip, take, drop};
 ghost use Rattle.std.specs.Prelude.{Some, None, Err, IfOk, IfErr};
 ghost use Rattle.box_world.specs.Answers.{opened};
 ghost use Rattle.any_world.specs.AnyWorld.{state_of, structure_of, counts_of};
@@ -21,7 +23,8 @@ use std::alloc::Global;
 /// What stands behind a world that C holds: the world, and room for the answer to one query.
 ///
 /// A batch does its steps in order, up to the first that is refused, whose status it tells with the number of those before it.
-/// Those stay done.
+/// Those stay done, and where memory runs out in a step and spends the world, that step isn't done: the world has what those before it
+/// made.
 #[derive(Drop)]
 pub struct HeldWorld {
     pub world: AnyWorld,
@@ -114,9 +117,10 @@ impl HeldWorld {
         Reply { status: OK, count }
     }
 
-    /// Boxes go, in order. No world is spent by it.
+    /// Boxes go, in order. It takes memory only where a mark is held, and no world is spent by it.
     pub fn remove_all(&mut self, handles: &[PwHandle]) -> Reply
         ensures removed { IsBatch removes handles.now result.count result.status (state_of self.old.world) (state_of self.new.world) }
+        ensures unmarked { let old = state_of self.old.world in old.spent ≡ false → old.time.marks ≡ [] → result.status ≢ NO_MEMORY }
         ensures spent { (state_of self.new.world).spent ≡ (state_of self.old.world).spent }
         ensures structure { structure_of self.new.world ≡ structure_of self.old.world }
         ensures found { self.new.found ≡ self.old.found }
@@ -186,6 +190,7 @@ impl HeldWorld {
     // One box goes.
     fn remove(&mut self, handle: &PwHandle) -> Result<(), u32>
         ensures step { Stepped removes handle.now result (state_of self.old.world) (state_of self.new.world) }
+        ensures unmarked { let old = state_of self.old.world in old.spent ≡ false → old.time.marks ≡ [] → result ≢ Err NO_MEMORY }
         ensures spent { (state_of self.new.world).spent ≡ (state_of self.old.world).spent }
         ensures structure { structure_of self.new.world ≡ structure_of self.old.world }
         ensures found { self.new.found ≡ self.old.found }

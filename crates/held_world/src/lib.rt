@@ -31,7 +31,7 @@ pub const STALE: u32 = 1;
 /// All slots are taken, or all marks are held.
 pub const FULL: u32 = 2;
 
-/// Memory ran out. The world is as before, or it is spent and answers nothing else from then on.
+/// Memory ran out. The world is as before, or it is spent: it has what it had, and answers nothing else from then on.
 pub const NO_MEMORY: u32 = 3;
 
 /// A box's lower corner isn't at most its upper one.

@@ -1,3 +1,5 @@
+//! Plain structs that C shares, and what each of them stands for.
+
 ghost use Rattle.std.specs.Prelude.{◌≡◌, Some};
 ghost use Rattle.held_world.specs.Plain.{point_in, body_in, masks_in, group_in, handle_in, query_in, structure_in};
 ghost use Rattle.held_world.specs.Plain.{handle_out, point_out, box_out, live_out, pair_out, told_out, event_out, structure_out};

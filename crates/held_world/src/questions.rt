@@ -1,3 +1,5 @@
+//! Rays, moved boxes and nearest boxes as plain structs that C shares.
+
 ghost use Rattle.std.specs.Prelude.{◌≡◌};
 ghost use Rattle.held_world.specs.Plain.{ray_in, cast_in, near_in};
 

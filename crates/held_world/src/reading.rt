@@ -1,6 +1,8 @@
-ghost use Rattle.std.specs.Prelude.{◌≡◌, option_map};
+//! What a world tells of itself as plain structs: one live box, and its numbers.
+
+ghost use Rattle.std.specs.Prelude.{◌≡◌, false, option_map};
 ghost use Rattle.live_table.specs.Entries.{entry_at};
-ghost use Rattle.any_world.specs.AnyWorld.{state_of};
+ghost use Rattle.any_world.specs.AnyWorld.{state_of, structure_of, runs_out};
 ghost use Rattle.held_world.specs.Plain.{handle_in, live_out};
 ghost use Rattle.held_world.specs.Reading.{info_of};
 
@@ -15,16 +17,16 @@ pub struct PwCounts {
     pub events: usize,
 }
 
-/// What a world is: its structure's number, whether it is spent (1, or 0), the numbers of its live boxes, of the frames that ended
-/// and of the marks that are held, and the exchanges of endpoints since the last frame, where its structure counts them.
+/// What a world is: its structure's number, whether it is spent (1, or 0), the numbers of its live boxes, of the marks that are held
+/// and of the frames that ended, and the exchanges of endpoints since the last frame, where its structure counts them.
 #[repr(C)]
 #[derive(Clone, Copy)]
 pub struct PwInfo {
     pub structure: u32,
     pub spent: u32,
     pub boxes: u32,
-    pub frames: u32,
     pub marks: u32,
+    pub frames: u64,
     pub exchanges: u64,
 }
 
@@ -39,16 +41,17 @@ impl HeldWorld {
         }
     }
 
-    /// What the world is. A spent world has no exchanges.
+    /// What the world is. A spent world has no exchanges, and over the tree or the grid none is spent.
     pub fn info(&self) -> PwInfo
-        ensures { result ≡ info_of self.now.world }
+        ensures told { result ≡ info_of self.now.world }
+        ensures lasting { runs_out (structure_of self.now.world) ≡ false → result.spent ≡ 0 }
     {
         PwInfo {
             structure: structure_out(self.world.structure()),
             spent: u32::from(self.world.is_spent()),
             boxes: self.world.len(),
-            frames: self.world.frames(),
             marks: self.world.held(),
+            frames: self.world.frames(),
             exchanges: self.world.exchanges(),
         }
     }

@@ -8,18 +8,20 @@ use Rattle.live_table.specs.declared.masks.Masks.{Masks}
 use Rattle.box_world.specs.World.{masked, marked, gone_back}
 use Rattle.box_world.specs.Answers.{opened, with_world, with_time, after_frame, change_refusal, frame_refusal}
 use Rattle.any_world.specs.declared.any_world.AnyWorld.{AnyWorld}
-use Rattle.any_world.specs.AnyWorld.{state_of, structure_of, counts_of}
+use Rattle.any_world.specs.AnyWorld.{state_of, structure_of, counts_of, runs_out}
 use Rattle.held_world.specs.declared.TheConstants.{OK, NO_MEMORY, CLOSED, ARGUMENT, NO_MARK}
 use Rattle.held_world.specs.declared.answers.Reply.{Reply}
 use Rattle.held_world.specs.declared.held.HeldWorld.{HeldWorld}
 use Rattle.held_world.specs.declared.plain.PwBox.{PwBox}
 use Rattle.held_world.specs.declared.plain.PwHandle.{PwHandle}
 use Rattle.held_world.specs.declared.reading.PwCounts.{PwCounts}
+use Rattle.held_world.specs.declared.reading.PwInfo.{PwInfo}
 use Rattle.held_world.specs.Asks.{Asks}
 use Rattle.held_world.specs.Batches.{IsBatch}
 use Rattle.held_world.specs.Changes.{adds, moves, removes, handles_given}
 use Rattle.held_world.specs.Copies.{copied}
 use Rattle.held_world.specs.Plain.{handle_out, structure_in}
+use Rattle.held_world.specs.Reading.{info_of}
 use Rattle.held_world.specs.Tells.{Tells, mark_refusal}
 
 -- What a call of a world says: where one is open it stays open, with what `says` says of it before and after, and where none is it stays
@@ -78,6 +80,7 @@ pub record Moves (handles : List PwHandle) (boxes : List PwBox) (reply : Reply) 
 -- What a batch of boxes that go says.
 pub record Removes (handles : List PwHandle) (reply : Reply) (was now : AnyWorld) : Type 0 where
   pub removed : IsBatch removes handles reply.count reply.status (state_of was) (state_of now)
+  pub unmarked : (state_of was).spent ≡ false → (state_of was).time.marks ≡ [] → reply.status ≢ NO_MEMORY
   pub spent : (state_of now).spent ≡ (state_of was).spent
   pub structure : structure_of now ≡ structure_of was
 
@@ -97,10 +100,17 @@ abbrev pub Puts : {A : Type 0} → Result A ℕ → ℕ → A → A → Type 0
 Puts (Ok x) status old new = (status ≡ OK) × (new ≡ x)
 Puts (Err why) status old new = (status ≡ why) × (new ≡ old)
 
+-- What a call says that tells what a world is: over the tree or the grid none is spent.
+pub record IsInfo (status : ℕ) (info : PwInfo) (was : AnyWorld) : Type 0 where
+  pub ok : status ≡ OK
+  pub told : info ≡ info_of was
+  pub lasting : runs_out (structure_of was) ≡ false → info.spent ≡ 0
+
 -- what a call says that gives a box other masks
 pub record SetsMasks (handle : Handle) (masks : Masks) (status : ℕ) (was now : AnyWorld) : Type 0 where
   pub answer : let old = state_of was in let world = old.time.now in
       Tells (change_refusal world handle) (with_world old (masked world handle masks)) status old (state_of now)
+  pub unmarked : (state_of was).spent ≡ false → (state_of was).time.marks ≡ [] → status ≢ NO_MEMORY
   pub same : status ≢ OK → state_of now ≡ state_of was
   pub structure : structure_of now ≡ structure_of was
 
@@ -115,6 +125,8 @@ pub record Updates (status : ℕ) (counts : PwCounts) (was now : AnyWorld) : Typ
 -- what a call says that marks the world
 pub record Marks (status : ℕ) (was now : AnyWorld) : Type 0 where
   pub answer : let old = state_of was in Tells (mark_refusal old.time) (with_time old (marked old.time)) status old (state_of now)
+  pub spent : status ≡ NO_MEMORY → (state_of was).spent ≡ true
+  pub same : status ≢ OK → state_of now ≡ state_of was
   pub structure : structure_of now ≡ structure_of was
 
 -- what a call says that goes back

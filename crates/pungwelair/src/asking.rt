@@ -1,3 +1,5 @@
+//! The exports that ask which live boxes meet something.
+
 ghost use Rattle.std.specs.Prelude.{◌≡◌, min, Some, option_map};
 ghost use Rattle.fixed_box.specs.declared.TheConstants.{SLOTS};
 ghost use Rattle.live_queries.specs.Pairs.{hits_of};

@@ -1,3 +1,5 @@
+//! The exports by which many boxes come, move and go at once.
+
 ghost use Rattle.std.specs.Prelude.{◌≡◌, ◌≢◌, length, zip};
 ghost use Rattle.any_world.specs.AnyWorld.{state_of, structure_of, counts_of};
 ghost use Rattle.held_world.specs.declared.TheConstants.{ARGUMENT, CLOSED};

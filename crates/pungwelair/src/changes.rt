@@ -1,3 +1,5 @@
+//! The exports that set masks, end a frame, mark the world and go back.
+
 ghost use Rattle.std.specs.Prelude.{◌≡◌};
 ghost use Rattle.held_world.specs.declared.TheConstants.{CLOSED};
 ghost use Rattle.held_world.specs.Plain.{handle_in, masks_in};

@@ -1,3 +1,5 @@
+//! The exports that turn floats into fixed-point numbers and boxes.
+
 ghost use Rattle.std.specs.Prelude.{◌≡◌, [], ◌∷◌};
 ghost use Rattle.float_bounds.specs.Format.{binary32, binary64};
 ghost use Rattle.float_bounds.specs.Rounding.{fix_below, fix_above};

@@ -1,3 +1,5 @@
+//! The pointer to a world that C holds, and its turn into a box and back.
+
 ghost use Rattle.std.specs.Prelude.{◌≡◌, Option, Some, None, is_some, true};
 ghost use Rattle.held_world.specs.declared.held.HeldWorld.{HeldWorld};
 ghost use Rattle.pungwelair.specs.Held.{held};

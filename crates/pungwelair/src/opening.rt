@@ -1,3 +1,5 @@
+//! The exports that open a world and close it.
+
 ghost use Rattle.std.specs.Prelude.{◌≡◌, ◌⊎◌, true, None, Some, is_some, IfOk, IfErr};
 ghost use Rattle.box_world.specs.Answers.{opened};
 ghost use Rattle.any_world.specs.AnyWorld.{state_of, structure_of};

@@ -1,11 +1,12 @@
+//! The exports that read a world: a live box, pairs, events and numbers.
+
 ghost use Rattle.std.specs.Prelude.{◌≡◌, ok_or, option_map};
 ghost use Rattle.live_table.specs.Entries.{entry_at};
 ghost use Rattle.any_world.specs.AnyWorld.{state_of};
 ghost use Rattle.held_world.specs.declared.TheConstants.{OK, STALE, CLOSED};
 ghost use Rattle.held_world.specs.Plain.{handle_in, live_out, pair_out, told_out};
-ghost use Rattle.held_world.specs.Reading.{info_of};
 ghost use Rattle.held_world.specs.declared.answers.Reply.{Reply};
-ghost use Rattle.pungwelair.specs.Exports.{Calls, IsClosed, Copies, Puts};
+ghost use Rattle.pungwelair.specs.Exports.{Calls, IsClosed, Copies, Puts, IsInfo};
 
 use crate::world::PwWorld;
 use held_world::{CLOSED, OK, PwHandle, PwInfo, PwLive, PwPair, PwTold, STALE};
@@ -81,10 +82,10 @@ pub extern "C" fn pw_events(
     OK
 }
 
-/// What the world is.
+/// What the world is. Over the tree or the grid none is spent.
 #[unsafe(no_mangle)]
 pub extern "C" fn pw_info(alloc: Global, world: &mut PwWorld, out: &mut PwInfo) -> u32
-    ensures { Calls (λ was now. (now ≡ was) × ((result ≡ OK) × (out.new ≡ info_of was.world))) ((result ≡ CLOSED) × (out.new ≡ out.old))
+    ensures { Calls (λ was now. (now ≡ was) × IsInfo result out.new was.world) ((result ≡ CLOSED) × (out.new ≡ out.old))
         world.old.held.inner world.new.held.inner }
 {
     let Some(held) = world.take(alloc) else {

@@ -1,3 +1,5 @@
+//! The two words that stand for a world in C.
+
 ghost use Rattle.std.specs.Prelude.{◌≡◌, ◌==◌, None, Some, is_some, option_map};
 
 use crate::held::HeldBox;

@@ -1,3 +1,5 @@
+//! What live boxes are asked, with memory enough.
+
 ghost use Rattle.std.specs.Prelude.{◌≡◌, false, OnOk};
 ghost use Rattle.live_table.specs.Bodies.{bodies_of};
 ghost use Rattle.live_table.specs.Table.{IsTable};

@@ -1,3 +1,5 @@
+//! Worlds that are changed, marked and gone back to, with memory enough.
+
 use any_world::{AnyWorld, Structure};
 use box_world::{BoxWorld, Refusal};
 use broad_index::{BroadPhase, NoGate, PlainIndex, Query};
@@ -51,7 +53,7 @@ fn is_told(events: &[Told], event: Event) -> bool {
 // event.
 fn ends_frame<B: BroadPhase + Drop>(
     world: &mut BoxWorld<B>,
-    frames: u32,
+    frames: u64,
     exchanges: u64,
     pairs: u32,
     event: Event,

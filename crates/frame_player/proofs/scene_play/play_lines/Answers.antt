@@ -1,5 +1,5 @@
 -- The play so far goes on with each line, and each way out of the loop has the text of its ending.
-use Rattle.std.proofs.Common.{◌≡◌, ℕ, ◌+◌, ◌∙◌, ◌++◌, Bool, List, [], IfSome, Ok, subst, sym, ap, refl, arith, true, false, length}
+use Rattle.std.proofs.Common.{◌≡◌, ℕ, ◌+◌, ◌<◌, ◌^◌, ◌∙◌, ◌++◌, Bool, List, [], IfSome, Ok, subst, sym, ap, refl, arith, true, false, length}
 use Rattle.std.proofs.lemmas.List.{append-nil}
 use Rattle.play_io.specs.declared.sink.SinkFault.TheVariants as why
 use Rattle.pair_report.specs.PairReport.{end_line}
@@ -59,6 +59,25 @@ pub obey-requires-clause-allowed : goal.obey-requires-clause-allowed
 obey-requires-clause-allowed g c _ _ =
     let version = c.lines.player.version in
     ap (λ k. unless_full k (allowed_in version (Ok c.in-Command.command))) (sym c.live-live.ensures.live) ∙ c.in-Command.ensures.allowed
+
+-- no number of the world is at its end after so few lines
+pub obey-requires-clause-room : goal.obey-requires-clause-room
+obey-requires-clause-room g c _ _ =
+    let law = c.count_laws.ensures in
+    let w = c.lines.player.world.time.now in
+    let n = c.lines.reader.number in
+    let small = c.lines.invariant.counted.now in
+    let next = c.in-Command.ensures in
+    let number = next.number in
+    let within = next.within in
+    let limit = next.limit in
+    let limit_is = c.lines.invariant.limit in
+    let most = c.args.setup.now.most_lines in
+    let few : n < 2 ^ 28 = omega (arith, number, within, limit, limit_is, most) in record {
+      add = law.add n w c.live-live.ensures.table few small;
+      shift = λ handle. law.shift n w handle few small;
+      frame = law.frame n w few small;
+    }
 
 pub lines-preserved : goal.lines-preserved
 lines-preserved g c =

@@ -1,5 +1,5 @@
 -- The status of what the world answers.
-use Rattle.std.proofs.Common.{ℕ, sym, subst}
+use Rattle.std.proofs.Common.{ℕ, sym, ◌∙◌, subst}
 use Rattle.live_table.specs.declared.handle.Handle.{Handle}
 use Rattle.live_table.specs.declared.masks.Masks.{Masks}
 use Rattle.box_world.specs.World.{masked}
@@ -7,7 +7,7 @@ use Rattle.box_world.specs.Answers.{Answers, with_world, change_refusal}
 use Rattle.any_world.specs.AnyWorld.{state_of}
 use Rattle.held_world.specs.Plain.{handle_in, masks_in}
 use Rattle.held_world.specs.Tells.{Tells}
-use Rattle.held_world.proofs.Told.{told}
+use Rattle.held_world.proofs.Told.{told, untold}
 use Rattle.held_world.proofs.held.HeldWorld.mask.Goals as goal
 
 pub returns-clause-answer : goal.returns-clause-answer
@@ -19,3 +19,6 @@ returns-clause-answer c =
     (subst (λ (h : Handle). Answers (change_refusal w h) (with_world old (masked w h c.masks_of.result)) c.mask.result old new) c.handle_of.ensures
     c.mask.ensures.answer) in
     subst (λ (n : ℕ). Tells cause after n old new) (sym c.status.ensures) (told cause after c.mask.result old new answers)
+
+pub returns-clause-unmarked : goal.returns-clause-unmarked
+returns-clause-unmarked c sound none told = untold c.mask.result (c.mask.ensures.unmarked sound none) (sym c.status.ensures ∙ told)

@@ -1,5 +1,6 @@
 -- One box more goes.
-use Rattle.std.proofs.Common.{◌≡◌, ◌∷◌, ◌∙◌, rules}
+use Rattle.std.proofs.Common.{◌≡◌, ◌∷◌, ◌∙◌, Err, ap, rules}
+use Rattle.box_world.specs.Answers.{State}
 use Rattle.any_world.specs.AnyWorld.{state_of}
 use Rattle.held_world.specs.Changes.{removes}
 use Rattle.held_world.proofs.BatchUnderWay.{batch_goes_on}
@@ -15,3 +16,7 @@ removes-preserved c =
       structure = c.in-Ok.ensures.structure ∙ c.removes.invariant.structure;
       found = c.in-Ok.ensures.found ∙ c.removes.invariant.found;
     }
+
+pub returns-in-Err-clause-unmarked : goal.returns-in-Err-clause-unmarked
+returns-in-Err-clause-unmarked c sound none told =
+    c.in-Err.ensures.unmarked (c.removes.invariant.spent ∙ sound) (ap (λ (s : State). s.time.marks) c.removes.invariant.batch.made ∙ none) (ap Err told)
