@@ -1,6 +1,6 @@
 //! That a made scene is never refused, for proofs.
 
-ghost use Rattle.std.specs.Prelude.{◌≡◌, ℕ, ◌≤◌, Bool, true, Some};
+ghost use Rattle.std.specs.Prelude.{◌≡◌, ℕ, ◌<◌, ◌≤◌, Bool, true, Some};
 ghost use Rattle.fixed_box.specs.declared.TheConstants.{SLOTS};
 ghost use Rattle.live_table.specs.declared.TheConstants.{MOST_GIVES};
 ghost use Rattle.made_scene.specs.declared.TheConstants.{MOST_FRAMES};
