@@ -1,6 +1,6 @@
 //! A plain index that runs out of memory in one of its calls.
 
-ghost use Rattle.std.specs.Prelude.{◌≡◌, ◌||◌, false, IfOk, refl};
+ghost use Rattle.std.specs.Prelude.{◌≡◌, ◌||◌, true, false, IfOk, refl};
 ghost use Rattle.broad_index.specs.Fresh.{IsFresh};
 
 use broad_index::{BroadPhase, Pair, PlainIndex, Query};
