@@ -1,5 +1,6 @@
-pub mod Cutting
-pub mod Digits
+mod Headed
 mod Parts
 mod Slots
+pub mod Cutting
+pub mod Digits
 pub mod Tallies

@@ -24,7 +24,7 @@ both_allowed : (w : World) (cs ds : List Command) → AreAllowed w cs → AreAll
 both_allowed w [] ds a b = b
 both_allowed w (c ∷ cs) ds a b = (a.0, both_allowed (after true w c) cs ds a.1 b)
 
-after_both : (w : World) (cs ds : List Command) → after_all w (cs ++ ds) ≡ after_all (after_all w cs) ds
+pub after_both : (w : World) (cs ds : List Command) → after_all w (cs ++ ds) ≡ after_all (after_all w cs) ds
 after_both w [] ds = refl
 after_both w (c ∷ cs) ds = after_both (after true w c) cs ds
 

@@ -17,11 +17,11 @@ use made_scene::made_scene_laws;
 use play_rules::printed_scene_ends;
 
 /// Laws for proofs, with nothing to run: a made scene is never refused. Its boxes keep the slots from 0 on, so each
-/// removed box is live, and each added one finds a slot.
+/// removed box is live, and each added one finds a slot: until a slot was given as often as may be, which takes more frames than
+/// that number.
 pub fn made_scene_is_played()
     ensures allowed { (seed boxes count : ℕ) → 1 ≤ boxes → boxes ≤ SLOTS → count < MOST_GIVES → AreAllowed opening (made_scene seed boxes count) }
-    ensures header { (seed boxes count : ℕ) → 1 ≤ boxes → boxes ≤ SLOTS → count < MOST_GIVES
-        → (after_all opening (made_scene seed boxes count)).version ≡ Some One }
+    ensures header { (seed boxes count : ℕ) → (after_all opening (made_scene seed boxes count)).version ≡ Some One }
     ensures done { (shows : Bool) (seed boxes count : ℕ) → 1 ≤ boxes → boxes ≤ SLOTS → count ≤ MOST_FRAMES
         → (played shows MOST_LINES (lines (made_text seed boxes count) true)).status ≡ Done }
 {

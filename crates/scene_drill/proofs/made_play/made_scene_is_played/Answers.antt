@@ -3,6 +3,7 @@ use Rattle.std.proofs.Common.{◌+◌, ◌*◌, ◌≤◌, length, is_some, ap, 
 use Rattle.std.proofs.lemmas.Nat.{mul-le}
 use Rattle.scene_lines.specs.declared.TheConstants.{MOST_LINES}
 use Rattle.made_scene.specs.MadeScene.{made_scene}
+use Rattle.scene_drill.proofs.Headed.{headed}
 use Rattle.scene_drill.proofs.Parts.{scene_allowed}
 use Rattle.scene_drill.proofs.made_play.made_scene_is_played.Goals as goal
 
@@ -10,7 +11,7 @@ pub returns-clause-allowed : goal.returns-clause-allowed
 returns-clause-allowed c seed boxes count some few short = (scene_allowed seed boxes count some few short).0
 
 pub returns-clause-header : goal.returns-clause-header
-returns-clause-header c seed boxes count some few short = (scene_allowed seed boxes count some few short).1
+returns-clause-header c seed boxes count = headed seed boxes count
 
 pub returns-clause-done : goal.returns-clause-done
 returns-clause-done c shows seed boxes count some few frames =
