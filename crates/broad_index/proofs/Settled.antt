@@ -79,4 +79,5 @@ same_either_way = λ i p q. and_turned (p.b == q.b) (p.a == q.a) i
 
 pub pairs_settled : (xs : List Pair) → IsSorted pair_cmp xs → rises (dedup same_pair xs) ≡ true
 pairs_settled xs sorted =
-    rises_settled pair_cmp precedes less_precedes (then_total (on_total (λ p. p.a) nat_cmp_total) (on_total (λ p. p.b) nat_cmp_total)) same_pair pair_ties xs sorted
+    rises_settled pair_cmp precedes less_precedes (then_total (on_total (λ p. p.a) nat_cmp_total) (on_total (λ p. p.b) nat_cmp_total)) same_pair pair_ties
+    xs sorted

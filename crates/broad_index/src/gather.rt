@@ -8,17 +8,13 @@ ghost use Rattle.broad_index.specs.Touched.{ordered_pairs};
 
 use crate::Pair;
 use fixed_box::NoMemory;
+use slot_lists::push_mapped;
 
-/// Appends a slot with each of a list, the lower one first. After an `Err` some may have been appended.
+/// Appends a slot with each of a list, the lower one first. After an `Err` `out` is as before.
 pub fn push_ordered_pairs(slot: u32, slots: &[u32], out: &mut Vec<Pair>) -> Result<(), NoMemory>
     ensures { OnOk result (out.new.items ≡ out.old.items ++ ordered_pairs slot slots.now) }
 {
-    let mut rest = slots;
-    'slots: while let [other, more @ ..] = rest {
-        out.push(Pair::ordered(slot, *other))?;
-        rest = more;
-    }
-    Ok(())
+    push_mapped(slots, out, |other| Pair::ordered(slot, *other))
 }
 
 /// Replaces a list by the pairs of several searches, and answers a number raised by what these cost, as far as 64 bits go.

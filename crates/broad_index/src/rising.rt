@@ -14,6 +14,7 @@ ghost use Rattle.broad_index.specs.Reach.{reach};
 
 use crate::Pair;
 use fixed_box::NoMemory;
+use slot_lists::push_filtered;
 use std::cmp::Ordering;
 
 /// Puts pairs in rising order, each once.
@@ -95,14 +96,9 @@ fn merge_pairs(xs: &[Pair], ys: &[Pair], out: &mut Vec<Pair>) -> Result<(), NoMe
 fn push_staying(kept: &[Pair], marks: &[bool], out: &mut Vec<Pair>) -> Result<(), NoMemory>
     ensures ok { OnOk result (out.new.items ≡ out.old.items ++ filter (stays marks.now) kept.now) }
 {
-    let mut rest = kept;
-    'kept: while let [pair, more @ ..] = rest {
-        if !is_marked(pair.a, marks) && !is_marked(pair.b, marks) {
-            out.push(*pair)?;
-        }
-        rest = more;
-    }
-    Ok(())
+    push_filtered(kept, out, |pair| {
+        !is_marked(pair.a, marks) && !is_marked(pair.b, marks)
+    })
 }
 
 // Whether a slot is marked.

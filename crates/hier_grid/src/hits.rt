@@ -117,7 +117,7 @@ fn push_met<T: BoxTest>(
 {
     let mut rest = slots;
     'slots: while let [slot, more @ ..] = rest {
-        if is_met(boxes, *slot, test) {
+        if is_found(boxes, *slot, test) {
             out.push(*slot)?;
         }
         rest = more;
@@ -126,7 +126,7 @@ fn push_met<T: BoxTest>(
 }
 
 // Whether a slot has a box that meets a query.
-fn is_met<T: BoxTest>(boxes: &SlotBoxes, slot: u32, test: &T) -> bool
+fn is_found<T: BoxTest>(boxes: &SlotBoxes, slot: u32, test: &T) -> bool
     ensures { result ≡ is_found boxes.now (T.asks test.now) slot }
 {
     match boxes.box_of(slot) {

@@ -106,8 +106,8 @@ module _ (lo hi at : ℤ) (p : IsPlaced lo hi at) (half : ℕ) where
     high = le_raised at lo half p.low p.begins (subst (λ h. lo ≤ℤ (at +ℤ pos h)) (sym e) (all_reach at lo p.low p.begins));
   }
 
-  is_met : (most : ℕ) → Reaches half most → squared (gap lo hi at) ≤ most → IsMet
-  is_met most r le = elim r as (λ _. IsMet) [
+  near_enough : (most : ℕ) → Reaches half most → squared (gap lo hi at) ≤ most → IsMet
+  near_enough most r le = elim r as (λ _. IsMet) [
     | inl h ↦ let g : gap lo hi at * gap lo hi at ≤ half * half = (let k = le in let l = h in omega arith) in near_met (root_le (gap lo hi at) half g)
     | inr e ↦ far_met e
   ]
@@ -133,9 +133,9 @@ module _ (at : Point) (here : meets space (spot at) ≡ true) (b : Bounds) (h : 
   near_meets half most r le =
       let p = placed at b here h in
       let s = parts_le (squared (gap b.lo.x b.hi.x at.x)) (squared (gap b.lo.y b.hi.y at.y)) (squared (gap b.lo.z b.hi.z at.z)) most le in
-      let x = is_met b.lo.x b.hi.x at.x p.x half most r s.0 in
-      let y = is_met b.lo.y b.hi.y at.y p.y half most r s.1 in
-      let z = is_met b.lo.z b.hi.z at.z p.z half most r s.2 in
+      let x = near_enough b.lo.x b.hi.x at.x p.x half most r s.0 in
+      let y = near_enough b.lo.y b.hi.y at.y p.y half most r s.1 in
+      let z = near_enough b.lo.z b.hi.z at.z p.z half most r s.2 in
       and_from (is_at_most (cube at half).lo b.hi) (is_at_most b.lo (cube at half).hi)
       (and_from (int_le (cube at half).lo.x b.hi.x && int_le (cube at half).lo.y b.hi.y) (int_le (cube at half).lo.z b.hi.z)
       (and_from (int_le (cube at half).lo.x b.hi.x) (int_le (cube at half).lo.y b.hi.y) x.low y.low) z.low)

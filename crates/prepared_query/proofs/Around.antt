@@ -10,9 +10,9 @@ use Rattle.fixed_box.proofs.Numbers.{le_of_test, test_of_le, stopped_low, stoppe
 use Rattle.prepared_query.specs.Prepared.{end_on}
 
 -- The line comes to the slab by its end, if it has one.
-abbrev pub is_met : Bool → MirroredSlab → Bool
-is_met true a = is_on_way a
-is_met false a = is_ahead a
+abbrev pub meets_slab : Bool → MirroredSlab → Bool
+meets_slab true a = is_on_way a
+meets_slab false a = is_ahead a
 
 -- the interval between the start and the end meets that between the faces
 abbrev pub is_by : ℤ → ℤ → ℤ → ℤ → Bool
@@ -59,7 +59,7 @@ down_to_end from dir hi high low =
     (λ h. test_of_le end hi (stopped_low (from +ℤ dir) hi (omega (arith, ints, le_of_test (from -ℤ hi) (neg_ℤ dir) h)) low))
 
 pub met : (ends : Bool) (from dir lo hi : ℤ) → negsuc 2147483647 ≤ℤ from → from ≤ℤ pos 2147483647 → lo ≤ℤ pos 2147483647 → negsuc 2147483647 ≤ℤ hi
-    → is_by from (end_on ends from dir) lo hi ≡ is_met ends (mirrored (record { from = from; dir = dir; lo = lo; hi = hi }))
+    → is_by from (end_on ends from dir) lo hi ≡ meets_slab ends (mirrored (record { from = from; dir = dir; lo = lo; hi = hi }))
 met false from (pos zero) lo hi fl fh lh hl = rising from from lo hi (omega (arith, ints)) ∙ (λ i. past from hi i && short lo from i)
 met false from (pos (suc n)) lo hi fl fh lh hl =
     rising from (pos 2147483647) lo hi fh

@@ -17,9 +17,9 @@ use Rattle.broad_index.specs.declared.query.Query.{Query}
 use Rattle.broad_index.specs.declared.query.Query.TheVariants.{Between}
 use Rattle.broad_index.specs.Found.{query_meets}
 use Rattle.prepared_query.specs.NarrowLine.{fits_i32, is_narrow_vector}
-use Rattle.prepared_query.specs.Prepared.{moved, line_of, end_on, line_hull, slopes_of, pass, IsPrepared}
+use Rattle.prepared_query.specs.Prepared.{arrival, line_of, end_on, line_hull, slopes_of, pass, IsPrepared}
 use Rattle.prepared_query.specs.declared.slopes.Slopes.{Slopes}
-use Rattle.prepared_query.proofs.Around.{is_by, is_met, met}
+use Rattle.prepared_query.proofs.Around.{is_by, meets_slab, met}
 use Rattle.prepared_query.proofs.Passes.{passes_is}
 
 -- a way there and back
@@ -29,10 +29,10 @@ gone z y = omega (arith, ints)
 arrived : (z y : ℤ) → z +ℤ (y -ℤ z) ≡ y
 arrived z y = omega (arith, ints)
 
-all_gone : (f d : Vector) → displacement f (moved f d) ≡ d
+all_gone : (f d : Vector) → displacement f (arrival f d) ≡ d
 all_gone f d = λ i. record { x = gone f.x d.x i; y = gone f.y d.y i; z = gone f.z d.z i }
 
-all_arrived : (a b : Vector) → moved a (displacement a b) ≡ b
+all_arrived : (a b : Vector) → arrival a (displacement a b) ≡ b
 all_arrived a b = λ i. record { x = arrived a.x b.x i; y = arrived a.y b.y i; z = arrived a.z b.z i }
 
 pub segment : (seg : Seg) {query : Query} {from dir : Point} → query ≡ Between seg → widened from ≡ seg.a → widened dir ≡ displacement seg.a seg.b
@@ -47,12 +47,12 @@ pub record LineLaws : Type 0 where
 
 -- the test by pairs of axes
 line_answer : LineLaws → (ends : Bool) (f d : Vector) (body : Bounds) → IsTrue (is_at_most body.lo body.hi)
-    → (is_met ends (on_x f d (widened_box body)) && is_met ends (on_y f d (widened_box body)) && is_met ends (on_z f d (widened_box body))
+    → (meets_slab ends (on_x f d (widened_box body)) && meets_slab ends (on_y f d (widened_box body)) && meets_slab ends (on_z f d (widened_box body))
     && all_overlap (on_x f d (widened_box body)) (on_y f d (widened_box body)) (on_z f d (widened_box body))) ≡ query_meets (line_of ends f d) body
 line_answer laws true f d body h =
     let b : WideBounds = widened_box body in
-    let w : d ≡ displacement f (moved f d) = sym (all_gone f d) in
-    (λ i. meet_on_way (on_x f (w i) b) (on_y f (w i) b) (on_z f (w i) b)) ∙ laws.segs f (moved f d) b h
+    let w : d ≡ displacement f (arrival f d) = sym (all_gone f d) in
+    (λ i. meet_on_way (on_x f (w i) b) (on_y f (w i) b) (on_z f (w i) b)) ∙ laws.segs f (arrival f d) b h
 line_answer laws false f d body h = laws.rays f d (widened_box body) h
 
 -- six tests by corners, and by axes
@@ -76,7 +76,7 @@ fits z h =
     record { low = omega (arith, ints, parts.0); high = omega (arith, ints, parts.1) }
 
 axis : (ends : Bool) (from dir lo hi : ℤ) → fits_i32 from ≡ true → int_le (negsuc 2147483647) hi ≡ true → int_le lo (pos 2147483647) ≡ true
-    → is_by from (end_on ends from dir) lo hi ≡ is_met ends (mirrored (record { from = from; dir = dir; lo = lo; hi = hi }))
+    → is_by from (end_on ends from dir) lo hi ≡ meets_slab ends (mirrored (record { from = from; dir = dir; lo = lo; hi = hi }))
 axis ends from dir lo hi start low high =
     let from_fits : Fits from = fits from start in
     met ends from dir lo hi from_fits.low from_fits.high (le_of_test lo (pos 2147483647) high) (le_of_test (negsuc 2147483647) hi low)
@@ -84,8 +84,8 @@ axis ends from dir lo hi start low high =
 -- by the corners of the least box around a line
 around : (ends : Bool) (from dir : Point) (body : Bounds) → IsTrue (is_narrow_vector (widened from)) → IsTrue (meets space body)
     → meets (line_hull ends from dir) body
-    ≡ (is_met ends (on_x (widened from) (widened dir) (widened_box body)) && is_met ends (on_y (widened from) (widened dir) (widened_box body))
-    && is_met ends (on_z (widened from) (widened dir) (widened_box body)))
+    ≡ (meets_slab ends (on_x (widened from) (widened dir) (widened_box body)) && meets_slab ends (on_y (widened from) (widened dir) (widened_box body))
+    && meets_slab ends (on_z (widened from) (widened dir) (widened_box body)))
 around ends from dir body start in_space =
     let starts = and_parts (fits_i32 from.x && fits_i32 from.y) (fits_i32 from.z) start in
     let start_xy = and_parts (fits_i32 from.x) (fits_i32 from.y) starts.0 in
@@ -96,11 +96,11 @@ around ends from dir body start in_space =
     let high_xy = and_parts (int_le body.lo.x space.hi.x) (int_le body.lo.y space.hi.y) high.0 in
     let least : Point = (line_hull ends from dir).lo in
     let most : Point = (line_hull ends from dir).hi in
-    let x : is_by from.x (end_on ends from.x dir.x) body.lo.x body.hi.x ≡ is_met ends (on_x (widened from) (widened dir) (widened_box body)) =
+    let x : is_by from.x (end_on ends from.x dir.x) body.lo.x body.hi.x ≡ meets_slab ends (on_x (widened from) (widened dir) (widened_box body)) =
     axis ends from.x dir.x body.lo.x body.hi.x start_xy.0 low_xy.0 high_xy.0 in
-    let y : is_by from.y (end_on ends from.y dir.y) body.lo.y body.hi.y ≡ is_met ends (on_y (widened from) (widened dir) (widened_box body)) =
+    let y : is_by from.y (end_on ends from.y dir.y) body.lo.y body.hi.y ≡ meets_slab ends (on_y (widened from) (widened dir) (widened_box body)) =
     axis ends from.y dir.y body.lo.y body.hi.y start_xy.1 low_xy.1 high_xy.1 in
-    let z : is_by from.z (end_on ends from.z dir.z) body.lo.z body.hi.z ≡ is_met ends (on_z (widened from) (widened dir) (widened_box body)) =
+    let z : is_by from.z (end_on ends from.z dir.z) body.lo.z body.hi.z ≡ meets_slab ends (on_z (widened from) (widened dir) (widened_box body)) =
     axis ends from.z dir.z body.lo.z body.hi.z starts.1 low.1 high.1 in
     by_axes (int_le least.x body.hi.x) (int_le least.y body.hi.y) (int_le least.z body.hi.z)
     (int_le body.lo.x most.x) (int_le body.lo.y most.y) (int_le body.lo.z most.z)
@@ -126,8 +126,8 @@ whole laws {slopes = slopes} body p ordered in_space =
     ∙ line_answer laws p.ends (widened slopes.from) (widened p.dir) body ordered
     ∙ ap (λ query. query_meets query body) p.line
 
-pub passed_by : LineLaws → {query : Query} {hull : Bounds} {slopes : Slopes} (body : Bounds) → IsPrepared query hull slopes → IsTrue (is_at_most body.lo body.hi)
-    → IsTrue (meets space body) → meets hull body ≡ false → false ≡ query_meets query body
+pub passed_by : LineLaws → {query : Query} {hull : Bounds} {slopes : Slopes} (body : Bounds) → IsPrepared query hull slopes
+    → IsTrue (is_at_most body.lo body.hi) → IsTrue (meets space body) → meets hull body ≡ false → false ≡ query_meets query body
 passed_by laws {slopes = slopes} body p ordered in_space out = (λ i. sym out i && pass slopes body) ∙ whole laws body p ordered in_space
 
 pub passed : LineLaws → {query : Query} {hull : Bounds} {slopes : Slopes} (body : Bounds) → IsPrepared query hull slopes → IsTrue (is_at_most body.lo body.hi)

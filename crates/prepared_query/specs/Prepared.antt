@@ -11,12 +11,12 @@ use Rattle.prepared_query.specs.Slope.{Side, course, side, passes}
 use Rattle.prepared_query.specs.declared.slopes.Slopes.{Slopes}
 
 -- where a way leads from a point
-abbrev pub moved : Vector → Vector → Vector
-moved from way = record { x = from.x +ℤ way.x; y = from.y +ℤ way.y; z = from.z +ℤ way.z }
+abbrev pub arrival : Vector → Vector → Vector
+arrival from way = record { x = from.x +ℤ way.x; y = from.y +ℤ way.y; z = from.z +ℤ way.z }
 
 -- the segment that ends where it is at the fraction 1, or the ray
 abbrev pub line_of : Bool → Vector → Vector → Query
-line_of true from dir = Between (record { a = from; b = moved from dir })
+line_of true from dir = Between (record { a = from; b = arrival from dir })
 line_of false from dir = Along (record { from = from; dir = dir })
 
 -- the last place of a line on an axis, as far as 32 bits go: a segment's end, or the end of space where a ray moves

@@ -74,7 +74,8 @@ module _ (met : (outer inner other : Bounds) → encloses outer inner ≡ true �
       by_order false = refl
 
 -- ---- what a query meets of boxes, it meets of their skins
-module _ (enclosed : (query : Query) (outer inner : Bounds) → encloses outer inner ≡ true → query_meets query inner ≡ true → query_meets query outer ≡ true) where
+module _ (enclosed :
+    (query : Query) (outer inner : Bounds) → encloses outer inner ≡ true → query_meets query inner ≡ true → query_meets query outer ≡ true) where
   outer_found : (query : Query) (s : Option Bounds) (b : Bounds) → is_inside s b ≡ true → query_meets query b ≡ true → meets_query query s ≡ true
   outer_found query None b h m = absurd (false≢true h)
   outer_found query (Some s) b h m = enclosed query s b h m
@@ -110,7 +111,9 @@ skins_none = record { same = λ k. refl; inside = λ k b e. none k b (sym (get-e
 module _ (bodies skins : FinMap nat_cmp Bounds) (h : AreSkins bodies skins) where
   pub skins_put : (k : ℕ) (body skin : Bounds) → encloses skin body ≡ true → AreSkins (insert bodies k body) (insert skins k skin)
   skins_put k body skin within = record {
-    same = λ j. ap is_some (after_insert skins k j skin) ∙ by_slot (j == k) (get skins j) (get bodies j) (h.same j) ∙ sym (ap is_some (after_insert bodies k j body));
+    same = λ j. ap is_some (after_insert skins k j skin)
+        ∙ by_slot (j == k) (get skins j) (get bodies j) (h.same j)
+        ∙ sym (ap is_some (after_insert bodies k j body));
     inside = λ j b e. ap (λ o. is_inside o b) (after_insert skins k j skin)
         ∙ by_box (j == k) (get skins j) (get bodies j) b (h.inside j b) (sym (after_insert bodies k j body) ∙ e);
   }
@@ -162,7 +165,8 @@ module _ (bodies skins : FinMap nat_cmp Bounds) (h : AreSkins bodies skins) wher
       by_box false s o b i e = i e
 
 -- ---- what was appended, filtered
-pub kept_behind : {X : Type 0} (p : X → Bool) (xs ys zs : List X) (n : ℕ) → n ≡ length xs → zs ≡ xs ++ ys → take n zs ++ filter p (drop n zs) ≡ xs ++ filter p ys
+pub kept_behind : {X : Type 0} (p : X → Bool) (xs ys zs : List X) (n : ℕ)
+    → n ≡ length xs → zs ≡ xs ++ ys → take n zs ++ filter p (drop n zs) ≡ xs ++ filter p ys
 kept_behind p xs ys zs n long is =
     let front : take n zs ≡ xs = grind (arith, common_steps) in
     let rest : drop n zs ≡ ys = grind (arith, common_steps) in

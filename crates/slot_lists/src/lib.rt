@@ -1,6 +1,8 @@
-//! Lists that several structures keep: values by their slots, numbers linked in arrays, rising lists; and boxes by slots.
+//! Boxes by their slots, in a list with a place for each slot, and the loops that append to lists.
 #![tactic(auto)]
 
+mod pushing;
 mod slot_boxes;
 
+pub use pushing::{push_filter_mapped, push_filtered, push_mapped};
 pub use slot_boxes::{SlotBoxes, no_boxes};

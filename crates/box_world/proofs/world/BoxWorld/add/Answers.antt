@@ -12,7 +12,8 @@ returns-in-Ok-clause-answer g c =
     let now = added g.B.BroadPhase.COUNTS w c.args.body c.args.masks c.args.group in
     rw (← c.self.view_is) (record {
       sound = c.if-self.false;
-      allowed = may_add w (λ e. c.if-len-eq-SLOTS.false (c.len.ensures.len ∙ e)) (slot_left c.in-Some.handle parts.table c.in-Some.ensures.handle c.in-Some.ensures.small)
+      allowed = may_add w (λ e. c.if-len-eq-SLOTS.false (c.len.ensures.len ∙ e))
+          (slot_left c.in-Some.handle parts.table c.in-Some.ensures.handle c.in-Some.ensures.small)
           (sym c.is_counted_out.ensures ∙ c.if-is_counted_out.false);
       done = same_state _ _ _ _ _
           (c.in-Ok.ensures.added.time ∙ ap (λ ms. record { now = now; marks = worlds_back w (reverse ms) }) c.in_ok-room.ensures.marks)
