@@ -6,7 +6,9 @@
     bench/reference.py < scenes/deep.scene > scenes/deep.report
 """
 import random
+import sys
 
+sys.dont_write_bytecode = True
 from made_scenes import STEP, numbers
 
 DICE = random.Random(20)
