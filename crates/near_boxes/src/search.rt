@@ -17,6 +17,7 @@ use crate::{Bodies, Near};
 use broad_index::{BroadPhase, Query, member_laws};
 use fixed_box::{FBox, NoMemory, Point, space_law};
 use ordered_lists::{order_laws, push_front_in_order};
+use slot_lists::push_filter_mapped;
 use std::alloc::Global;
 
 // Half the side of the first cube, in raw units: a sixteenth of a unit.
@@ -143,14 +144,7 @@ fn keep_within<T: Bodies>(
     ensures { OnOk result (found.new.items ≡ filter_map (within (T.bodies bodies.now) at.now most) slots.now) }
 {
     found.clear();
-    let mut rest = slots;
-    'slots: while let [slot, more @ ..] = rest {
-        if let Some(near) = within(bodies, at, most, *slot) {
-            found.push(near)?;
-        }
-        rest = more;
-    }
-    Ok(())
+    push_filter_mapped(slots, found, |slot| within(bodies, at, most, *slot))
 }
 
 // A slot, where its body is within a distance of a point.
