@@ -1,6 +1,6 @@
 //! A search for the pairs of many boxes, eight at a time against the nodes in preorder.
 
-ghost use Rattle.std.specs.Prelude.{◌≡◌, ◌||◌, ◌++◌, ◌==◌, ℕ, true, false, map, filter, not, OnOk, IfOk, slice_index_or};
+ghost use Rattle.std.specs.Prelude.{◌≡◌, ◌||◌, ◌++◌, ◌==◌, ℕ, true, false, map, filter, not, OnOk, OnErr, IfOk, slice_index_or};
 ghost use Rattle.broad_index.specs.declared.query.Query.TheVariants.{Region};
 ghost use Rattle.broad_index.specs.Found.{found_of};
 ghost use Rattle.broad_index.specs.Members.{has_slot};
@@ -16,6 +16,7 @@ use crate::group::{GROUP, search_group};
 use crate::{BoxedTree, ListedNode, SearchRoom, SlotMarks, TreeFindings};
 use broad_index::push_ordered_pairs;
 use fixed_box::{FBox, NoMemory};
+use slot_lists::push_filtered;
 
 /// Appends the pairs of the boxes of a room with those that they meet, and answers a number raised by how many nodes a descent
 /// for each of them looks at. They are searched for in groups, in their order, in the list of the nodes.
@@ -134,16 +135,10 @@ fn search_one(
     Ok(count)
 }
 
-/// Appends all slots but one.
+/// Appends all slots but one. After an `Err` `out` is as before.
 pub fn push_others(slot: u32, met: &[u32], out: &mut Vec<u32>) -> Result<(), NoMemory>
-    ensures { OnOk result (out.new.items ≡ out.old.items ++ filter (λ s. not (s == slot)) met.now) }
+    ensures ok { OnOk result (out.new.items ≡ out.old.items ++ filter (λ s. not (s == slot)) met.now) }
+    ensures err { OnErr result (out.new.items ≡ out.old.items) }
 {
-    let mut rest = met;
-    'met: while let [other, more @ ..] = rest {
-        if *other != slot {
-            out.push(*other)?;
-        }
-        rest = more;
-    }
-    Ok(())
+    push_filtered(met, out, |other| *other != slot)
 }
