@@ -39,6 +39,11 @@ stay p = record { event = Stay; pair = p }
 abbrev over : HPair → Told
 over p = record { event = Over; pair = p }
 
+-- where no pair is left, each former one is over
+pub all_over : (before : List HPair) → ended before [] ≡ map (λ p. record { event = Over; pair = p }) before
+all_over [] = refl
+all_over (p ∷ before) = ap (λ (told : List Told). over p ∷ told) (all_over before)
+
 all_after : (p q : HPair) (ps : List HPair) → precedes p q ≡ true → list_all (precedes q) ps ≡ true → list_all (precedes p) ps ≡ true
 all_after p q ps h = all_weaker (precedes q) (precedes p) (λ r k. precedes_trans p q r h k) ps
 

@@ -4,8 +4,9 @@ ghost use Rattle.std.specs.Prelude.{◌≡◌, ◌≤◌, ◌++◌, [], ◌∷�
 ghost use Rattle.pair_events.specs.declared.hpair.HPair.{HPair};
 ghost use Rattle.pair_events.specs.PairEvents.{same_pair, kept_or_begun, ended, events, precedes, rises, begins_at};
 
-use crate::{Event, HPair, Told};
+use crate::{Event, HPair, Told, stay_law};
 use fixed_box::NoMemory;
+use slot_lists::push_mapped;
 
 // Appends the events between two rising lists of pairs, or nothing. `over` is room for those that are over.
 pub(crate) fn push_events(
@@ -128,13 +129,20 @@ fn tell<'a>(
 }
 
 // Each of the former pairs that are left is over.
+#[tactic(auto, using(crate::proofs::Steps::all_over))]
 fn push_over(before: &[HPair], over: &mut Vec<Told>) -> Result<(), NoMemory>
     ensures { OnOk result (over.new.items ≡ over.old.items ++ ended before.now []) }
 {
-    for pair in before {
-        over.push(over_of(pair))?;
-    }
-    Ok(())
+    push_mapped(before, over, |pair| over_of(pair))
+}
+
+// Appends the events between a list of pairs and itself, or nothing.
+pub(crate) fn push_stays(pairs: &[HPair], out: &mut Vec<Told>) -> Result<(), NoMemory>
+    ensures ok { OnOk result (out.new.items ≡ out.old.items ++ events pairs.now pairs.now) }
+    ensures err { OnErr result (out.new.items ≡ out.old.items) }
+{
+    stay_law();
+    push_mapped(pairs, out, |pair| stay_of(pair))
 }
 
 fn begin_of(pair: &HPair) -> Told

@@ -3,7 +3,7 @@
 ghost use Rattle.std.specs.Prelude.{◌≡◌, ◌++◌, [], true, IfOk, OnOk, OnErr};
 ghost use Rattle.pair_events.specs.PairEvents.{events, is_in_order};
 
-use crate::merge::push_events;
+use crate::merge::{push_events, push_stays};
 use crate::{HPair, Told};
 use fixed_box::NoMemory;
 use std::alloc::Global;
@@ -75,6 +75,14 @@ impl PairTable {
     {
         push_events(&self.last, &now, &mut self.over, out)?;
         Ok(mem::replace(&mut self.last, now))
+    }
+
+    /// Appends what is told of a frame that has the pairs of the last one: each stays. After an `Err` `out` is as before.
+    pub fn stay(&self, out: &mut Vec<Told>) -> Result<(), NoMemory>
+        ensures told { OnOk result (out.new.items ≡ out.old.items ++ events self.now self.now) }
+        ensures err { OnErr result (out.new.items ≡ out.old.items) }
+    {
+        push_stays(&self.last, out)
     }
 
     /// Makes these the pairs of the last frame. Nothing is told of what that changes. They rise as those of `turn` do.
