@@ -1,6 +1,6 @@
 //! Slots that a search found, made into the handles of their live boxes.
 
-ghost use Rattle.std.specs.Prelude.{◌≡◌, ◌++◌, ℕ, take, vec_len, OnOk, OnErr};
+ghost use Rattle.std.specs.Prelude.{◌≡◌, ◌++◌, ℕ, OnOk, OnErr};
 ghost use Rattle.std.specs.List.{filter_map};
 ghost use Rattle.live_queries.specs.Beside.{handle_at};
 
@@ -8,6 +8,7 @@ use crate::hit::Hit;
 use fixed_box::NoMemory;
 use live_table::{Handle, LiveTable};
 use near_boxes::Near;
+use slot_lists::push_filter_mapped;
 
 // What was found under a slot.
 pub(crate) trait AtSlot {
@@ -42,31 +43,7 @@ pub(crate) fn push_handles<T: AtSlot>(
     ensures ok { OnOk result (out.new.items ≡ out.old.items ++ filter_map (λ at. handle_at table.now.entries (T.slot at)) found.now) }
     ensures err { OnErr result (out.new.items ≡ out.old.items) }
 {
-    let before = out.len();
-    let pushed = push_each(table, found, out);
-    if pushed.is_err() {
-        out.truncate(before);
-    }
-    pushed
-}
-
-// Does what `push_handles` does. What was there stays, after an `Err` too.
-fn push_each<T: AtSlot>(
-    table: &LiveTable,
-    found: &[T],
-    out: &mut Vec<Handle>,
-) -> Result<(), NoMemory>
-    ensures ok { OnOk result (out.new.items ≡ out.old.items ++ filter_map (λ at. handle_at table.now.entries (T.slot at)) found.now) }
-    ensures kept { take (vec_len out.old) out.new.items ≡ out.old.items }
-{
-    let mut rest = found;
-    'found: while let Some((at, more)) = rest.split_first() {
-        if let Some(handle) = handle_at(table, at.slot()) {
-            out.push(handle)?;
-        }
-        rest = more;
-    }
-    Ok(())
+    push_filter_mapped(found, out, |at| handle_at(table, at.slot()))
 }
 
 fn handle_at(table: &LiveTable, slot: u32) -> Option<Handle>

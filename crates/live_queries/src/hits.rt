@@ -1,6 +1,6 @@
 //! The live boxes that meet a query and are in one of the groups asked for, in order of slots.
 
-ghost use Rattle.std.specs.Prelude.{◌≡◌, ◌++◌, take, vec_len, OnOk, OnErr};
+ghost use Rattle.std.specs.Prelude.{◌≡◌, ◌++◌, OnOk, OnErr};
 ghost use Rattle.std.specs.List.{filter_map};
 ghost use Rattle.live_table.specs.Bodies.{bodies_of};
 ghost use Rattle.live_table.specs.Table.{IsTable};
@@ -11,6 +11,7 @@ ghost use Rattle.live_queries.specs.Pairs.{hits_of, is_asked_for};
 use broad_index::Query;
 use fixed_box::NoMemory;
 use live_table::{Handle, Live, LiveTable};
+use slot_lists::push_filter_mapped;
 
 /// Appends the handles of the live boxes that meet a query and are in one of the groups that `mask` has, by their slots, of
 /// the slots that an index of the live boxes has found for it. After an `Err` `out` is as before.
@@ -28,16 +29,10 @@ pub fn push_hits(
     ensures ok { OnOk result (out.new.items ≡ out.old.items ++ hits_of table.now.entries query.now mask) }
     ensures err { OnErr result (out.new.items ≡ out.old.items) }
 {
-    let before = out.len();
-    let pushed = push_listed(table, mask, slots, out);
-    if pushed.is_err() {
-        out.truncate(before);
-    }
-    pushed
+    push_listed(table, mask, slots, out)
 }
 
-// Appends the handles of the slots whose boxes are in one of the groups that are asked for. What was there stays, after an
-// `Err` too.
+// Appends the handles of the slots whose boxes are in one of the groups that are asked for. After an `Err` `out` is as before.
 fn push_listed(
     table: &LiveTable,
     mask: u32,
@@ -45,16 +40,9 @@ fn push_listed(
     out: &mut Vec<Handle>,
 ) -> Result<(), NoMemory>
     ensures ok { OnOk result (out.new.items ≡ out.old.items ++ filter_map (listed table.now.entries mask) slots.now) }
-    ensures kept { take (vec_len out.old) out.new.items ≡ out.old.items }
+    ensures err { OnErr result (out.new.items ≡ out.old.items) }
 {
-    let mut rest = slots;
-    'slots: while let Some((slot, more)) = rest.split_first() {
-        if let Some(handle) = listed(table, mask, *slot) {
-            out.push(handle)?;
-        }
-        rest = more;
-    }
-    Ok(())
+    push_filter_mapped(slots, out, |slot| listed(table, mask, *slot))
 }
 
 // The handle of a slot's box, where that is in one of the groups that are asked for.

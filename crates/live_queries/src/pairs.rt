@@ -1,6 +1,6 @@
 //! The pairs of live boxes that meet and may pair: the filter behind the broad phase.
 
-ghost use Rattle.std.specs.Prelude.{◌≡◌, ◌++◌, take, vec_len, OnOk, OnErr};
+ghost use Rattle.std.specs.Prelude.{◌≡◌, ◌++◌, OnOk, OnErr};
 ghost use Rattle.std.specs.List.{filter_map};
 ghost use Rattle.live_table.specs.Bodies.{bodies_of};
 ghost use Rattle.live_table.specs.Table.{IsTable};
@@ -12,6 +12,7 @@ use broad_index::Pair;
 use fixed_box::NoMemory;
 use live_table::{LiveTable, may_pair};
 use pair_events::HPair;
+use slot_lists::push_filter_mapped;
 
 /// Appends the pairs of live boxes that meet and may pair, in handles, of the pairs of slots that an index of the live boxes
 /// has: by the slot of the first, and then by that of the second. After an `Err` `out` is as before.
@@ -24,27 +25,15 @@ pub fn push_pairs(table: &LiveTable, pairs: &[Pair], out: &mut Vec<HPair>) -> Re
     ensures ok { OnOk result (out.new.items ≡ out.old.items ++ pairs_of table.now.entries) }
     ensures err { OnErr result (out.new.items ≡ out.old.items) }
 {
-    let before = out.len();
-    let pushed = push_touching(table, pairs, out);
-    if pushed.is_err() {
-        out.truncate(before);
-    }
-    pushed
+    push_touching(table, pairs, out)
 }
 
-// Appends those pairs of an index that may pair, in handles. What was there stays, after an `Err` too.
+// Appends those pairs of an index that may pair, in handles. After an `Err` `out` is as before.
 fn push_touching(table: &LiveTable, pairs: &[Pair], out: &mut Vec<HPair>) -> Result<(), NoMemory>
     ensures ok { OnOk result (out.new.items ≡ out.old.items ++ filter_map (touching table.now.entries) pairs.now) }
-    ensures kept { take (vec_len out.old) out.new.items ≡ out.old.items }
+    ensures err { OnErr result (out.new.items ≡ out.old.items) }
 {
-    let mut rest = pairs;
-    'pairs: while let Some((pair, more)) = rest.split_first() {
-        if let Some(touch) = touching(table, pair) {
-            out.push(touch)?;
-        }
-        rest = more;
-    }
-    Ok(())
+    push_filter_mapped(pairs, out, |pair| touching(table, pair))
 }
 
 // The pair of two slots, where both are live and may pair.

@@ -4,8 +4,8 @@ use Rattle.std.proofs.lemmas.Result.{on_ok_weaker}
 use Rattle.live_queries.proofs.Touches.{pairs_from_near}
 use Rattle.live_queries.proofs.pairs.push_pairs.Goals as goal
 
-pub returns-else-is_err-clause-ok : goal.returns-else-is_err-clause-ok
-returns-else-is_err-clause-ok c =
-    on_ok_weaker c.push_touching-pushed.result (λ is. is
+pub returns-clause-ok : goal.returns-clause-ok
+returns-clause-ok c =
+    on_ok_weaker c.push_touching.result (λ is. is
     ∙ ap (λ ps. c.args.out.now.items ++ ps) (pairs_from_near c.args.table.now c.args.pairs.now c.requires.table c.requires.near))
-    c.push_touching-pushed.ensures.ok
+    c.push_touching.ensures.ok
