@@ -3,21 +3,19 @@ use Rattle.std.proofs.Common.{inl, inr}
 use Rattle.std.proofs.Math.Seq.{take-length}
 use Rattle.std.proofs.lemmas.Bool.{or_cases, false≢true}
 use Rattle.std.proofs.Common.{◌≡◌, ◌⊎◌, ℕ, zero, suc, ◌+◌, ◌-◌, ◌<◌, ◌≤◌, Bool, true, false, cond, not, ◌&&◌, ◌||◌, ◌==◌, nat_lt, refl, sym, ap, ◌∙◌, subst}
-use Rattle.std.proofs.Common.{List, [], ◌∷◌, ◌++◌, map, length, take, drop, get_or, Some, arith}
-use Rattle.std.specs.List.{filter, drop-map, take-map}
-use Rattle.std.proofs.lemmas.List.Elements.{All-append, All-cons, All-drop, All-nil, All-take}
-use Rattle.std.proofs.lemmas.List.{append_assoc, map-append}
+use Rattle.std.proofs.Common.{List, [], ◌∷◌, ◌++◌, map, length, take, drop, get_or, option_map, All, Some, None, is_some, arith}
+use Rattle.std.specs.List.{cons_option, filter, filter_map, drop-map, take-map}
+use Rattle.std.proofs.lemmas.List.Elements.{All-cons, All-drop, All-nil, All-take}
 use Rattle.std.proofs.lemmas.Bool.Decides.{nat_tests}
 use Rattle.std.specs.Ordering.{nat_cmp}
-use Rattle.std.specs.FinMap.{FinMap, get}
+use Rattle.std.specs.FinMap.{FinMap, contains_key, get}
 use Rattle.fixed_box.specs.Bounds.{Bounds, meets}
 use Rattle.broad_index.specs.declared.pair.Pair.{Pair}
 use Rattle.broad_index.specs.Members.{has_pair, has_slot, both_meet}
 use Rattle.broad_index.specs.Touched.{ordered}
 use Rattle.hier_grid.specs.declared.slot_box.SlotBox.{SlotBox}
-use Rattle.hier_grid.specs.Buckets.{AreOf, pairs_up, met_pairs}
+use Rattle.hier_grid.specs.Buckets.{AreOf, boxed, pairs_up, met_pairs}
 use Rattle.hier_grid.specs.Search.{is_partner, IsSound}
-use Rattle.hier_grid.proofs.RunLemmas.{parted, rest_of}
 use Rattle.hier_grid.proofs.PartnerLemmas.{found_pairs, sound_pairs, pair_in}
 
 -- the slots of a list of boxes beside their slots
@@ -100,17 +98,18 @@ pub of_stretch : (bodies : FinMap nat_cmp Bounds) (es : List SlotBox) (from coun
 of_stretch bodies es from count h =
     All-take (λ e. get bodies e.slot ≡ Some e.body) count (drop from es) (All-drop (λ e. get bodies e.slot ≡ Some e.body) from es h)
 
--- ---- one more box beside its slot
-pub of_more : (bodies : FinMap nat_cmp Bounds) (es : List SlotBox) (e : SlotBox) → AreOf bodies es → get bodies e.slot ≡ Some e.body
-    → AreOf bodies (es ++ e ∷ [])
-of_more bodies es e h here =
-    let P : SlotBox → Type 0 = λ x. get bodies x.slot ≡ Some x.body in All-append P es (e ∷ []) h (All-cons P e [] here (All-nil P))
+abbrev beside : ℕ → Bounds → SlotBox
+beside slot body = record { slot = slot; body = body }
 
-pub slots_more : (es : List SlotBox) (e : SlotBox) (rest slots : List ℕ) → 1 ≤ length rest → e.slot ≡ get_or rest 0 0 → slots_of es ++ rest ≡ slots
-    → slots_of (es ++ e ∷ []) ++ rest_of rest ≡ slots
-slots_more es e rest slots l at h =
-    ap (λ xs. xs ++ rest_of rest) (map-append (λ (x : SlotBox). x.slot) es (e ∷ []))
-    ∙ append_assoc (slots_of es) (e.slot ∷ []) (rest_of rest)
-    ∙ ap (λ x. slots_of es ++ x ∷ rest_of rest) at
-    ∙ ap (λ xs. slots_of es ++ xs) (sym (parted rest l))
-    ∙ h
+-- slots that all have boxes, each beside its box
+pub all_boxed : (bodies : FinMap nat_cmp Bounds) (slots : List ℕ) → All (λ slot. contains_key bodies slot ≡ true) slots
+    → (slots_of (filter_map (boxed bodies) slots) ≡ slots) × AreOf bodies (filter_map (boxed bodies) slots)
+all_boxed bodies [] h = (refl, All-nil (λ (e : SlotBox). get bodies e.slot ≡ Some e.body))
+all_boxed bodies (s ∷ ss) h =
+    let es = filter_map (boxed bodies) ss in
+    let rest = all_boxed bodies ss (λ i d l. h (suc i) d (omega arith)) in
+    elim (get bodies s) as (λ o. get bodies s ≡ o → is_some o ≡ true → (slots_of (cons_option (option_map (beside s) o) es) ≡ s ∷ ss)
+    × AreOf bodies (cons_option (option_map (beside s) o) es)) [
+      | None ↦ λ _ t. absurd (false≢true t)
+      | Some b ↦ λ at _. (ap (λ l. s ∷ l) rest.0, All-cons (λ (e : SlotBox). get bodies e.slot ≡ Some e.body) (beside s b) es at rest.1)
+    ] refl (h 0 s (omega arith))

@@ -1,6 +1,7 @@
 -- A slot's partners among candidates.
-use Rattle.std.proofs.Common.{◌≡◌, ℕ, ◌<◌, Bool, true, false, not, ◌&&◌, ◌||◌, ◌==◌, nat_lt, List, [], ◌++◌, Some, refl, sym, ap, ◌∙◌, arith, inl, inr}
-use Rattle.std.specs.List.{filter}
+use Rattle.std.proofs.Common.{◌≡◌, ℕ, ◌<◌, Bool, true, false, cond, not, ◌&&◌, ◌||◌, ◌==◌, nat_lt, refl, sym, ap, ◌∙◌, arith, inl, inr}
+use Rattle.std.proofs.Common.{List, [], ◌∷◌, ◌++◌, map, Some, None}
+use Rattle.std.specs.List.{cons_option, filter, filter_map}
 use Rattle.std.proofs.lemmas.Bool.{and_parts, and_from, or_cases, false≢true}
 use Rattle.std.proofs.lemmas.Bool.Decides.{nat_tests}
 use Rattle.std.proofs.lemmas.List.Folds.{list_any-append}
@@ -44,6 +45,17 @@ partner_in bodies slot body any slots old q b e m other due h =
 
 pub higher : (s q : ℕ) → s < q → (false || nat_lt s q) ≡ true
 higher s q lt = grind (arith, nat_tests)
+
+-- a pair is made of each that passes a test
+pub made_pairs : {X : Type 0} (test : X → Bool) (made : X → Pair) (xs : List X)
+    → filter_map (λ x. cond (test x) (Some (made x)) None) xs ≡ map made (filter test xs)
+made_pairs test made [] = refl
+made_pairs test made (x ∷ xs) = elim (test x) as
+    (λ t. cons_option (cond t (Some (made x)) None) (filter_map (λ y. cond (test y) (Some (made y)) None) xs)
+    ≡ map made (cond t (x ∷ filter test xs) (filter test xs))) [
+      | true ↦ ap (λ ps. made x ∷ ps) (made_pairs test made xs)
+      | false ↦ made_pairs test made xs
+    ]
 
 -- ---- a slot's pairs with its partners among candidates
 abbrev pub found_pairs : FinMap nat_cmp Bounds → ℕ → Bounds → Bool → List ℕ → List Pair

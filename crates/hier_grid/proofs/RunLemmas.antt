@@ -36,7 +36,7 @@ finds_more cell bodies slot old new more f body own q b e m other due = more (or
 abbrev pub rest_of : List ℕ → List ℕ
 rest_of xs = take (length xs - 1) (drop 1 xs)
 
-pub parted : (xs : List ℕ) → 1 ≤ length xs → xs ≡ get_or xs 0 0 ∷ rest_of xs
+parted : (xs : List ℕ) → 1 ≤ length xs → xs ≡ get_or xs 0 0 ∷ rest_of xs
 parted [] l = absurd (omega arith)
 parted (x ∷ xs) l = let n : length (x ∷ xs) - 1 ≡ length xs = omega arith in ap (λ ys. x ∷ ys) (sym (ap (λ k. take k xs) n ∙ take-length xs))
 

@@ -1,5 +1,5 @@
 -- Serves proofs alone: boxes beside their slots by bucket, and what is found among them.
-use Rattle.std.specs.Prelude.{◌≡◌, refl, ℕ, ◌<◌, Bool, true, not, ◌&&◌, ◌||◌, ◌==◌, nat_lt, List, map, filter, Some, IfSome, All}
+use Rattle.std.specs.Prelude.{◌≡◌, refl, ℕ, ◌<◌, Bool, true, not, ◌&&◌, ◌||◌, ◌==◌, nat_lt, List, map, filter, Option, option_map, Some, IfSome, All}
 use Rattle.std.specs.Ordering.{nat_cmp}
 use Rattle.std.specs.Coded.{Coded, code_by, coded×, coded_ℕ}
 use Rattle.std.specs.FinMap.{FinMap, code, get}
@@ -18,6 +18,10 @@ use Rattle.hier_grid.specs.Standing.{AreStanding, IsMerged, standing_cell}
 -- beside each slot stands its box
 abbrev pub AreOf : FinMap nat_cmp Bounds → List SlotBox → Type 0
 AreOf bodies entries = All (λ e. get bodies e.slot ≡ Some e.body) entries
+
+-- a slot beside its box, if it has one
+abbrev pub boxed : FinMap nat_cmp Bounds → ℕ → Option SlotBox
+boxed bodies slot = option_map (λ body. record { slot = slot; body = body }) (get bodies slot)
 
 -- all boxes, in the order in which the slots of the cells are listed in which they stand
 pub record HasBuckets (bodies : FinMap nat_cmp Bounds) (boxes : BucketBoxes) : Type 0 where

@@ -1,11 +1,12 @@
 //! Copies of all boxes in the order of buckets, so that a row of cells is compared in place.
 
-ghost use Rattle.std.specs.Prelude.{◌≡◌, ◌<◌, ◌++◌, true, None, OnOk, All, length, map as mapped};
+ghost use Rattle.std.specs.Prelude.{◌≡◌, ◌<◌, ◌++◌, true, cond, Some, None, OnOk, OnErr, All, length, map as mapped};
 ghost use Rattle.std.specs.FinMap as map;
 ghost use Rattle.std.specs.Ordering.{nat_cmp};
 ghost use Rattle.fixed_box.specs.Bounds.{Bounds};
+ghost use Rattle.broad_index.specs.Touched.{ordered};
 ghost use Rattle.hier_grid.specs.Cells.{IsAmong, IsInBlock, IsInPlane, IsInRow};
-ghost use Rattle.hier_grid.specs.Buckets.{AreOf, FindsIn, HasBuckets, KeepsMerged, pairs_up, met_pairs};
+ghost use Rattle.hier_grid.specs.Buckets.{AreOf, FindsIn, HasBuckets, KeepsMerged, boxed, pairs_up, met_pairs};
 ghost use Rattle.hier_grid.specs.Standing.{AreStanding};
 
 use crate::cell_block::CellBlock;
@@ -20,7 +21,7 @@ use crate::slot_box::SlotBox;
 use broad_index::Pair;
 use cell_table::{BucketList, CellKey, CellTable, LEVELS};
 use fixed_box::{FBox, NoMemory, SLOTS};
-use slot_lists::SlotBoxes;
+use slot_lists::{SlotBoxes, push_filter_mapped};
 use std::alloc::Global;
 
 /// All boxes beside their slots in the order of the buckets of the cells in which they stand, copied once for the searches of
@@ -225,34 +226,44 @@ fn list_boxes(boxes: &SlotBoxes, slots: &[u32], out: &mut Vec<SlotBox>) -> Resul
     ensures right { OnOk result (AreOf boxes.now out.new.items) }
 {
     out.clear();
-    let mut rest = slots;
-    'slots: while let [slot, more @ ..] = rest {
-        let body = boxes.box_of(*slot).unwrap();
-        out.push(SlotBox { slot: *slot, body })?;
-        rest = more;
-    }
+    push_filter_mapped(slots, out, |slot| boxed(boxes, *slot))?;
     Ok(())
 }
 
-// Appends the pairs of a slot with its partners among others.
+// A slot beside its box, if it has one.
+fn boxed(boxes: &SlotBoxes, slot: u32) -> Option<SlotBox>
+    ensures { result ≡ boxed boxes.now slot }
+{
+    let body = boxes.box_of(slot)?;
+    Some(SlotBox { slot, body })
+}
+
+// Appends the pairs of a slot with its partners among others. After an `Err` `pairs` is as before.
 fn push_met(
     own: &SlotBox,
     any: bool,
     others: &[SlotBox],
     pairs: &mut Vec<Pair>,
 ) -> Result<(), NoMemory>
-    ensures { OnOk result (pairs.new.items ≡ pairs.old.items ++ met_pairs own.now any others.now) }
+    ensures ok { OnOk result (pairs.new.items ≡ pairs.old.items ++ met_pairs own.now any others.now) }
+    ensures err { OnErr result (pairs.new.items ≡ pairs.old.items) }
 {
     // a copy, which no push can change: so it is read once
     let mine = *own;
-    let mut rest = others;
-    'others: while let [other, more @ ..] = rest {
-        if pairs_up(&mine, any, other) {
-            pairs.push(Pair::ordered(mine.slot, other.slot))?;
-        }
-        rest = more;
-    }
+    push_filter_mapped(others, pairs, move |other| pair_with(&mine, any, other))?;
     Ok(())
+}
+
+// A slot's pair with another box, if that is a partner.
+#[inline(always)]
+fn pair_with(own: &SlotBox, any: bool, other: &SlotBox) -> Option<Pair>
+    ensures { result ≡ cond (pairs_up own.now any other.now) (Some (ordered own.now.slot other.now.slot)) None }
+{
+    if pairs_up(own, any, other) {
+        Some(Pair::ordered(own.slot, other.slot))
+    } else {
+        None
+    }
 }
 
 // Whether another box is a partner. No branch is taken on which slots may be partners, since that is past telling

@@ -16,7 +16,7 @@ use broad_index::{Query, push_rising_slots};
 use cell_table::LEVELS;
 use fixed_box::{FBox, NoMemory};
 use prepared_query::{BoxTest, LineTest};
-use slot_lists::SlotBoxes;
+use slot_lists::{SlotBoxes, push_filtered};
 use std::alloc::Global;
 
 /// Appends the present slots whose boxes meet a query, rising. After an `Err` `out` is as before.
@@ -106,23 +106,17 @@ fn push_found<T: BoxTest>(
     push_rising_slots(&mut hits, out)
 }
 
-// Appends those of some slots whose boxes meet a query.
+// Appends those of some slots whose boxes meet a query. After an `Err` `out` is as before.
 fn push_met<T: BoxTest>(
     boxes: &SlotBoxes,
     slots: &[u32],
     test: &T,
     out: &mut Vec<u32>,
 ) -> Result<(), NoMemory>
-    ensures { OnOk result (out.new.items ≡ out.old.items ++ filter (is_found boxes.now (T.asks test.now)) slots.now) }
+    ensures ok { OnOk result (out.new.items ≡ out.old.items ++ filter (is_found boxes.now (T.asks test.now)) slots.now) }
+    ensures err { OnErr result (out.new.items ≡ out.old.items) }
 {
-    let mut rest = slots;
-    'slots: while let [slot, more @ ..] = rest {
-        if is_found(boxes, *slot, test) {
-            out.push(*slot)?;
-        }
-        rest = more;
-    }
-    Ok(())
+    push_filtered(slots, out, |slot| is_found(boxes, *slot, test))
 }
 
 // Whether a slot has a box that meets a query.

@@ -1,6 +1,6 @@
 //! The boxes of one level in columns for vector lanes, beside their slots.
 
-ghost use Rattle.std.specs.Prelude.{◌≡◌, ℕ, ◌+◌, ◌-◌, ◌<◌, ◌≤◌, ◌^◌, [], ◌∷◌, ◌++◌, true, IfOk, OnOk};
+ghost use Rattle.std.specs.Prelude.{◌≡◌, ℕ, ◌+◌, ◌-◌, ◌<◌, ◌≤◌, ◌^◌, [], ◌∷◌, ◌++◌, true, IfOk, OnOk, OnErr};
 ghost use Rattle.std.specs.Prelude.{length, map, slice_index, slice_index_or, slice_set, swap_remove};
 ghost use Rattle.fixed_box.specs.Bounds.{meets};
 ghost use Rattle.broad_index.specs.Members.{has_slot};
@@ -9,6 +9,7 @@ ghost use Rattle.hier_grid.specs.Search.{HasMore};
 
 use fixed_box::{FBox, NoMemory, SLOTS};
 use lane_boxes::Columns;
+use slot_lists::push_mapped;
 use std::alloc::Global;
 use std::marker::Model;
 
@@ -109,16 +110,12 @@ impl LevelColumns {
     }
 }
 
-// Appends the slots at some places.
+// Appends the slots at some places. After an `Err` `out` is as before.
 fn push_slots(slots: &[u32], places: &[u32], out: &mut Vec<u32>) -> Result<(), NoMemory>
-    ensures { OnOk result (out.new.items ≡ out.old.items ++ map (slice_index slots.now) places.now) }
+    ensures ok { OnOk result (out.new.items ≡ out.old.items ++ map (slice_index slots.now) places.now) }
+    ensures err { OnErr result (out.new.items ≡ out.old.items) }
 {
-    let mut rest = places;
-    'places: while let [place, more @ ..] = rest {
-        out.push(slot_at(slots, *place))?;
-        rest = more;
-    }
-    Ok(())
+    push_mapped(places, out, |place| slot_at(slots, *place))
 }
 
 // The slot at a place, and 0 at none.

@@ -1,34 +1,29 @@
 //! Which candidates are partners of a slot: another slot whose box meets its box.
 
-ghost use Rattle.std.specs.Prelude.{◌≡◌, ◌++◌, ◌==◌, ◌&&◌, ◌||◌, true, not, nat_lt, filter, OnOk};
-ghost use Rattle.broad_index.specs.Touched.{ordered_pairs};
+ghost use Rattle.std.specs.Prelude.{◌≡◌, ◌++◌, ◌==◌, ◌&&◌, ◌||◌, true, not, nat_lt, cond, filter, Some, None, OnOk, OnErr};
+ghost use Rattle.broad_index.specs.Touched.{ordered, ordered_pairs};
 ghost use Rattle.hier_grid.specs.Search.{is_partner, meets_at};
 
 use crate::slot_box::SlotBox;
 use broad_index::Pair;
 use fixed_box::{FBox, NoMemory};
-use slot_lists::SlotBoxes;
+use slot_lists::{SlotBoxes, push_filter_mapped, push_filtered};
 
-/// Appends a slot's partners among others.
+/// Appends a slot's partners among others. After an `Err` `out` is as before.
 pub(crate) fn push_partners(
     boxes: &SlotBoxes,
     own: &SlotBox,
     slots: &[u32],
     out: &mut Vec<u32>,
 ) -> Result<(), NoMemory>
-    ensures { OnOk result (out.new.items ≡ out.old.items ++ filter (is_partner boxes.now own.now.slot own.now.body true) slots.now) }
+    ensures ok { OnOk result (out.new.items ≡ out.old.items ++ filter (is_partner boxes.now own.now.slot own.now.body true) slots.now) }
+    ensures err { OnErr result (out.new.items ≡ out.old.items) }
 {
-    let mut rest = slots;
-    'slots: while let [other, more @ ..] = rest {
-        if is_partner(boxes, own, true, *other) {
-            out.push(*other)?;
-        }
-        rest = more;
-    }
-    Ok(())
+    push_filtered(slots, out, |other| is_partner(boxes, own, true, *other))
 }
 
-/// Appends a slot's pairs with its partners among others, either any or those with higher slots alone.
+/// Appends a slot's pairs with its partners among others, either any or those with higher slots alone. After an `Err` `out` is
+/// as before.
 pub(crate) fn push_pairs(
     boxes: &SlotBoxes,
     own: &SlotBox,
@@ -36,17 +31,24 @@ pub(crate) fn push_pairs(
     slots: &[u32],
     out: &mut Vec<Pair>,
 ) -> Result<(), NoMemory>
-    ensures { OnOk result (out.new.items
+    ensures ok { OnOk result (out.new.items
         ≡ out.old.items ++ ordered_pairs own.now.slot (filter (is_partner boxes.now own.now.slot own.now.body any) slots.now)) }
+    ensures err { OnErr result (out.new.items ≡ out.old.items) }
 {
-    let mut rest = slots;
-    'slots: while let [other, more @ ..] = rest {
-        if is_partner(boxes, own, any, *other) {
-            out.push(Pair::ordered(own.slot, *other))?;
-        }
-        rest = more;
-    }
+    push_filter_mapped(slots, out, |other| pair_with(boxes, own, any, *other))?;
     Ok(())
+}
+
+// A slot's pair with another, if that is a partner.
+#[inline(always)]
+fn pair_with(boxes: &SlotBoxes, own: &SlotBox, any: bool, other: u32) -> Option<Pair>
+    ensures { result ≡ cond (is_partner boxes.now own.now.slot own.now.body any other) (Some (ordered own.now.slot other)) None }
+{
+    if is_partner(boxes, own, any, other) {
+        Some(Pair::ordered(own.slot, other))
+    } else {
+        None
+    }
 }
 
 // Whether another slot is a partner. No branch is taken on which slots may be partners, since that is past telling

@@ -34,9 +34,9 @@ returns c bodies filled =
     let of_row = of_stretch bodies es row.from (row.to - row.from) filled.right in
     let of_front = of_stretch bodies es 0 row.wrapped filled.right in
     let first : mid ≡ old ++ met_pairs mine any stretch =
-    c.in_ok-push_met.ensures ∙ ap (λ l. old ++ met_pairs mine any (take (row.to - row.from) (drop row.from l))) c.deref.ensures.value in
+    c.in_ok-push_met.ensures.ok ∙ ap (λ l. old ++ met_pairs mine any (take (row.to - row.from) (drop row.from l))) c.deref.ensures.value in
     let last : c.push_met-2.new.pairs.items ≡ mid ++ met_pairs mine any (take row.wrapped es) =
-    c.in_ok-push_met-2.ensures ∙ ap (λ l. mid ++ met_pairs mine any (take row.wrapped l)) c.deref-2.ensures.value in
+    c.in_ok-push_met-2.ensures.ok ∙ ap (λ l. mid ++ met_pairs mine any (take row.wrapped l)) c.deref-2.ensures.value in
     record {
       sound = λ own s. subst (IsSound bodies) (sym last) (sound_met bodies mine any (take row.wrapped es) mid of_front own
           (subst (IsSound bodies) (sym first) (sound_met bodies mine any stretch old of_row own s)));

@@ -14,7 +14,7 @@ returns c =
     let any = c.args.any in
     let old = c.args.self.now.pairs.items in
     let slots = c.deref.result.now in
-    let is : c.push_pairs.new.out.items ≡ old ++ found_pairs boxes own.slot own.body any slots = c.in_ok-push_pairs.ensures in
+    let is : c.push_pairs.new.out.items ≡ old ++ found_pairs boxes own.slot own.body any slots = c.in_ok-push_pairs.ensures.ok in
     record {
       sound = λ here s. subst (IsSound boxes) (sym is) (sound_pairs boxes own.slot own.body any slots old here s);
       more = subst (HasPairs old) (sym is) (more_pairs old (found_pairs boxes own.slot own.body any slots));
