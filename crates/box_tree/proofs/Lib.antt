@@ -3,6 +3,7 @@ pub mod LeafTies
 pub mod Soundness
 pub mod Changes
 pub mod Fats
+pub mod MarkedLeaves
 pub mod Searching
 pub mod SharedSlots
 pub mod TouchedPairs

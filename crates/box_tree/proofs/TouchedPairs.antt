@@ -2,7 +2,7 @@
 use Rattle.std.proofs.Common.{◌≡◌, ℕ, zero, suc, ◌+◌, ◌<◌, Bool, true, false, cond, ◌&&◌, ◌||◌, ◌==◌, Option, None, Some, List, [], ◌∷◌, ◌++◌}
 use Rattle.std.proofs.Common.{length, map, get_or, refl, sym, ap, ◌∙◌, subst, arith}
 use Rattle.std.specs.FinMap.{get}
-use Rattle.std.specs.List.{sum}
+use Rattle.std.specs.List.{cons_option, sum}
 use Rattle.std.proofs.lemmas.List.Sums.{sum_by-cons}
 use Rattle.box_tree.specs.Boxes.{visits_for}
 use Rattle.std.proofs.lemmas.Bool.{eq-eqb}
@@ -14,7 +14,7 @@ use Rattle.broad_index.specs.Touched.{ordered_pairs, gathered_with, AreKept, Are
 use Rattle.tree_nodes.specs.Tree.{Tree, Leaf, leaves}
 use Rattle.tree_search.specs.Exact.{entry_of, exact, exact_in}
 use Rattle.tree_search.specs.Crossed.{touched_of, crossed, all_visits_in, AreOf}
-use Rattle.box_tree.specs.Searches.{boxed, reached_by, reached_in, searches}
+use Rattle.box_tree.specs.Searches.{with_box, boxed, reached_by, reached_in, searches}
 use Rattle.box_tree.specs.Ties.{HaveLeaves}
 use Rattle.box_tree.proofs.LeafTies.{some_there}
 use Rattle.box_tree.proofs.Searching.{ReachLaw, RenewingLaw, has_marked, all_reached, searched_slots, exact_held}
@@ -40,18 +40,23 @@ module _ (bodies : List (Option Bounds)) where
         | false ↦ touched_own marks es own.1
       ]
 
+  box_own : (s : ℕ) (p : Option Bounds) (es : List (ℕ × Bounds)) → get_or bodies s None ≡ p → AreOf bodies es
+      → AreOf bodies (cons_option (with_box s p) es)
+  box_own s None es e own = own
+  box_own s (Some b) es e own = (e, own)
+
   pub boxed_own : (slots : List ℕ) → AreOf bodies (boxed bodies slots)
   boxed_own [] = tt
-  boxed_own (x ∷ xs) = entry_own x (get_or bodies x None) (boxed bodies xs) refl (boxed_own xs)
+  boxed_own (x ∷ xs) = box_own x (get_or bodies x None) (boxed bodies xs) refl (boxed_own xs)
 
   -- entries are the boxes of their slots
   pub own_boxed : (es : List (ℕ × Bounds)) → AreOf bodies es → boxed bodies (map (λ (e : ℕ × Bounds). e.0) es) ≡ es
   own_boxed [] own = refl
   own_boxed (e ∷ es) own =
-      ap (λ p. entry_of e.0 p ++ boxed bodies (map (λ (x : ℕ × Bounds). x.0) es)) own.0 ∙ ap (λ xs. e ∷ xs) (own_boxed es own.1)
+      ap (λ p. cons_option (with_box e.0 p) (boxed bodies (map (λ (x : ℕ × Bounds). x.0) es))) own.0 ∙ ap (λ xs. e ∷ xs) (own_boxed es own.1)
 
   crossed_entry : (o : Option Tree) (k : ℕ) (p : Option Bounds) (rest : List (ℕ × Bounds))
-      → crossed (exact_in bodies o) (entry_of k p ++ rest) ≡ ordered_pairs k (reached_by bodies o k p) ++ crossed (exact_in bodies o) rest
+      → crossed (exact_in bodies o) (cons_option (with_box k p) rest) ≡ ordered_pairs k (reached_by bodies o k p) ++ crossed (exact_in bodies o) rest
   crossed_entry o k None rest = refl
   crossed_entry o k (Some b) rest = refl
 
@@ -63,7 +68,7 @@ module _ (bodies : List (Option Bounds)) where
       ∙ ap (λ ps. ordered_pairs x (reached_in bodies o x) ++ ps) (crossed_boxed o xs)
 
   visits_entry : (o : Option Tree) (k : ℕ) (p : Option Bounds) (rest : List (ℕ × Bounds))
-      → all_visits_in o (entry_of k p ++ rest) ≡ visits_for o p + all_visits_in o rest
+      → all_visits_in o (cons_option (with_box k p) rest) ≡ visits_for o p + all_visits_in o rest
   visits_entry o k None rest = omega arith
   visits_entry o k (Some b) rest = refl
 

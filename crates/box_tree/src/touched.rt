@@ -1,7 +1,7 @@
 //! The search for touched slots: in groups along the preorder list, or one by one where few are touched.
 
 ghost use Rattle.std.specs.Prelude.{◌≡◌, ◌≤◌, ◌++◌, List, [], length};
-ghost use Rattle.std.specs.Prelude.{OnOk, IfOk};
+ghost use Rattle.std.specs.Prelude.{OnOk, OnErr, IfOk};
 ghost use Rattle.slot_lists.specs.SlotMap.{map_of};
 ghost use Rattle.broad_index.specs.declared.pair.Pair.{Pair};
 ghost use Rattle.broad_index.specs.Touched.{gathered_with, AreKept, Renewed};
@@ -22,6 +22,7 @@ use crate::tree_boxes::TreeBoxes;
 use crate::tree_listing::{TreeListing, list_nodes};
 use broad_index::{holding_laws, keeping_laws};
 use fixed_box::{FBox, NoMemory};
+use slot_lists::push_filter_mapped;
 use tree_search::{ListedNode, SearchRoom, SlotMarks, TreeFindings, listing_law, search_boxes};
 
 // From how many touched slots on they are searched for in groups. For fewer it doesn't pay to walk over the tree.
@@ -116,18 +117,12 @@ pub(crate) fn search_run(
     Ok(many)
 }
 
-// Appends each slot that has a box with it.
+// Appends each slot that has a box with it. After an `Err` `out` is as before.
 fn push_boxes(boxes: &TreeBoxes, slots: &[u32], out: &mut Vec<(u32, FBox)>) -> Result<(), NoMemory>
-    ensures { OnOk result (out.new.items ≡ out.old.items ++ boxed boxes.now.bodies slots.now) }
+    ensures ok { OnOk result (out.new.items ≡ out.old.items ++ boxed boxes.now.bodies slots.now) }
+    ensures err { OnErr result (out.new.items ≡ out.old.items) }
 {
-    let mut rest = slots;
-    'slots: while let [slot, more @ ..] = rest {
-        if let Some(body) = boxes.box_of(*slot) {
-            out.push((*slot, body))?;
-        }
-        rest = more;
-    }
-    Ok(())
+    push_filter_mapped(slots, out, |slot| Some((*slot, boxes.box_of(*slot)?)))
 }
 
 // Searches for the touched boxes of a room in the list of the nodes.

@@ -11,7 +11,7 @@ pub returns-clause-ok : goal.returns-clause-ok
 returns-clause-ok c =
     let marks = c.args.marks.now in
     let k = c.args.boxes.now in
-    c.in_ok-push_marked_slots-2.ensures
+    c.in_ok-push_marked_slots-2.ensures.ok
     ∙ ap (λ l. l ++ map (λ (e : ℕ × Bounds). e.0) (touched_of marks (listed c.deref.result.now))) c.requires.empty
     ∙ ap (λ l. map (λ (e : ℕ × Bounds). e.0) (touched_of marks (listed l))) (c.deref.ensures.value ∙ c.in_ok-list_nodes.ensures)
     ∙ ap (λ es. map (λ (e : ℕ × Bounds). e.0) (touched_of marks es)) (c.listing_law.ensures k.bodies k.tree)
@@ -28,7 +28,7 @@ returns-in-Some-clause-ok c =
     let there : c.in-Some.list.now ≡ preorder_in k.bodies k.tree =
     list_there c.if_fresh.result c.in-Some.list c.args.listing.now.fresh c.args.listing.now.nodes.items (preorder_in k.bodies k.tree)
     c.if_fresh.ensures c.requires.listed c.in-Some.is in
-    c.in_ok-push_marked_slots.ensures
+    c.in_ok-push_marked_slots.ensures.ok
     ∙ ap (λ l. l ++ map (λ (e : ℕ × Bounds). e.0) (touched_of marks (listed c.in-Some.list.now))) c.requires.empty
     ∙ ap (λ l. map (λ (e : ℕ × Bounds). e.0) (touched_of marks (listed l))) there
     ∙ ap (λ es. map (λ (e : ℕ × Bounds). e.0) (touched_of marks es)) (c.listing_law.ensures k.bodies k.tree)

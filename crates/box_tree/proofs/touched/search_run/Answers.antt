@@ -18,14 +18,14 @@ search_groups-requires-clause-list c =
 pub search_groups-requires-clause-touched : goal.search_groups-requires-clause-touched
 search_groups-requires-clause-touched c =
     let bs = c.args.boxes.now.bodies in
-    subst (AreOf bs) (sym (c.in_ok-push_boxes.ensures ∙ ap (λ es. es ++ boxed bs c.args.slots.now) c.clear.ensures.items)) (boxed_own bs c.args.slots.now)
+    subst (AreOf bs) (sym (c.in_ok-push_boxes.ensures.ok ∙ ap (λ es. es ++ boxed bs c.args.slots.now) c.clear.ensures.items)) (boxed_own bs c.args.slots.now)
 
 pub returns-clause-ok : goal.returns-clause-ok
 returns-clause-ok c =
     let bs = c.args.boxes.now.bodies in
     subst (Adds c.args.found.now.pairs.items c.search_groups.new.found.pairs.items)
     (ap (crossed (exact_in bs c.args.boxes.now.tree))
-    (c.in_ok-push_boxes.ensures ∙ ap (λ es. es ++ boxed bs c.args.slots.now) c.clear.ensures.items)
+    (c.in_ok-push_boxes.ensures.ok ∙ ap (λ es. es ++ boxed bs c.args.slots.now) c.clear.ensures.items)
     ∙ crossed_boxed bs c.args.boxes.now.tree c.args.slots.now)
     c.in_ok-many.ensures.ok
 
@@ -34,5 +34,5 @@ returns-clause-count c =
     let bs = c.args.boxes.now.bodies in
     c.in_ok-many.ensures.count
     ∙ ap (λ es. raised c.args.looked (all_visits_in c.args.boxes.now.tree es))
-    (c.in_ok-push_boxes.ensures ∙ ap (λ es. es ++ boxed bs c.args.slots.now) c.clear.ensures.items)
+    (c.in_ok-push_boxes.ensures.ok ∙ ap (λ es. es ++ boxed bs c.args.slots.now) c.clear.ensures.items)
     ∙ ap (raised c.args.looked) (visits_boxed bs c.args.boxes.now.tree c.args.slots.now)

@@ -30,7 +30,7 @@ search_groups-requires-clause-touched c =
     let s = c.kept_law.ensures.kept in
     let marks = c.args.marks.now in
     along_own c.args.boxes.now.tree c.args.boxes.now.bodies c.args.boxes.now.fats s marks c.push_marked.new.out.items
-    (c.in_ok-push_marked.ensures ∙ ap (λ es. es ++ touched_of marks (listed c.deref-2.result.now)) c.clear-3.ensures.items
+    (c.in_ok-push_marked.ensures.ok ∙ ap (λ es. es ++ touched_of marks (listed c.deref-2.result.now)) c.clear-3.ensures.items
     ∙ ap (λ l. touched_of marks (listed l)) (c.deref-2.ensures.value ∙ c.in_ok-refresh.ensures.nodes)
     ∙ ap (touched_of marks) (c.listing_law.ensures c.args.boxes.now.bodies c.args.boxes.now.tree))
 
@@ -40,7 +40,7 @@ returns-clause-ok c =
     let marks = c.args.marks.now in
     renewed_along c.args.boxes.now.tree c.args.boxes.now.bodies c.args.boxes.now.fats s marks c.holding_laws.ensures.reach c.keeping_laws.ensures.renewing
     c.push_marked.new.out.items c.clear.new.self.items c.search_groups.new.found.pairs.items
-    (c.in_ok-push_marked.ensures ∙ ap (λ es. es ++ touched_of marks (listed c.deref-2.result.now)) c.clear-3.ensures.items
+    (c.in_ok-push_marked.ensures.ok ∙ ap (λ es. es ++ touched_of marks (listed c.deref-2.result.now)) c.clear-3.ensures.items
     ∙ ap (λ l. touched_of marks (listed l)) (c.deref-2.ensures.value ∙ c.in_ok-refresh.ensures.nodes)
     ∙ ap (touched_of marks) (c.listing_law.ensures c.args.boxes.now.bodies c.args.boxes.now.tree))
     c.clear.ensures.items c.in_ok-many.ensures.ok
@@ -51,7 +51,7 @@ returns-clause-count c =
     let marks = c.args.marks.now in
     c.in_ok-many.ensures.count
     ∙ ap (λ es. raised c.args.looked (all_visits_in c.args.boxes.now.tree es))
-    (c.in_ok-push_marked.ensures ∙ ap (λ es. es ++ touched_of marks (listed c.deref-2.result.now)) c.clear-3.ensures.items
+    (c.in_ok-push_marked.ensures.ok ∙ ap (λ es. es ++ touched_of marks (listed c.deref-2.result.now)) c.clear-3.ensures.items
     ∙ ap (λ l. touched_of marks (listed l)) (c.deref-2.ensures.value ∙ c.in_ok-refresh.ensures.nodes)
     ∙ ap (touched_of marks) (c.listing_law.ensures c.args.boxes.now.bodies c.args.boxes.now.tree))
     ∙ ap (raised c.args.looked) (touched_total c.args.boxes.now.tree c.args.boxes.now.bodies c.args.boxes.now.fats s marks)
