@@ -1,6 +1,6 @@
 -- Serves proofs alone: what each change, frame, mark and way back makes of the worlds that the marks stand for, and of the way
 -- back to them.
-use Rattle.std.proofs.Common.{◌≡◌, ◌≢◌, ℕ, suc, true, false, nat_lt, List, [], ◌∷◌, ◌++◌, Option, Some, None, reverse, length, refl}
+use Rattle.std.proofs.Common.{◌≡◌, ◌≢◌, ℕ, ◌+◌, suc, true, false, nat_lt, List, [], ◌∷◌, ◌++◌, Option, Some, None, reverse, length, refl}
 use Rattle.std.proofs.Common.{sym, ap, ◌∙◌, subst, arith}
 use Rattle.std.proofs.lemmas.List.{reverse-append, length-reverse}
 use Rattle.live_table.specs.Table.{Table}
@@ -179,3 +179,18 @@ same_worlds v w (m ∷ older) table last =
     let same : marked_world v m ≡ marked_world w m = same_world _ _ _ _ m.frames m.frames m.exchanges m.exchanges (ap (undone m.undos) table)
     (ap (or_kept m.kept) last) refl refl in
     ap (λ u. u ∷ worlds_back u older) same
+
+-- a frame is counted, whose pairs are the last ones now
+pub counted_time : (v w : World) (ps : List HPair) (ms : List Mark) (ws : List World) (x : ℕ)
+    → ◌≡◌ {A = Timeline} (record { now = v; marks = worlds_back v ms }) (record { now = record w { last = ps }; marks = ws }) → x ≡ 0
+    → ◌≡◌ {A = Timeline} (record {
+      now = record v { frames = v.frames + 1; exchanges = x };
+      marks = worlds_back (record v { frames = v.frames + 1; exchanges = x }) ms;
+    }) (record { now = record w { last = ps; frames = w.frames + 1; exchanges = 0 }; marks = ws })
+counted_time v w ps ms ws x told none =
+    let last : v ≡ record w { last = ps } = ap (λ t. t.now) told in
+    let now : World = record v { frames = v.frames + 1; exchanges = x } in
+    same_time now (record w { last = ps; frames = w.frames + 1; exchanges = 0 }) (worlds_back now ms) ws
+    (ap (λ (u : World). record u { frames = u.frames + 1; exchanges = x }) last
+    ∙ ap (λ n. record w { last = ps; frames = w.frames + 1; exchanges = n }) none)
+    (same_worlds now v ms refl refl ∙ ap (λ t. t.marks) told)

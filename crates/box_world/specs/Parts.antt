@@ -6,9 +6,15 @@ use Rattle.fixed_box.specs.Bounds.{Bounds}
 use Rattle.live_table.specs.declared.live.Live.{Live}
 use Rattle.live_table.specs.Bodies.{bodies_of}
 use Rattle.live_table.specs.Table.{Table, IsTable}
+use Rattle.pair_events.specs.declared.hpair.HPair.{HPair}
+use Rattle.pair_events.specs.declared.told.Told.{Told}
+use Rattle.pair_events.specs.PairEvents.{events}
+use Rattle.live_queries.specs.Pairs.{pairs_of}
 use Rattle.world_marks.specs.Marks.{Mark, IsReturn, or_kept}
 use Rattle.world_marks.specs.Undone.{undone}
 use Rattle.box_world.specs.declared.parts.Parts.{Parts}
+use Rattle.box_world.specs.declared.since.Since.{Since}
+use Rattle.box_world.specs.declared.since.Since.TheVariants.{Changed, SamePairs, SameEvents}
 use Rattle.box_world.specs.declared.refusal.Refusal.{Refusal}
 use Rattle.box_world.specs.declared.refusal.Refusal.TheVariants.{Stale, Full, Exhausted, NoMemory}
 use Rattle.box_world.specs.World.{World, Timeline}
@@ -42,20 +48,36 @@ timeline_in exchanges p = timeline (world_in exchanges p) p.marks.marks
 abbrev pub state_in : {B : Type 0} → (B → ℕ) → Bool → Parts B → State
 state_in exchanges spent p = record { time = timeline_in exchanges p; told = p.events.items; spent = spent }
 
--- What holds while memory hasn't run out in a change: the index has the live boxes, there is a way back to each mark, and the
--- exchanges fit 64 bits.
+-- What of the last frame still holds: nothing is known after a change; else its pairs are those of the boxes as they stand, and it may be
+-- told that each of them stayed.
+abbrev pub StillHolds : Since → List Live → List HPair → List Told → Type 0
+StillHolds Changed entries last told = Unit {0}
+StillHolds SamePairs entries last told = last ≡ pairs_of entries
+StillHolds SameEvents entries last told = (last ≡ pairs_of entries) × (told ≡ events last last)
+
+-- What holds while memory hasn't run out in a change: the index has the live boxes, there is a way back to each mark, the exchanges
+-- fit 64 bits, and of the last frame still holds what is said to.
 pub record IsSound {B : Type 0} (bodies : B → FinMap nat_cmp Bounds) (spent : B → Bool) (exchanges : B → ℕ) (p : Parts B) : Type 0 where
   pub sound : spent p.index ≡ false
   pub boxes : bodies p.index ≡ bodies_of p.table.entries
   pub table : IsTable p.table
   pub returns : CanReturn p.table (reverse p.marks.marks)
   pub counted : p.earlier + exchanges p.index < 2 ^ 64
+  pub since : StillHolds p.since p.table.entries p.pair_table p.events.items
 
 -- The parts stand for this world, with the same marks and events.
 pub record IsChanged {B : Type 0} (bodies : B → FinMap nat_cmp Bounds) (spent : B → Bool) (exchanges : B → ℕ) (w : World)
     (old new : Parts B) : Type 0 where
   pub time : timeline_in exchanges new ≡ record (timeline_in exchanges old) { now = w }
   pub events : new.events ≡ old.events
+  pub kept : IsSound bodies spent exchanges new
+
+-- The pairs are those of the boxes, and what became of each since the last frame is told. All else that a world is seen by is as it was.
+pub record IsTold {B : Type 0} (bodies : B → FinMap nat_cmp Bounds) (spent : B → Bool) (exchanges : B → ℕ) (old new : Parts B) : Type 0 where
+  pub time :
+      timeline_in exchanges new
+      ≡ record (timeline_in exchanges old) { now = record (world_in exchanges old) { last = pairs_of old.table.entries } }
+  pub events : new.events.items ≡ events old.pair_table (pairs_of old.table.entries)
   pub kept : IsSound bodies spent exchanges new
 
 -- All but the index is as it was, and memory ran out there.

@@ -2,11 +2,13 @@
 //! could get wrong.
 #![tactic(auto)]
 
+mod framing;
 mod laws;
 mod noting;
 mod parts;
 mod reading;
 mod refusal;
+mod since;
 mod world;
 
 pub use laws::{answer_law, count_law, exchange_law, gone_law, stale_law};

@@ -7,14 +7,13 @@ ghost use Rattle.fixed_box.specs.declared.TheConstants.{SLOTS};
 ghost use Rattle.live_table.specs.Entries.{entry_at};
 ghost use Rattle.box_world.specs.declared.TheConstants.{MOST_FRAMES_COUNTED, MOST_EXCHANGES};
 
+use crate::since::Since;
 use crate::{MOST_EXCHANGES, Refusal, exchange_law};
 use broad_index::{BroadPhase, Pair};
 use fixed_box::{FBox, NoMemory};
-use live_queries::{pairs_law, push_pairs};
 use live_table::{Group, Handle, Live, LiveTable, Masks, map_laws, undo_laws};
 use pair_events::{PairTable, Told};
 use std::alloc::Global;
-use std::mem;
 use world_marks::{Marks, Restored, Undo, undone_laws};
 
 // What a world keeps in step: the live boxes, an index that has them, the last pairs, and the marks with the way back to each.
@@ -28,6 +27,7 @@ pub(crate) struct Parts<B: Drop> {
     pub frames: u64,
     // The exchanges of the world before the index was last cleared on a way back.
     pub earlier: u64,
+    pub since: Since,
     pub events: Vec<Told>,
     // Room, kept from call to call.
     pub next_events: Vec<Told>,
@@ -37,14 +37,11 @@ pub(crate) struct Parts<B: Drop> {
 
 impl<B: BroadPhase + Drop> Parts<B> {
     ghost use Rattle.broad_index.specs.Fresh.{IsFresh};
-    ghost use Rattle.broad_index.specs.Near.{near};
     ghost use Rattle.live_table.specs.Bodies.{bodies_of};
     ghost use Rattle.live_table.specs.Table.{IsTable, IsLeastFree, next_handle};
-    ghost use Rattle.live_queries.specs.Pairs.{pairs_of};
-    ghost use Rattle.pair_events.specs.PairEvents.{events};
     ghost use Rattle.world_marks.specs.declared.TheConstants.{MOST_MARKS};
     ghost use Rattle.box_world.specs.declared.refusal.Refusal.TheVariants.{Stale, NoMemory as no_memory};
-    ghost use Rattle.box_world.specs.World.{beginning, added, moved, masked, removed, framed, marked, gone_back};
+    ghost use Rattle.box_world.specs.World.{beginning, added, moved, masked, removed, marked, gone_back};
     ghost use Rattle.box_world.specs.Answers.{is_counted_out};
     ghost use Rattle.box_world.specs.Parts.{world_in, timeline_in, IsSound, IsChanged, IsCutOff, IsToNote, Explains};
 
@@ -65,6 +62,7 @@ impl<B: BroadPhase + Drop> Parts<B> {
             marks,
             frames: 0,
             earlier: 0,
+            since: Since::Changed,
             events: Vec::new(alloc),
             next_events: Vec::new(alloc),
             pairs: Vec::new(alloc),
@@ -114,6 +112,7 @@ impl<B: BroadPhase + Drop> Parts<B> {
         let Ok(_) = self.table.give(body, masks, group) else {
             unreachable!()
         };
+        self.since = Since::Changed;
         self.marks.note(Undo::Given { handle });
         Ok(())
     }
@@ -144,6 +143,7 @@ impl<B: BroadPhase + Drop> Parts<B> {
         let Ok(()) = self.table.set_box(handle, body) else {
             unreachable!()
         };
+        self.since = Since::Changed;
         if let Some(live) = before {
             self.marks.note(Undo::Moved {
                 handle,
@@ -170,6 +170,7 @@ impl<B: BroadPhase + Drop> Parts<B> {
         undo_laws();
         undone_laws();
         self.table.set_masks(handle, masks)?;
+        self.since = Since::Changed;
         if let Some(live) = before {
             self.marks.note(Undo::Masked {
                 handle,
@@ -192,40 +193,11 @@ impl<B: BroadPhase + Drop> Parts<B> {
         undone_laws();
         self.table.take(handle)?;
         self.index.leave(handle.slot);
+        self.since = Since::Changed;
         if let Some(live) = before {
             self.marks.note(Undo::Taken { live });
         }
         Ok(())
-    }
-
-    // The frame ends, whose pairs of slots these are in `pairs`: its pairs, and what became of each since the last one. Answers
-    // how many there are. After an `Err` all but `next_events` is as before.
-    pub(crate) fn end_frame(&mut self) -> Result<u32, NoMemory>
-        requires sound { IsSound B.bodies B.spent B.exchanges self.old }
-        requires pairs { self.old.pairs.items ≡ near (bodies_of self.old.table.entries) }
-        requires frames { self.old.frames < MOST_FRAMES_COUNTED }
-        ensures count { IfOk result (λ count. count ≡ length (pairs_of self.old.table.entries)) }
-        ensures time { OnOk result (timeline_in B.exchanges self.new
-            ≡ record (timeline_in B.exchanges self.old) { now = framed (world_in B.exchanges self.old) }) }
-        ensures events { OnOk result (self.new.events.items ≡ events self.old.pair_table (pairs_of self.old.table.entries)) }
-        ensures sound { OnOk result (IsSound B.bodies B.spent B.exchanges self.new) }
-        ensures err { OnErr result ((timeline_in B.exchanges self.new ≡ timeline_in B.exchanges self.old) × (self.new.events ≡ self.old.events)
-            × IsSound B.bodies B.spent B.exchanges self.new) }
-    {
-        pairs_law();
-        // as many as the last frame had are asked for at once
-        let few = self.pairs.len().min(self.pair_table.last().len());
-        let mut now = Vec::with_capacity(self.alloc, few)?;
-        push_pairs(&self.table, &self.pairs, &mut now)?;
-        let count = now.len() as u32;
-        self.next_events.clear();
-        let former = self.pair_table.turn_keep(now, &mut self.next_events)?;
-        mem::swap(&mut self.events, &mut self.next_events);
-        self.marks.keep(former);
-        self.index.clear_exchanges();
-        self.earlier = 0;
-        self.frames += 1;
-        Ok(count)
     }
 
     // Marks the world. False where no more marks may be held.
@@ -256,6 +228,7 @@ impl<B: BroadPhase + Drop> Parts<B> {
         else {
             return Ok(false);
         };
+        self.since = Since::Changed;
         self.earlier = count_from(exchanges, &mut self.index);
         self.frames = frames;
         Ok(true)

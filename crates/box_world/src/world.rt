@@ -10,6 +10,7 @@ ghost use Rattle.box_world.specs.Answers.{add_refusal, shift_refusal, change_ref
 
 use crate::noting::box_to_note;
 use crate::parts::Parts;
+use crate::since::Since;
 use crate::{MOST_FRAMES_COUNTED, Refusal};
 use broad_index::{BroadPhase, Gate};
 use fixed_box::{FBox, NoMemory, SLOTS};
@@ -173,6 +174,9 @@ impl<B: BroadPhase + Drop> BoxWorld<B> {
     ///
     /// It searches on the caller's thread. The two lists of events are kept and serve by turns; the list of pairs is a new one,
     /// since it is kept as the last.
+    ///
+    /// Where no box came, moved, got other masks or went since the last frame, and nobody went back, nothing is searched: the first such
+    /// frame takes a step for each pair, which stays, and those after it cost the same however many boxes and pairs there are.
     pub fn update(&mut self) -> Result<u32, Refusal>
         ensures answer { Answers (frame_refusal self.old.time.now) (after_frame self.old) result self.old self.new }
         ensures count { IfOk result (λ count. count ≡ length (pairs self.old.time.now)) }
@@ -184,13 +188,16 @@ impl<B: BroadPhase + Drop> BoxWorld<B> {
         if self.parts.frames == MOST_FRAMES_COUNTED {
             return Err(Refusal::Exhausted);
         }
-        self.parts.pairs.clear();
-        self.parts.index.pairs(&mut self.parts.pairs)?;
+        if let Since::Changed = self.parts.since {
+            self.parts.pairs.clear();
+            self.parts.index.pairs(&mut self.parts.pairs)?;
+        }
         Ok(self.parts.end_frame()?)
     }
 
     /// Does what `update` does, with the pairs searched by several threads where the index shares them, by `pairs_with` of
-    /// `BroadPhase`. A number of workers below 1 or above `MOST_WORKERS` counts as the nearest that isn't.
+    /// `BroadPhase`. A number of workers below 1 or above `MOST_WORKERS` counts as the nearest that isn't. Where nothing is searched no
+    /// thread starts, and the gate isn't entered.
     pub fn end_frame<R: Threads + Sync, G: Gate + Sync>(
         &mut self,
         rt: &R,
@@ -209,11 +216,13 @@ impl<B: BroadPhase + Drop> BoxWorld<B> {
         if self.parts.frames == MOST_FRAMES_COUNTED {
             return Err(Refusal::Exhausted);
         }
-        let workers = workers.max(1).min(MOST_WORKERS);
-        self.parts.pairs.clear();
-        self.parts
-            .index
-            .pairs_with(rt, workers, gate, &mut self.parts.pairs)?;
+        if let Since::Changed = self.parts.since {
+            let workers = workers.max(1).min(MOST_WORKERS);
+            self.parts.pairs.clear();
+            self.parts
+                .index
+                .pairs_with(rt, workers, gate, &mut self.parts.pairs)?;
+        }
         Ok(self.parts.end_frame()?)
     }
 

@@ -61,5 +61,6 @@ returns-clause-added g c =
             c.note.new.self.marks marks can back kept.returns;
         counted = still_fits (old.earlier + exchanges c.add.new.self) (old.earlier + exchanges old.index) (counted counts (exchanges_of_add w body)) total
             c.requires.countable (c.exchange_law.ensures.added counts w body kept.table);
+        since = tt;
       };
     }

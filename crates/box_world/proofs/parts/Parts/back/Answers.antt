@@ -64,4 +64,5 @@ returns-clause-sound g c =
           let way = back_returns old.table older m old.marks.marks ends.is kept.returns in
           subst (λ ks. CanReturn c.back.new.table (reverse ks)) (sym is.held) (subst (λ s. CanReturn s (reverse older)) (sym is.table) way.1);
       counted = let fits = c.count_from-self.ensures.fits in omega (arith, none, fits);
+      since = tt;
     }

@@ -1,11 +1,9 @@
--- The former pairs are kept in the newest mark, where that has none.
-use Rattle.std.proofs.Common.{◌≡◌, ◌+◌, ◌++◌, refl, ap, ◌∙◌, subst, arith, true, reverse}
-use Rattle.pair_events.specs.PairEvents.{is_in_order}
+-- Whatever is known of the last frame, the pairs are those of the boxes, and then the frame is counted.
+use Rattle.std.proofs.Common.{◌≡◌, ◌+◌, false, ap, ◌∙◌, subst, arith, reverse}
 use Rattle.live_queries.specs.Pairs.{pairs_of}
-use Rattle.world_marks.specs.Marks.{keeping, with_newest}
-use Rattle.box_world.specs.Parts.{world_in, worlds_back}
-use Rattle.box_world.specs.World.{framed}
-use Rattle.box_world.proofs.Marked.{framed_worlds, framed_returns, same_world, same_time}
+use Rattle.box_world.specs.Parts.{world_in, worlds_back, timeline_in, StillHolds}
+use Rattle.box_world.proofs.Marked.{counted_time}
+use Rattle.box_world.proofs.parts.Parts.end_frame.Goals.{in-Changed+in_ok-compare-in-Changed, in-SamePairs+in_ok-stay-in-SamePairs, in-SameEvents}
 use Rattle.box_world.proofs.parts.Parts.end_frame.Goals as goal
 
 pub returns-clause-time : goal.returns-clause-time
@@ -13,33 +11,24 @@ returns-clause-time g c =
     let kept = c.requires.sound in
     let old = c.args.self.now in
     let exchanges = g.B.BroadPhase.exchanges in
+    let spent = g.B.BroadPhase.spent in
     let w = world_in exchanges old in
-    let former = c.in_ok-former.ensures.former in
-    let none : exchanges c.clear_exchanges.new.self ≡ 0 = c.clear_exchanges.ensures.cleared kept.sound in
-    let marks : c.keep.new.self.marks ≡ with_newest (keeping old.pair_table) old.marks.marks = c.keep.ensures.kept
-    ∙ ap (λ last. with_newest (keeping last) old.marks.marks) former in
-    let last : c.turn_keep.new.self ≡ pairs_of old.table.entries = c.in_ok-former.ensures.kept ∙ c.in_ok-push_pairs.ensures.ok
-    ∙ ap (λ xs. xs ++ pairs_of old.table.entries) c.in_ok-now.ensures.items in
-    let now = record w { last = c.turn_keep.new.self; frames = old.frames + 1; exchanges = 0 + exchanges c.clear_exchanges.new.self } in
-    same_time now (framed w) (worlds_back now (reverse c.keep.new.self.marks)) (worlds_back w (reverse old.marks.marks))
-    (same_world old.table old.table c.turn_keep.new.self (pairs_of old.table.entries) (old.frames + 1) (old.frames + 1)
-    (0 + exchanges c.clear_exchanges.new.self) 0 refl last refl (omega (arith, none)))
-    (framed_worlds w c.turn_keep.new.self (old.frames + 1) (0 + exchanges c.clear_exchanges.new.self) old.marks.marks c.keep.new.self.marks marks)
-
-pub returns-clause-sound : goal.returns-clause-sound
-returns-clause-sound g c =
-    let kept = c.requires.sound in
-    let old = c.args.self.now in
-    let exchanges = g.B.BroadPhase.exchanges in
-    let former = c.in_ok-former.ensures.former in
-    let none : exchanges c.clear_exchanges.new.self ≡ 0 = c.clear_exchanges.ensures.cleared kept.sound in
-    let marks : c.keep.new.self.marks ≡ with_newest (keeping old.pair_table) old.marks.marks = c.keep.ensures.kept
-    ∙ ap (λ last. with_newest (keeping last) old.marks.marks) former in
-    let ordered : is_in_order old.pair_table ≡ true = subst (λ last. is_in_order last ≡ true) former c.in_ok-former.ensures.order in
-    record {
-      sound = c.clear_exchanges.ensures.spent ∙ kept.sound;
-      boxes = c.clear_exchanges.ensures.bodies ∙ kept.boxes;
-      table = kept.table;
-      returns = framed_returns old.table old.pair_table old.marks.marks c.keep.new.self.marks marks ordered kept.returns;
-      counted = omega (arith, none);
-    }
+    let pairs = pairs_of old.table.entries in
+    let mid = c.match-self.self in
+    let told : timeline_in exchanges mid ≡ record (timeline_in exchanges old) { now = record w { last = pairs } } =
+    elim c.match-self.branch [
+      | in-Changed+in_ok-compare-in-Changed b ↦ ap (timeline_in exchanges) b.self-is ∙ b.in_ok-compare-in-Changed.ensures.told.time
+      | in-SamePairs+in_ok-stay-in-SamePairs b ↦ ap (timeline_in exchanges) b.self-is ∙ b.in_ok-stay-in-SamePairs.ensures.told.time
+      | in-SameEvents b ↦
+          let holds = subst (λ s. StillHolds s old.table.entries old.pair_table old.events.items) b.in-SameEvents.is kept.since in
+          ap (timeline_in exchanges) b.self-is
+          ∙ ap (λ ps. record { now = record w { last = ps }; marks = worlds_back w (reverse old.marks.marks) }) holds.0
+    ] in
+    let sound : spent mid.index ≡ false = elim c.match-self.branch [
+      | in-Changed+in_ok-compare-in-Changed b ↦ ap (λ p. spent p.index) b.self-is ∙ b.in_ok-compare-in-Changed.ensures.told.kept.sound
+      | in-SamePairs+in_ok-stay-in-SamePairs b ↦ ap (λ p. spent p.index) b.self-is ∙ b.in_ok-stay-in-SamePairs.ensures.told.kept.sound
+      | in-SameEvents b ↦ ap (λ p. spent p.index) b.self-is ∙ kept.sound
+    ] in
+    let cleared : exchanges c.clear_exchanges.new.self ≡ 0 = c.clear_exchanges.ensures.cleared sound in
+    counted_time (world_in exchanges mid) w pairs (reverse mid.marks.marks) (worlds_back w (reverse old.marks.marks))
+    (0 + exchanges c.clear_exchanges.new.self) told (omega (arith, cleared))

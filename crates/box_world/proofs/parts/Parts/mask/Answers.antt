@@ -43,5 +43,6 @@ returns-in-Some-clause-masked g c =
         returns = changed_returns c.undone_laws.ensures.append c.undone_laws.ensures.whole t c.set_masks.new.self (Masked handle live.masks) old.marks.marks
             c.note.new.self.marks marks can back kept.returns;
         counted = kept.counted;
+        since = tt;
       };
     }

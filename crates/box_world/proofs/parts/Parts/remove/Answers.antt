@@ -48,5 +48,6 @@ returns-in-Some-clause-removed g c =
         returns = changed_returns c.undone_laws.ensures.append c.undone_laws.ensures.whole t c.take.new.self (Taken live) old.marks.marks
             c.note.new.self.marks marks can back kept.returns;
         counted = subst (λ n. n < 2 ^ 64) (sym total) kept.counted;
+        since = tt;
       };
     }

@@ -61,6 +61,7 @@ returns-in-Some-clause-moved g c =
             old.marks.marks c.note.new.self.marks marks can back kept.returns;
         counted = still_fits (old.earlier + exchanges c.shift.new.self) (old.earlier + exchanges old.index) (counted counts number) total
             c.requires.countable (c.exchange_law.ensures.moved counts w handle body kept.table);
+        since = tt;
       };
     }
 
@@ -99,5 +100,6 @@ returns-in_default-before-clause-moved g c =
         returns = unmarked_returns c.set_box.new.self old.marks.marks old.marks.marks none refl;
         counted = still_fits (old.earlier + exchanges c.shift.new.self) (old.earlier + exchanges old.index) (counted counts number) total
             c.requires.countable (c.exchange_law.ensures.moved counts w handle body kept.table);
+        since = tt;
       };
     }
