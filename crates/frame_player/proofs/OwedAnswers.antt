@@ -1,14 +1,13 @@
 -- The answers that are owed, as queries are held and answered.
-use Rattle.std.proofs.Common.{◌≡◌, ℕ, ◌++◌, ◌∷◌, Bool, true, false, List, [], map, Option, None, Some, refl, sym, ap, ◌∙◌}
-use Rattle.std.proofs.lemmas.List.{append_assoc, append-nil, map-append}
+use Rattle.std.proofs.Common.{◌≡◌, ℕ, ◌++◌, ◌∷◌, Bool, true, false, List, [], Option, None, Some, refl, sym, ap, ◌∙◌}
+use Rattle.std.proofs.lemmas.List.{append_assoc, append-nil}
 use Rattle.live_table.specs.declared.live.Live.{Live}
-use Rattle.broad_index.specs.declared.query.Query.{Query}
 use Rattle.frame_player.specs.declared.asked.Asked.{Asked}
 use Rattle.scene_words.specs.declared.command.Command.{Command}
 use Rattle.scene_words.specs.declared.command.Command.TheVariants.{Blank, Header, Add, Move, Mask, Remove, Frame, BoxQ, PointQ, RayQ, SegQ, Cast, Near, Mark}
 use Rattle.scene_words.specs.declared.command.Command.TheVariants.{Back}
 use Rattle.play_rules.specs.World.{World, live_in, reply}
-use Rattle.frame_player.specs.Owed.{asked_by, answer_line, answers, query_for}
+use Rattle.frame_player.specs.Owed.{asked_by, answer_line, answers}
 
 -- one more query is held
 answers_push : (entries : List Live) (run : List Asked) (asked : Asked)

@@ -1,9 +1,9 @@
 -- A status tells what the answer does that it stands for.
-use Rattle.std.proofs.Common.{◌≡◌, ◌≢◌, Option, Result, Ok, Err, refl, inl, inr, arith}
+use Rattle.std.proofs.Common.{◌≢◌, Option, Result, Ok, Err, refl, inl, inr, arith}
 use Rattle.box_world.specs.declared.refusal.Refusal.{Refusal}
 use Rattle.box_world.specs.declared.refusal.Refusal.TheVariants.{Stale, Full, Exhausted, NoMemory}
 use Rattle.box_world.specs.Answers.{State, Answers}
-use Rattle.held_world.specs.declared.TheConstants.{OK, STALE, FULL, NO_MEMORY, EXHAUSTED}
+use Rattle.held_world.specs.declared.TheConstants.{NO_MEMORY}
 use Rattle.held_world.specs.Answers.{status}
 use Rattle.held_world.specs.Tells.{Tells}
 
