@@ -6,14 +6,14 @@ use Rattle.slot_lists.specs.Links.{Fresh, Distinct, Below, Links}
 use Rattle.slot_lists.specs.LinkLaws.{Fresh-left, Fresh-right, Distinct-left, Distinct-right, Distinct-apart, Distinct-without, Below-left}
 use Rattle.slot_lists.specs.LinkLaws.{Below-right, Below-weaker, frame_next, frame_prev, before_end, retarget_last, retarget_first, Links-append}
 use Rattle.slot_lists.specs.LinkLaws.{Links-left, Links-right, after_start}
-use Rattle.endpoint_list.specs.Links.{IsKept, exchanged_next, exchanged_prev}
+use Rattle.endpoint_list.specs.Links.{AreLinked, exchanged_next, exchanged_prev}
 use Rattle.endpoint_list.proofs.NodeLemmas.{Below-Fresh, Below-swap}
 use Rattle.endpoint_list.proofs.NodeLemmas.{Distinct-swap, Fresh-swap}
 use Rattle.endpoint_list.proofs.LinkLemmas.{before_end_fresh, after_start_fresh}
 use Rattle.endpoint_list.proofs.LinkLemmas.{beside}
 
-pub exchanged : (N P ys : List ℕ) (a b : ℕ) (zs : List ℕ) → IsKept N P (ys ++ a ∷ b ∷ zs)
-    → IsKept (exchanged_next N P a b) (exchanged_prev N P a b) (ys ++ b ∷ a ∷ zs)
+pub exchanged : (N P ys : List ℕ) (a b : ℕ) (zs : List ℕ) → AreLinked N P (ys ++ a ∷ b ∷ zs)
+    → AreLinked (exchanged_next N P a b) (exchanged_prev N P a b) (ys ++ b ∷ a ∷ zs)
 exchanged N P ys a b zs k =
     let d = k.distinct in
     let below = k.below in
@@ -89,7 +89,7 @@ pub record IsFollowed (N P : List ℕ) (a b : ℕ) : Type 0 where
   pub before : get_or P a 0 ≤ NODES
   pub after : get_or N b 0 ≤ NODES
 
-pub followed : (N P ys : List ℕ) (a b : ℕ) (zs : List ℕ) → IsKept N P (ys ++ a ∷ b ∷ zs) → IsFollowed N P a b
+pub followed : (N P ys : List ℕ) (a b : ℕ) (zs : List ℕ) → AreLinked N P (ys ++ a ∷ b ∷ zs) → IsFollowed N P a b
 followed N P ys a b zs k =
     let first = beside N P ys a (b ∷ zs) k in
     let second = beside N P (ys ++ a ∷ []) b zs (rw append_assoc k) in
@@ -102,7 +102,7 @@ followed N P ys a b zs k =
     }
 
 -- what is read as the next node
-pub next_read : (N P ys : List ℕ) (a b : ℕ) (zs : List ℕ) (x : ℕ) → IsKept N P (ys ++ a ∷ b ∷ zs) → x ≡ get_or N a x → x ≡ b
+pub next_read : (N P ys : List ℕ) (a b : ℕ) (zs : List ℕ) (x : ℕ) → AreLinked N P (ys ++ a ∷ b ∷ zs) → x ≡ get_or N a x → x ≡ b
 next_read N P ys a b zs x k read =
     let w = followed N P ys a b zs k in
     get_or_read N a x (omega (arith, k.next_len, w.small)) read 0 ∙ w.next

@@ -6,7 +6,7 @@ use Rattle.endpoint_list.specs.declared.TheConstants.{NODES}
 use Rattle.endpoint_list.specs.NodeList.{has, first_of, last_of, IsNodeList}
 use Rattle.slot_lists.specs.Links.{Fresh, Distinct, Below, Links}
 use Rattle.slot_lists.specs.LinkLaws.{Distinct-apart, Distinct-without, Below-left, Below-right, Below-weaker, length-le, before_end, Links-left, Links-right}
-use Rattle.endpoint_list.specs.Links.{walk, listed, neighbour, IsKept}
+use Rattle.endpoint_list.specs.Links.{walk, listed, neighbour, AreLinked}
 use Rattle.endpoint_list.proofs.NodeLemmas.{has_fresh, node_list}
 
 pub before_end_below : (N P : List ℕ) (u : ℕ) (xs : List ℕ) (e n : ℕ) → Links N P u xs e → u < n → Below n xs → get_or P e 0 < n
@@ -39,17 +39,17 @@ walk_is N P u [] (suc n) l b le = rw l.0 refl
 walk_is N P u (x ∷ xs) zero l b le = absurd (omega arith)
 walk_is N P u (x ∷ xs) (suc n) l b le = rw (l.0, lt-ltb x NODES b.0, walk_is N P x xs n l.2 b.1 (omega arith)) refl
 
-pub listed_is : (N P xs : List ℕ) → IsKept N P xs → listed N ≡ xs
+pub listed_is : (N P xs : List ℕ) → AreLinked N P xs → listed N ≡ xs
 listed_is N P xs k = walk_is N P NODES xs NODES k.linked k.below (length-le NODES xs k.distinct k.below)
 
 -- links that were computed from others keep what these do
-pub kept : (M N Q P xs : List ℕ) → M ≡ N → Q ≡ P → IsKept N P xs → IsKept M Q (listed M)
+pub kept : (M N Q P xs : List ℕ) → M ≡ N → Q ≡ P → AreLinked N P xs → AreLinked M Q (listed M)
 kept M N Q P xs m q k = rw (m, q, listed_is N P xs k) k
 
-pub seen : (M N P xs : List ℕ) → M ≡ N → IsKept N P xs → listed M ≡ xs
+pub seen : (M N P xs : List ℕ) → M ≡ N → AreLinked N P xs → listed M ≡ xs
 seen M N P xs m k = ap listed m ∙ listed_is N P xs k
 
-pub seen_list : (M N P xs : List ℕ) → M ≡ N → IsKept N P xs → IsNodeList (listed M)
+pub seen_list : (M N P xs : List ℕ) → M ≡ N → AreLinked N P xs → IsNodeList (listed M)
 seen_list M N P xs m k = subst IsNodeList (sym (seen M N P xs m k)) (node_list N P xs k)
 
 -- ---- reads
@@ -62,7 +62,7 @@ next_below N P u (x ∷ xs) e k n l h en b =
       | inr o ↦ next_below N P x xs e k n l.2 (rw (ne_eqb x k o) at h) en b.1
     ]
 
-pub has_read : (N P xs : List ℕ) (k : ℕ) → IsKept N P xs → k < NODES → not (eqb (get_or N k 0) (NODES + 1)) ≡ has k xs
+pub has_read : (N P xs : List ℕ) (k : ℕ) → AreLinked N P xs → k < NODES → not (eqb (get_or N k 0) (NODES + 1)) ≡ has k xs
 has_read N P xs k h lt =
     elim (cases_Bool (has k xs)) [
       | inl there ↦
@@ -92,7 +92,7 @@ pub record IsBeside (N P : List ℕ) (node : ℕ) : Type 0 where
   pub before : get_or P node 0 ≤ NODES
   pub after : get_or N node 0 ≤ NODES
 
-pub beside : (N P ys : List ℕ) (node : ℕ) (zs : List ℕ) → IsKept N P (ys ++ node ∷ zs) → IsBeside N P node
+pub beside : (N P ys : List ℕ) (node : ℕ) (zs : List ℕ) → AreLinked N P (ys ++ node ∷ zs) → IsBeside N P node
 beside N P ys node zs k =
     let wide : (xs : List ℕ) → Below NODES xs → Below (NODES + 1) xs = λ xs b. Below-weaker NODES (NODES + 1) xs (omega arith) b in
     let left = Links-left N P NODES ys node zs NODES k.linked in

@@ -5,7 +5,7 @@ use Rattle.endpoint_list.specs.declared.TheConstants.{NODES}
 use Rattle.endpoint_list.specs.NodeList.{has, IsDistinct, IsNodeList}
 use Rattle.slot_lists.specs.Links.{Fresh, Distinct, Below}
 use Rattle.slot_lists.specs.LinkLaws.{Fresh-append}
-use Rattle.endpoint_list.specs.Links.{IsKept}
+use Rattle.endpoint_list.specs.Links.{AreLinked}
 
 pub Distinct-push : (xs : List ℕ) (y : ℕ) → Distinct xs → Fresh y xs → Distinct (xs ++ y ∷ [])
 Distinct-push [] y d f = (tt, tt)
@@ -61,7 +61,7 @@ pub distinct_has : (xs : List ℕ) → Distinct xs → IsDistinct xs
 distinct_has [] d = tt
 distinct_has (x ∷ xs) d = (fresh_has x xs d.0, distinct_has xs d.1)
 
-pub node_list : (N P xs : List ℕ) → IsKept N P xs → IsNodeList xs
+pub node_list : (N P xs : List ℕ) → AreLinked N P xs → IsNodeList xs
 node_list N P xs k = record { distinct = distinct_has xs k.distinct; small = λ node h. has_below node NODES xs k.below h }
 
 pub has_past : (k n : ℕ) (xs : List ℕ) → Below n xs → n ≤ k → has k xs ≡ false

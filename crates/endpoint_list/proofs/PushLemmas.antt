@@ -4,11 +4,11 @@ use Rattle.std.proofs.lemmas.List.{get_or-set_same, get_or-set_other, length-set
 use Rattle.endpoint_list.specs.declared.TheConstants.{NODES}
 use Rattle.slot_lists.specs.Links.{Fresh, Below, Links}
 use Rattle.slot_lists.specs.LinkLaws.{Fresh-left, Fresh-right, Below-weaker, frame_next, frame_prev, before_end, retarget_last, Links-append}
-use Rattle.endpoint_list.specs.Links.{IsKept, put_next, put_prev}
+use Rattle.endpoint_list.specs.Links.{AreLinked, put_next, put_prev}
 use Rattle.endpoint_list.proofs.NodeLemmas.{Below-Fresh, Below-push, Distinct-push}
 use Rattle.endpoint_list.proofs.LinkLemmas.{before_end_below}
 
-pub started : (N P : List ℕ) → N ≡ set (replicate (NODES + 1) (NODES + 1)) NODES NODES → P ≡ replicate (NODES + 1) NODES → IsKept N P []
+pub started : (N P : List ℕ) → N ≡ set (replicate (NODES + 1) (NODES + 1)) NODES NODES → P ≡ replicate (NODES + 1) NODES → AreLinked N P []
 started N P n p =
     let blank = replicate (NODES + 1) (NODES + 1) in
     let long : length blank ≡ NODES + 1 = length-replicate (NODES + 1) (NODES + 1) in
@@ -26,11 +26,11 @@ started N P n p =
     }
 
 -- the last node, or the end before the first
-pub last_small : (N P xs : List ℕ) → IsKept N P xs → get_or P NODES 0 ≤ NODES
+pub last_small : (N P xs : List ℕ) → AreLinked N P xs → get_or P NODES 0 ≤ NODES
 last_small N P xs k =
     omega (arith, before_end_below N P NODES xs NODES (NODES + 1) k.linked (omega arith) (Below-weaker NODES (NODES + 1) xs (omega arith) k.below))
 
-pub pushed : (N P xs : List ℕ) (v : ℕ) → IsKept N P xs → v < NODES → Fresh v xs → IsKept (put_next N P v NODES) (put_prev P v NODES) (xs ++ v ∷ [])
+pub pushed : (N P xs : List ℕ) (v : ℕ) → AreLinked N P xs → v < NODES → Fresh v xs → AreLinked (put_next N P v NODES) (put_prev P v NODES) (xs ++ v ∷ [])
 pushed N P xs v k lt f =
     let last = get_or P NODES 0 in
     let N1 = set N last v in

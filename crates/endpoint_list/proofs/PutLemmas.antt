@@ -6,7 +6,7 @@ use Rattle.slot_lists.specs.Links.{Fresh, Distinct, Below, Links}
 use Rattle.slot_lists.specs.LinkLaws.{Fresh-append, Fresh-left, Fresh-right, Fresh-here, Fresh-without, Distinct-left, Distinct-right, Distinct-apart}
 use Rattle.slot_lists.specs.LinkLaws.{Distinct-without, Below-left, Below-right, Below-weaker, frame_next, frame_prev, before_end, retarget_last}
 use Rattle.slot_lists.specs.LinkLaws.{Links-append, Links-left, Links-right}
-use Rattle.endpoint_list.specs.Links.{IsKept, put_next, put_prev}
+use Rattle.endpoint_list.specs.Links.{AreLinked, put_next, put_prev}
 use Rattle.endpoint_list.proofs.NodeLemmas.{Below-Fresh}
 use Rattle.endpoint_list.proofs.LinkLemmas.{before_end_fresh}
 
@@ -19,8 +19,8 @@ Below-put : (n : ℕ) (xs : List ℕ) (v : ℕ) (ys : List ℕ) → Below n (xs 
 Below-put n [] v ys b l = (l, b)
 Below-put n (x ∷ xs) v ys b l = (b.0, Below-put n xs v ys b.1 l)
 
-pub placed : (N P ys : List ℕ) (v a : ℕ) (zs : List ℕ) → IsKept N P (ys ++ a ∷ zs) → v < NODES → Fresh v (ys ++ a ∷ zs)
-    → IsKept (put_next N P v a) (put_prev P v a) (ys ++ v ∷ a ∷ zs)
+pub placed : (N P ys : List ℕ) (v a : ℕ) (zs : List ℕ) → AreLinked N P (ys ++ a ∷ zs) → v < NODES → Fresh v (ys ++ a ∷ zs)
+    → AreLinked (put_next N P v a) (put_prev P v a) (ys ++ v ∷ a ∷ zs)
 placed N P ys v a zs k lt f =
     let p = get_or P a 0 in
     let la = Links-left N P NODES ys a zs NODES k.linked in

@@ -7,7 +7,7 @@ use Rattle.slot_lists.specs.Links.{Fresh, Distinct, Below, Links}
 use Rattle.slot_lists.specs.LinkLaws.{Fresh-append, Fresh-left, Fresh-right, Distinct-left, Distinct-right, Distinct-apart, Distinct-without}
 use Rattle.slot_lists.specs.LinkLaws.{Below-left, Below-right, Below-weaker, frame_next, frame_prev, before_end, retarget_last, Links-append}
 use Rattle.slot_lists.specs.LinkLaws.{Links-left, Links-right}
-use Rattle.endpoint_list.specs.Links.{IsKept, unlinked_next, unlinked_prev}
+use Rattle.endpoint_list.specs.Links.{AreLinked, unlinked_next, unlinked_prev}
 use Rattle.endpoint_list.proofs.NodeLemmas.{Below-Fresh, Below-without}
 use Rattle.endpoint_list.proofs.LinkLemmas.{before_end_fresh}
 
@@ -37,7 +37,7 @@ bridge N P ys a (z ∷ zs) n is l r d by bz nl pl =
     let m' : Links (set N p z) (set P z p) z zs NODES = frame_prev (set N p z) P z zs NODES z p z_e dz.0 (frame_next N P z zs NODES p z p_zs.0 p_zs.1 r.2) in
     subst F (sym q) (Links-append (set N p z) (set P z p) NODES ys z zs NODES m m')
 
-pub unlinked : (N P ys : List ℕ) (a : ℕ) (zs : List ℕ) → IsKept N P (ys ++ a ∷ zs) → IsKept (unlinked_next N P a) (unlinked_prev N P a) (ys ++ zs)
+pub unlinked : (N P ys : List ℕ) (a : ℕ) (zs : List ℕ) → AreLinked N P (ys ++ a ∷ zs) → AreLinked (unlinked_next N P a) (unlinked_prev N P a) (ys ++ zs)
 unlinked N P ys a zs k =
     let before = get_or P a 0 in
     let after = get_or N a 0 in

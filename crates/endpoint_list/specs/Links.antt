@@ -17,7 +17,7 @@ abbrev pub neighbour : ℕ → Option ℕ
 neighbour n = if n == NODES then None else Some n
 
 -- the links keep these nodes, and every other one has the mark of absence
-pub record IsKept (next prev nodes : List ℕ) : Type 0 where
+pub record AreLinked (next prev nodes : List ℕ) : Type 0 where
   pub next_len : length next ≡ NODES + 1
   pub prev_len : length prev ≡ NODES + 1
   pub linked : Links next prev NODES nodes NODES

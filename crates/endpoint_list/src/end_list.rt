@@ -23,13 +23,13 @@ pub struct EndList {
 
 impl Model for EndList {
     ghost use Rattle.std.specs.Prelude.{List, ℕ};
-    ghost use Rattle.endpoint_list.specs.Links.{listed, IsKept};
+    ghost use Rattle.endpoint_list.specs.Links.{listed, AreLinked};
 
     ghost Value = { List ℕ };
 
     ghost view = { λ l. listed l.next.items };
 
-    ghost invariant = { λ l. IsKept l.next.items l.prev.items (listed l.next.items) };
+    ghost invariant = { λ l. AreLinked l.next.items l.prev.items (listed l.next.items) };
 }
 
 impl EndList {

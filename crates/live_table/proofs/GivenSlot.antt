@@ -9,7 +9,7 @@ use Rattle.fixed_box.specs.Space.{space}
 use Rattle.live_table.specs.declared.slot.Slot.{Slot}
 use Rattle.live_table.specs.Entries.{slot_of, entered}
 use Rattle.live_table.specs.Table.{raised, least_free, next_handle, after_give}
-use Rattle.live_table.specs.Slots.{entries_of, gives_of, never_given, opened, IsPlaced, IsKept, IsLeastVacant}
+use Rattle.live_table.specs.Slots.{entries_of, gives_of, never_given, opened, IsPlaced, AreInStep, IsLeastVacant}
 use Rattle.live_table.proofs.EntryLemmas.{length-entered}
 use Rattle.live_table.proofs.PlacedSlots.{table_in}
 use Rattle.live_table.proofs.SlotCounts.{gives_at, gives_set, sum_set}
@@ -42,10 +42,10 @@ give_sum slots slot s least is =
       is,
     )
 
-pub kept_give : (slots : List Slot) (freed : List Bool) (len given slot : ℕ) (s : Slot) (new : Live) → IsKept slots freed len given
+pub kept_give : (slots : List Slot) (freed : List Bool) (len given slot : ℕ) (s : Slot) (new : Live) → AreInStep slots freed len given
     → IsLeastVacant slots slot → s.gives ≡ (get_or slots slot never_given).gives + 1
     → s.live ≡ Some new → slot_of new ≡ slot → new.handle.generation + 1 ≡ s.gives → meets space new.body ≡ true
-    → IsKept (set (opened slot slots) slot s) (set freed slot false) (len + 1) (given + 1)
+    → AreInStep (set (opened slot slots) slot s) (set freed slot false) (len + 1) (given + 1)
 kept_give slots freed len given slot s new kept least gives is at generation in_space = record {
   few = omega (arith, length-set (opened slot slots) slot s, opened_few slots slot least.next least.small kept.few);
   placed = placed_set 0 slot (opened slot slots) s (placed_opened 0 slots slot least.next kept.placed) (length-opened slots slot least.next) (λ e live.

@@ -11,7 +11,7 @@ use Rattle.live_table.specs.declared.handle.Handle.{Handle}
 use Rattle.live_table.specs.declared.live.Live.{Live}
 use Rattle.live_table.specs.declared.slot.Slot.{Slot}
 use Rattle.live_table.specs.Entries.{slot_of, has, live_at}
-use Rattle.live_table.specs.Slots.{entries_of, gives_of, never_given, IsPlaced, IsKept}
+use Rattle.live_table.specs.Slots.{entries_of, gives_of, never_given, IsPlaced, AreInStep}
 use Rattle.live_table.specs.Table.{after_ungive, after_put_back}
 use Rattle.live_table.proofs.PlacedSlots.{live_in, live_at_is, within_from_live, table_in}
 use Rattle.live_table.proofs.SlotCounts.{len_set, sum_set, gives_at, gives_set, gives_stay}
@@ -21,9 +21,9 @@ use Rattle.live_table.proofs.WrittenSlot.{enter_set, take_set, placed_set, bound
 pub was_given : (slots : List Slot) (i : ℕ) (e : Live) → IsPlaced 0 slots → live_in slots i ≡ Some e → 0 < (get_or slots i never_given).gives
 was_given slots i e placed live = omega (arith, (placed i e live).1)
 
-pub kept_ungive : (slots : List Slot) (freed : List Bool) (len given i : ℕ) (s : Slot) (e : Live) → IsKept slots freed len given
+pub kept_ungive : (slots : List Slot) (freed : List Bool) (len given i : ℕ) (s : Slot) (e : Live) → AreInStep slots freed len given
     → live_in slots i ≡ Some e → s.gives + 1 ≡ (get_or slots i never_given).gives → s.live ≡ None
-    → IsKept (set slots i s) (set freed i true) (len - 1) (given - 1)
+    → AreInStep (set slots i s) (set freed i true) (len - 1) (given - 1)
 kept_ungive slots freed len given i s e kept live gives is =
     let lt : i < length slots = within_from_live slots i e live in record {
       few = omega (arith, length-set slots i s, kept.few);
@@ -62,10 +62,10 @@ within_from_gives slots i n given =
 pub free_place : (slots : List Slot) (slot : ℕ) → IsPlaced 0 slots → live_at slot (entries_of slots) ≡ None → live_in slots slot ≡ None
 free_place slots slot placed free = sym (live_at_is 0 slot slot slots placed (omega arith)) ∙ free
 
-pub kept_put_back : (slots : List Slot) (freed : List Bool) (len given : ℕ) (s : Slot) (e : Live) → IsKept slots freed len given
+pub kept_put_back : (slots : List Slot) (freed : List Bool) (len given : ℕ) (s : Slot) (e : Live) → AreInStep slots freed len given
     → slot_of e < length slots → live_in slots (slot_of e) ≡ None → s.gives ≡ (get_or slots (slot_of e) never_given).gives
     → e.handle.generation + 1 ≡ s.gives → s.live ≡ Some e → meets space e.body ≡ true
-    → IsKept (set slots (slot_of e) s) (set freed (slot_of e) false) (len + 1) given
+    → AreInStep (set slots (slot_of e) s) (set freed (slot_of e) false) (len + 1) given
 kept_put_back slots freed len given s e kept lt free gives newest is in_space = record {
   few = omega (arith, length-set slots (slot_of e) s, kept.few);
   placed = placed_set 0 (slot_of e) slots s kept.placed lt (λ g at.

@@ -32,14 +32,14 @@ pub struct LiveTable {
 impl Model for LiveTable {
     ghost use Rattle.std.specs.Prelude.{◌≤◌, vec_capacity};
     ghost use Rattle.fixed_box.specs.declared.TheConstants.{SLOTS};
-    ghost use Rattle.live_table.specs.Slots.{entries_of, gives_of, IsKept};
+    ghost use Rattle.live_table.specs.Slots.{entries_of, gives_of, AreInStep};
     ghost use Rattle.live_table.specs.Table.{Table};
 
     ghost Value = { Table };
 
     ghost view = { λ t. record { entries = entries_of t.slots.items; gives = gives_of t.slots.items } };
 
-    ghost invariant = { λ t. (SLOTS ≤ vec_capacity t.slots) × IsKept t.slots.items t.freed t.len t.given };
+    ghost invariant = { λ t. (SLOTS ≤ vec_capacity t.slots) × AreInStep t.slots.items t.freed t.len t.given };
 }
 
 impl LiveTable {

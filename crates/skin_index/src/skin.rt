@@ -34,7 +34,7 @@ fn next_skin(before: &FBox, body: &FBox) -> FBox
     if is_beyond(&by, most) {
         return *body;
     }
-    still_skin(body).union(&moved(body, &ahead(&by, most)))
+    still_skin(body).union(&displaced(body, &ahead(&by, most)))
 }
 
 // The skin of a box that doesn't move.
@@ -89,7 +89,7 @@ fn ahead_on(by: i32, most: i32) -> i32 {
 }
 
 // A box that is displaced, and as it is where the ends of 32 bits are too near.
-fn moved(body: &FBox, by: &Point) -> FBox {
+fn displaced(body: &FBox, by: &Point) -> FBox {
     let (lo, hi) = (body.lo(), body.hi());
     let low = Point {
         x: lo.x.saturating_add(by.x),

@@ -6,7 +6,7 @@ use Rattle.fixed_box.specs.declared.TheConstants.{SLOTS}
 use Rattle.live_table.specs.declared.masks.Masks.{Masks}
 use Rattle.live_table.specs.declared.group.Group.{Group}
 use Rattle.live_table.specs.declared.slot.Slot.{Slot}
-use Rattle.live_table.specs.Slots.{opened, gives_of, IsKept, IsLeastVacant}
+use Rattle.live_table.specs.Slots.{opened, gives_of, AreInStep, IsLeastVacant}
 use Rattle.live_table.specs.Table.{next_handle, after_give, least_free, IsLeastFree, IsTable}
 use Rattle.live_table.proofs.FreeSlots.{all_live}
 use Rattle.live_table.proofs.PlacedSlots.{table_in}
@@ -24,9 +24,9 @@ filled slot gives body masks group =
 
 -- what is kept, once the opened slot is filled
 kept_filled : (slots items : List Slot) (freed marks : List Bool) (len given slot : ℕ) (place : Slot) (body : Bounds) (masks : Masks) (group : Group)
-    → IsKept slots freed len given → IsLeastVacant slots slot → items ≡ opened slot slots → marks ≡ set freed slot false
+    → AreInStep slots freed len given → IsLeastVacant slots slot → items ≡ opened slot slots → marks ≡ set freed slot false
     → place ≡ get_or items slot place → meets space body ≡ true
-    → IsKept (set items slot (filled slot place.gives body masks group)) marks (len + 1) (given + 1)
+    → AreInStep (set items slot (filled slot place.gives body masks group)) marks (len + 1) (given + 1)
 kept_filled slots items freed marks len given slot place body masks group kept least opens unmarks at in_space =
     let gives = opened_place slots items slot place least opens at in
     rw (opens, unmarks) (kept_give slots freed len given slot (filled slot place.gives body masks group)
