@@ -13,18 +13,18 @@ use sweep_prune::Sap;
 // Raw units.
 const ONE: i32 = 65_536;
 
-const SEEN: Masks = Masks {
+pub(crate) const SEEN: Masks = Masks {
     is: 1,
     sees: u32::MAX,
 };
 
-const NOBODYS: Group = Group {
+pub(crate) const NOBODYS: Group = Group {
     owner: 0,
     fixed: false,
 };
 
 // A box of one unit, whose low corner is at whole units.
-fn unit(x: i32, yz: i32) -> Result<FBox, Fail> {
+pub(crate) fn unit(x: i32, yz: i32) -> Result<FBox, Fail> {
     if x.unsigned_abs() > 100 || yz.unsigned_abs() > 100 {
         return Err("whole units near the origin".into());
     }
@@ -142,6 +142,7 @@ fn stale_handles_more_boxes_and_more_marks_are_refused(rt: HostRuntime) -> Resul
 fn a_frame_is_searched_by_any_number_of_workers(rt: HostRuntime) -> Result<(), Fail> {
     let mut world = BoxWorld::new(rt.alloc(), PlainIndex::new(rt.alloc())?)?;
     assert!(rt; world.end_frame(&rt, 0, &NoGate) == Ok(0));
+    world.add(unit(0, 0)?, SEEN, NOBODYS)?;
     assert!(rt; world.end_frame(&rt, 99, &NoGate) == Ok(0));
     Ok(())
 }
