@@ -5,6 +5,7 @@ use box_world::BoxWorld;
 use hier_grid::HierGrid;
 use live_table::{Handle, Masks};
 use pair_events::{Event, HPair, Told};
+use std::alloc::Global;
 use std::test::Fail;
 use std::thread::Threads;
 use test_gates::Entries;
@@ -76,17 +77,23 @@ fn goes<R: Threads + Sync>(
 // Answers whether each step of two boxes that touch comes to what it should.
 fn plays<R: Threads + Sync>(
     rt: &R,
-    mut world: BoxWorld<HierGrid>,
+    world: &mut BoxWorld<HierGrid>,
     steps: &[Step<'_>],
 ) -> Result<bool, Fail> {
     world.add(unit(0, 0)?, SEEN, NOBODYS)?;
     world.add(unit(1, 0)?, SEEN, NOBODYS)?;
     for step in steps {
-        if !goes(rt, &mut world, *step)? {
+        if !goes(rt, world, *step)? {
             return Ok(false);
         }
     }
     Ok(true)
+}
+
+// The same in a world of its own, which is handed on, so that what it owns is let go in one place.
+fn plays_anew<R: Threads + Sync>(rt: &R, alloc: Global, steps: &[Step<'_>]) -> Result<bool, Fail> {
+    let mut world = BoxWorld::new(alloc, HierGrid::new(alloc)?)?;
+    plays(rt, &mut world, steps)
 }
 
 #[test]
@@ -136,8 +143,7 @@ fn a_frame_after_no_change_searches_nothing(rt: HostRuntime) -> Result<(), Fail>
         ],
     ];
     for steps in rows {
-        let world = BoxWorld::new(rt.alloc(), HierGrid::new(rt.alloc())?)?;
-        assert!(rt; plays(&rt, world, steps)?);
+        assert!(rt; plays_anew(&rt, rt.alloc(), steps)?);
     }
     Ok(())
 }

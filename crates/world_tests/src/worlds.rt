@@ -8,6 +8,7 @@ use live_table::{Group, Masks};
 use pair_events::{Event, Told};
 use std::alloc::Global;
 use std::test::Fail;
+use std::thread::Threads;
 use sweep_prune::Sap;
 
 // Raw units.
@@ -127,30 +128,38 @@ fn is_marked_out(world: &mut BoxWorld<PlainIndex>) -> Result<bool, Fail> {
     Ok(!world.mark()? && world.held() == 64)
 }
 
+// Whether a stale handle, one more box than may live and one more mark than may be held are refused.
+fn refuses(world: &mut BoxWorld<PlainIndex>) -> Result<bool, Fail> {
+    let body = unit(0, 0)?;
+    Ok(is_stale(world, body)? && is_full(world, body)? && is_marked_out(world)?)
+}
+
 #[test]
 fn stale_handles_more_boxes_and_more_marks_are_refused(rt: HostRuntime) -> Result<(), Fail> {
     let mut world = BoxWorld::new(rt.alloc(), PlainIndex::new(rt.alloc())?)?;
-    let body = unit(0, 0)?;
-    assert!(rt; is_stale(&mut world, body)?);
-    assert!(rt; is_full(&mut world, body)?);
-    assert!(rt; is_marked_out(&mut world)?);
+    assert!(rt; refuses(&mut world)?);
     Ok(())
+}
+
+// Ends a frame with too few workers, and one with too many behind a change.
+fn ends_frames<R: Threads + Sync>(rt: &R, world: &mut BoxWorld<PlainIndex>) -> Result<bool, Fail> {
+    let few = world.end_frame(rt, 0, &NoGate);
+    world.add(unit(0, 0)?, SEEN, NOBODYS)?;
+    let many = world.end_frame(rt, 99, &NoGate);
+    Ok(few == Ok(0) && many == Ok(0))
 }
 
 // A number of workers out of range counts as the nearest in it.
 #[test]
 fn a_frame_is_searched_by_any_number_of_workers(rt: HostRuntime) -> Result<(), Fail> {
     let mut world = BoxWorld::new(rt.alloc(), PlainIndex::new(rt.alloc())?)?;
-    assert!(rt; world.end_frame(&rt, 0, &NoGate) == Ok(0));
-    world.add(unit(0, 0)?, SEEN, NOBODYS)?;
-    assert!(rt; world.end_frame(&rt, 99, &NoGate) == Ok(0));
+    assert!(rt; ends_frames(&rt, &mut world)?);
     Ok(())
 }
 
 // Two boxes that touch and one apart, which moves to them; a mark, two of them go or see nobody, a frame, and back. Answers
 // whether each call came to what it should.
-fn plays_a_scene(alloc: Global, structure: Structure) -> Result<bool, Fail> {
-    let mut world = AnyWorld::new(alloc, structure)?;
+fn plays_a_scene(alloc: Global, world: &mut AnyWorld, structure: Structure) -> Result<bool, Fail> {
     let first = world.add(unit(0, 0)?, SEEN, NOBODYS)?;
     let second = world.add(unit(1, 0)?, SEEN, NOBODYS)?;
     let third = world.add(unit(5, 5)?, SEEN, NOBODYS)?;
@@ -182,11 +191,18 @@ fn plays_a_scene(alloc: Global, structure: Structure) -> Result<bool, Fail> {
     )
 }
 
+// The scene over a structure. The world is handed on, so that what it owns is let go in one place.
+fn plays_over(alloc: Global, structure: Structure) -> Result<bool, Fail> {
+    let mut world = AnyWorld::new(alloc, structure)?;
+    plays_a_scene(alloc, &mut world, structure)
+}
+
 #[test]
 fn each_structure_plays_a_scene_alike(rt: HostRuntime) -> Result<(), Fail> {
-    assert!(rt; plays_a_scene(rt.alloc(), Structure::Plain)?);
-    assert!(rt; plays_a_scene(rt.alloc(), Structure::Sap)?);
-    assert!(rt; plays_a_scene(rt.alloc(), Structure::Tree)?);
-    assert!(rt; plays_a_scene(rt.alloc(), Structure::Grid)?);
+    assert!(rt; plays_over(rt.alloc(), Structure::Plain)?);
+    assert!(rt; plays_over(rt.alloc(), Structure::Sap)?);
+    assert!(rt; plays_over(rt.alloc(), Structure::Tree)?);
+    assert!(rt; plays_over(rt.alloc(), Structure::Grid)?);
+    assert!(rt; plays_over(rt.alloc(), Structure::Skin)?);
     Ok(())
 }
