@@ -29,7 +29,8 @@ pub each_stays : (before now : List HPair) → list_all (has before) now ≡ tru
 each_stays before [] h = refl
 each_stays before (p ∷ now) h =
     let was : has before p ≡ true = first_so (has before p) (list_all (has before) now) h in
-    rw was (ap (λ (told : List Told). record { event = Stay; pair = p } ∷ told) (each_stays before now (second_so (has before p) (list_all (has before) now) h)))
+    rw was (ap (λ (told : List Told). record { event = Stay; pair = p } ∷ told)
+    (each_stays before now (second_so (has before p) (list_all (has before) now) h)))
 
 -- former pairs that are all there
 pub none_ended : (before now : List HPair) → list_all (has now) before ≡ true → ended before now ≡ []
