@@ -2,7 +2,9 @@
 #![tactic(auto)]
 
 mod named;
+mod skin_tree;
 mod structure;
 
 pub use named::Named;
+pub use skin_tree::SkinTree;
 pub use structure::Structure;

@@ -4,8 +4,9 @@ ghost use Rattle.std.specs.Prelude.{◌≡◌, IfOk, refl};
 ghost use Rattle.broad_index.specs.Fresh.{IsFresh};
 ghost use Rattle.named_index.specs.Structures.{counts};
 ghost use Rattle.named_index.specs.declared.structure.Structure.{Structure};
-ghost use Rattle.named_index.specs.declared.structure.Structure.TheVariants.{Plain, Sap as SapNamed, Tree, Grid};
+ghost use Rattle.named_index.specs.declared.structure.Structure.TheVariants.{Plain, Sap as SapNamed, Tree, Grid, Skin};
 
+use crate::SkinTree;
 use box_tree::BoxTree;
 use broad_index::{BroadPhase, PlainIndex};
 use fixed_box::NoMemory;
@@ -63,5 +64,15 @@ impl Named for HierGrid {
 
     fn made(alloc: Global) -> Result<HierGrid, NoMemory> {
         HierGrid::new(alloc)
+    }
+}
+
+impl Named for SkinTree {
+    ghost STRUCTURE = { Skin };
+
+    ghost counting = { refl };
+
+    fn made(alloc: Global) -> Result<SkinTree, NoMemory> {
+        SkinTree::new(alloc)
     }
 }

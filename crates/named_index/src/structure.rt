@@ -1,4 +1,4 @@
-//! Which broad phase keeps the boxes: a plain list, sorted endpoints, a tree or a grid.
+//! Which broad phase keeps the boxes: a plain list, sorted endpoints, a tree, a grid or a tree of skins.
 
 /// By which structure the boxes are kept.
 #[derive(Clone, Copy, Debug, PartialEq, Eq)]
@@ -11,4 +11,6 @@ pub enum Structure {
     Tree,
     /// A hashed hierarchical grid.
     Grid,
+    /// Boxes in skins over the tree: the one to take where boxes move by little in each tick.
+    Skin,
 }
