@@ -1,4 +1,4 @@
-//! A world over one of four structures, and its changes.
+//! A world over one of five structures, and its changes.
 
 ghost use Rattle.std.specs.Prelude.{◌≡◌, ◌≢◌, [], true, false, length, Ok, Err, None, nat_lt, IfOk, OnErr};
 ghost use Rattle.live_table.specs.Table.{next_handle};
@@ -15,7 +15,7 @@ use broad_index::{Gate, PlainIndex};
 use fixed_box::{FBox, NoMemory};
 use hier_grid::HierGrid;
 use live_table::{Group, Handle, Masks};
-use named_index::{Named, Structure};
+use named_index::{Named, SkinTree, Structure};
 use std::alloc::Global;
 use std::thread::Threads;
 use sweep_prune::Sap;
@@ -24,13 +24,14 @@ use sweep_prune::Sap;
 /// each call does is what `BoxWorld` says of it, and only the exchanges and the time depend on the structure.
 ///
 /// A call costs what that of the `BoxWorld` does, and a test of which it is. There is no call for the index itself, which is of
-/// four types: who wants to ask it from several threads owns a `BoxWorld`.
+/// five types: who wants to ask it from several threads owns a `BoxWorld`.
 #[derive(Drop)]
 pub enum AnyWorld {
     Plain(BoxWorld<PlainIndex>),
     Sap(BoxWorld<Sap>),
     Tree(BoxWorld<BoxTree>),
     Grid(BoxWorld<HierGrid>),
+    Skin(BoxWorld<SkinTree>),
 }
 
 impl AnyWorld {
@@ -45,6 +46,7 @@ impl AnyWorld {
             Structure::Sap => Ok(AnyWorld::Sap(opened_over(alloc)?)),
             Structure::Tree => Ok(AnyWorld::Tree(opened_over(alloc)?)),
             Structure::Grid => Ok(AnyWorld::Grid(opened_over(alloc)?)),
+            Structure::Skin => Ok(AnyWorld::Skin(opened_over(alloc)?)),
         }
     }
 
@@ -57,11 +59,12 @@ impl AnyWorld {
             AnyWorld::Sap(_) => Structure::Sap,
             AnyWorld::Tree(_) => Structure::Tree,
             AnyWorld::Grid(_) => Structure::Grid,
+            AnyWorld::Skin(_) => Structure::Skin,
         }
     }
 
-    /// Whether memory ran out in a change. That change wasn't done, and a spent world has what it had before. Over the tree or the grid
-    /// no world is ever spent.
+    /// Whether memory ran out in a change. That change wasn't done, and a spent world has what it had before. Over the tree, the
+    /// grid or skins no world is ever spent.
     pub fn is_spent(&self) -> bool
         ensures spent { result ≡ (state_of self.now).spent }
         ensures lasting { runs_out (structure_of self.now) ≡ false → result ≡ false }
@@ -71,6 +74,7 @@ impl AnyWorld {
             AnyWorld::Sap(world) => world.is_spent(),
             AnyWorld::Tree(world) => world.is_spent(),
             AnyWorld::Grid(world) => world.is_spent(),
+            AnyWorld::Skin(world) => world.is_spent(),
         }
     }
 
@@ -88,6 +92,7 @@ impl AnyWorld {
             AnyWorld::Sap(world) => world.add(body, masks, group),
             AnyWorld::Tree(world) => world.add(body, masks, group),
             AnyWorld::Grid(world) => world.add(body, masks, group),
+            AnyWorld::Skin(world) => world.add(body, masks, group),
         }
     }
 
@@ -104,6 +109,7 @@ impl AnyWorld {
             AnyWorld::Sap(world) => world.shift(handle, body),
             AnyWorld::Tree(world) => world.shift(handle, body),
             AnyWorld::Grid(world) => world.shift(handle, body),
+            AnyWorld::Skin(world) => world.shift(handle, body),
         }
     }
 
@@ -121,6 +127,7 @@ impl AnyWorld {
             AnyWorld::Sap(world) => world.mask(handle, masks),
             AnyWorld::Tree(world) => world.mask(handle, masks),
             AnyWorld::Grid(world) => world.mask(handle, masks),
+            AnyWorld::Skin(world) => world.mask(handle, masks),
         }
     }
 
@@ -138,6 +145,7 @@ impl AnyWorld {
             AnyWorld::Sap(world) => world.remove(handle),
             AnyWorld::Tree(world) => world.remove(handle),
             AnyWorld::Grid(world) => world.remove(handle),
+            AnyWorld::Skin(world) => world.remove(handle),
         }
     }
 
@@ -156,6 +164,7 @@ impl AnyWorld {
             AnyWorld::Sap(world) => world.update(),
             AnyWorld::Tree(world) => world.update(),
             AnyWorld::Grid(world) => world.update(),
+            AnyWorld::Skin(world) => world.update(),
         }
     }
 
@@ -178,6 +187,7 @@ impl AnyWorld {
             AnyWorld::Sap(world) => world.end_frame(rt, workers, gate),
             AnyWorld::Tree(world) => world.end_frame(rt, workers, gate),
             AnyWorld::Grid(world) => world.end_frame(rt, workers, gate),
+            AnyWorld::Skin(world) => world.end_frame(rt, workers, gate),
         }
     }
 
@@ -194,6 +204,7 @@ impl AnyWorld {
             AnyWorld::Sap(world) => world.mark(),
             AnyWorld::Tree(world) => world.mark(),
             AnyWorld::Grid(world) => world.mark(),
+            AnyWorld::Skin(world) => world.mark(),
         }
     }
 
@@ -212,6 +223,7 @@ impl AnyWorld {
             AnyWorld::Sap(world) => world.back(),
             AnyWorld::Tree(world) => world.back(),
             AnyWorld::Grid(world) => world.back(),
+            AnyWorld::Skin(world) => world.back(),
         }
     }
 }

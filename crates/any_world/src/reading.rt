@@ -27,6 +27,7 @@ impl AnyWorld {
             AnyWorld::Sap(world) => world.get(handle),
             AnyWorld::Tree(world) => world.get(handle),
             AnyWorld::Grid(world) => world.get(handle),
+            AnyWorld::Skin(world) => world.get(handle),
         }
     }
 
@@ -39,6 +40,7 @@ impl AnyWorld {
             AnyWorld::Sap(world) => world.len(),
             AnyWorld::Tree(world) => world.len(),
             AnyWorld::Grid(world) => world.len(),
+            AnyWorld::Skin(world) => world.len(),
         }
     }
 
@@ -51,6 +53,7 @@ impl AnyWorld {
             AnyWorld::Sap(world) => world.frames(),
             AnyWorld::Tree(world) => world.frames(),
             AnyWorld::Grid(world) => world.frames(),
+            AnyWorld::Skin(world) => world.frames(),
         }
     }
 
@@ -64,6 +67,7 @@ impl AnyWorld {
             AnyWorld::Sap(world) => world.exchanges(),
             AnyWorld::Tree(world) => world.exchanges(),
             AnyWorld::Grid(world) => world.exchanges(),
+            AnyWorld::Skin(world) => world.exchanges(),
         }
     }
 
@@ -76,6 +80,7 @@ impl AnyWorld {
             AnyWorld::Sap(world) => world.held(),
             AnyWorld::Tree(world) => world.held(),
             AnyWorld::Grid(world) => world.held(),
+            AnyWorld::Skin(world) => world.held(),
         }
     }
 
@@ -88,6 +93,7 @@ impl AnyWorld {
             AnyWorld::Sap(world) => world.events(),
             AnyWorld::Tree(world) => world.events(),
             AnyWorld::Grid(world) => world.events(),
+            AnyWorld::Skin(world) => world.events(),
         }
     }
 
@@ -101,6 +107,7 @@ impl AnyWorld {
             AnyWorld::Sap(world) => world.pairs(),
             AnyWorld::Tree(world) => world.pairs(),
             AnyWorld::Grid(world) => world.pairs(),
+            AnyWorld::Skin(world) => world.pairs(),
         }
     }
 
@@ -114,6 +121,7 @@ impl AnyWorld {
             AnyWorld::Sap(world) => world.table(),
             AnyWorld::Tree(world) => world.table(),
             AnyWorld::Grid(world) => world.table(),
+            AnyWorld::Skin(world) => world.table(),
         }
     }
 
@@ -131,6 +139,7 @@ impl AnyWorld {
             AnyWorld::Sap(world) => world.hits(query, mask, out),
             AnyWorld::Tree(world) => world.hits(query, mask, out),
             AnyWorld::Grid(world) => world.hits(query, mask, out),
+            AnyWorld::Skin(world) => world.hits(query, mask, out),
         }
     }
 
@@ -148,6 +157,7 @@ impl AnyWorld {
             AnyWorld::Sap(world) => world.entered(ray, mask, out),
             AnyWorld::Tree(world) => world.entered(ray, mask, out),
             AnyWorld::Grid(world) => world.entered(ray, mask, out),
+            AnyWorld::Skin(world) => world.entered(ray, mask, out),
         }
     }
 
@@ -166,6 +176,7 @@ impl AnyWorld {
             AnyWorld::Sap(world) => world.cast(cast, mask, out),
             AnyWorld::Tree(world) => world.cast(cast, mask, out),
             AnyWorld::Grid(world) => world.cast(cast, mask, out),
+            AnyWorld::Skin(world) => world.cast(cast, mask, out),
         }
     }
 
@@ -183,6 +194,7 @@ impl AnyWorld {
             AnyWorld::Sap(world) => world.nearest(query, out),
             AnyWorld::Tree(world) => world.nearest(query, out),
             AnyWorld::Grid(world) => world.nearest(query, out),
+            AnyWorld::Skin(world) => world.nearest(query, out),
         }
     }
 }
