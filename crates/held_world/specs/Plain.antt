@@ -18,8 +18,8 @@ use Rattle.pair_events.specs.declared.told.Told.{Told}
 use Rattle.broad_index.specs.declared.query.Query.{Query}
 use Rattle.broad_index.specs.declared.query.Query.TheVariants.{Region, Spot, Along, Between}
 use Rattle.named_index.specs.declared.structure.Structure.{Structure}
-use Rattle.named_index.specs.declared.structure.Structure.TheVariants.{Plain, Sap, Tree, Grid}
-use Rattle.held_world.specs.declared.TheConstants.{PLAIN, SAP, TREE, GRID, BEGIN, STAY, OVER, REGION, POINT, RAY, SEGMENT}
+use Rattle.named_index.specs.declared.structure.Structure.TheVariants.{Plain, Sap, Tree, Grid, Skin}
+use Rattle.held_world.specs.declared.TheConstants.{PLAIN, SAP, TREE, GRID, SKIN, BEGIN, STAY, OVER, REGION, POINT, RAY, SEGMENT}
 use Rattle.held_world.specs.declared.plain.PwPoint.{PwPoint}
 use Rattle.held_world.specs.declared.plain.PwBox.{PwBox}
 use Rattle.held_world.specs.declared.plain.PwGroup.{PwGroup}
@@ -95,13 +95,15 @@ structure_in number =
     if number == PLAIN then Some Plain
     else (if number == SAP then Some Sap
     else (if number == TREE then Some Tree
-    else (if number == GRID then Some Grid else None)))
+    else (if number == GRID then Some Grid
+    else (if number == SKIN then Some Skin else None))))
 
 abbrev pub structure_out : Structure → ℕ
 structure_out Plain = PLAIN
 structure_out Sap = SAP
 structure_out Tree = TREE
 structure_out Grid = GRID
+structure_out Skin = SKIN
 
 abbrev pub ray_in : PwRay → Ray
 ray_in r = record { from = widened (point_in r.from); dir = widened (point_in r.direction) }

@@ -3,7 +3,7 @@
 ghost use Rattle.std.specs.Prelude.{◌≡◌};
 ghost use Rattle.held_world.specs.declared.TheConstants.{OK, STALE, FULL, NO_MEMORY, INVERTED, CLOSED, ARGUMENT, EXHAUSTED};
 ghost use Rattle.held_world.specs.declared.TheConstants.{NO_MARK, NOT_A_NUMBER, OUT_OF_RANGE};
-ghost use Rattle.held_world.specs.declared.TheConstants.{PLAIN, SAP, TREE, GRID, BEGIN, STAY, OVER, REGION, POINT, RAY, SEGMENT};
+ghost use Rattle.held_world.specs.declared.TheConstants.{PLAIN, SAP, TREE, GRID, SKIN, BEGIN, STAY, OVER, REGION, POINT, RAY, SEGMENT};
 ghost use Rattle.held_world.specs.Answers.{status, status_of};
 
 use crate::{EXHAUSTED, FULL, NO_MEMORY, OK, STALE};
@@ -42,7 +42,7 @@ pub fn number_law()
     ensures statuses { (OK ≡ 0) × (STALE ≡ 1) × (FULL ≡ 2) × (NO_MEMORY ≡ 3)
         × (INVERTED ≡ 4) × (CLOSED ≡ 5) × (ARGUMENT ≡ 6) × (EXHAUSTED ≡ 7)
         × (NO_MARK ≡ 8) × (NOT_A_NUMBER ≡ 9) × (OUT_OF_RANGE ≡ 10) }
-    ensures structures { (PLAIN ≡ 0) × (SAP ≡ 1) × (TREE ≡ 2) × (GRID ≡ 3) }
+    ensures structures { (PLAIN ≡ 0) × (SAP ≡ 1) × (TREE ≡ 2) × (GRID ≡ 3) × (SKIN ≡ 4) }
     ensures events { (BEGIN ≡ 0) × (STAY ≡ 1) × (OVER ≡ 2) }
     ensures kinds { (REGION ≡ 0) × (POINT ≡ 1) × (RAY ≡ 2) × (SEGMENT ≡ 3) }
 {}

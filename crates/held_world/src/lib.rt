@@ -67,6 +67,9 @@ pub const TREE: u32 = 2;
 /// The hashed grid.
 pub const GRID: u32 = 3;
 
+/// Boxes in skins over the tree.
+pub const SKIN: u32 = 4;
+
 /// A pair began.
 pub const BEGIN: u32 = 0;
 

@@ -4,7 +4,7 @@ ghost use Rattle.std.specs.Prelude.{◌≡◌, Some};
 ghost use Rattle.held_world.specs.Plain.{point_in, body_in, masks_in, group_in, handle_in, query_in, structure_in};
 ghost use Rattle.held_world.specs.Plain.{handle_out, point_out, box_out, live_out, pair_out, told_out, event_out, structure_out};
 
-use crate::{BEGIN, GRID, OVER, PLAIN, POINT, RAY, REGION, SAP, SEGMENT, STAY, TREE};
+use crate::{BEGIN, GRID, OVER, PLAIN, POINT, RAY, REGION, SAP, SEGMENT, SKIN, STAY, TREE};
 use broad_index::Query;
 use fixed_box::{FBox, Point};
 use live_table::{Group, Handle, Live, Masks};
@@ -245,6 +245,8 @@ pub fn structure_of(number: u32) -> Option<Structure>
         Some(Structure::Tree)
     } else if number == GRID {
         Some(Structure::Grid)
+    } else if number == SKIN {
+        Some(Structure::Skin)
     } else {
         None
     }
@@ -260,5 +262,6 @@ pub(crate) fn structure_out(structure: Structure) -> u32
         Structure::Sap => SAP,
         Structure::Tree => TREE,
         Structure::Grid => GRID,
+        Structure::Skin => SKIN,
     }
 }

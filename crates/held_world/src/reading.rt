@@ -41,7 +41,7 @@ impl HeldWorld {
         }
     }
 
-    /// What the world is. A spent world has no exchanges, and over the tree or the grid none is spent.
+    /// What the world is. A spent world has no exchanges, and over the tree, the grid or skins none is spent.
     pub fn info(&self) -> PwInfo
         ensures told { result ≡ info_of self.now.world }
         ensures lasting { runs_out (structure_of self.now.world) ≡ false → result.spent ≡ 0 }
