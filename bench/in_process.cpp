@@ -289,6 +289,7 @@ template <uint32_t structure, bool each> std::unique_ptr<Engine> ours() { return
 const Named engines[] = {
     {"plain", ours<PW_PLAIN, false>, true}, {"sap", ours<PW_SAP, false>, true},       {"tree", ours<PW_TREE, false>, true},
     {"tree, a call a move", ours<PW_TREE, true>, true}, {"grid", ours<PW_GRID, false>, true}, {"grid, a call a move", ours<PW_GRID, true>, true},
+    {"skin", ours<PW_SKIN, false>, true}, {"skin, a call a move", ours<PW_SKIN, true>, true},
 #ifdef WITH_BULLET
     {"bullet's dbvt", [] { return std::unique_ptr<Engine>(new Bullet); }, false},
 #endif

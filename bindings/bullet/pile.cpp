@@ -209,7 +209,9 @@ int main() {
         for (int step = 0; step < steps; step++) falling.world.stepSimulation(btScalar(1) / 60, 0);
         std::printf("over btDbvtBroadphase: %d of %d boxes asleep\n", falling.asleep(), boxes);
     }
-    for (auto structure : {pungwelair::Structure::tree, pungwelair::Structure::grid}) {
+    const std::pair<pungwelair::Structure, const char*> named[] = {
+        {pungwelair::Structure::tree, "tree"}, {pungwelair::Structure::grid, "grid"}, {pungwelair::Structure::skin, "skin"}};
+    for (auto [structure, name] : named) {
         pungwelair::BulletBroadphase broadphase(structure);
         btDbvtBroadphase dbvt;
         Colliding ours(broadphase, shapes), theirs(dbvt, shapes);
@@ -224,7 +226,6 @@ int main() {
             contacts += long(found.size());
             if (step % steps_to_rays == 0) compared.compare(ours, theirs, step);
         }
-        const char* name = structure == pungwelair::Structure::tree ? "tree" : "grid";
         std::printf("%s: %ld pairs in contact, %ld of %d rays hit, %ld with another first hit\n", name, contacts, compared.hits,
                     rays * steps / steps_to_rays, compared.others);
         std::printf("%s: %.3f ms a step for boxes and pairs, and %.3f ms over btDbvtBroadphase\n", name, ours.milliseconds(),

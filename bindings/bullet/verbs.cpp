@@ -328,7 +328,7 @@ void own_caches() {
 }  // namespace
 
 int main() {
-    for (auto structure : {Structure::plain, Structure::sap, Structure::tree, Structure::grid}) {
+    for (auto structure : {Structure::plain, Structure::sap, Structure::tree, Structure::grid, Structure::skin}) {
         filters(structure);
         callback_filters(structure);
         groups(structure);

@@ -61,10 +61,10 @@ enum {
     PW_STALE = 1,         /* no live box has the handle */
     PW_FULL = 2,          /* PW_SLOTS boxes live, or PW_MOST_MARKS marks are held */
     PW_NO_MEMORY = 3,     /* malloc gave none, and what ran out wasn't done: of a batch the steps before it were. After pw_add,
-                             pw_move or pw_back a world over PW_PLAIN or PW_SAP may be spent, which pw_info tells; one over PW_TREE
-                             or PW_GRID never is. A spent world keeps what it had: pw_get, pw_pairs, pw_events and pw_info tell its
-                             boxes, pairs, events, frames and marks, and all that would change or ask it gives this. Close it, open
-                             another one and add its boxes there. After any other call all is as before: ask again. */
+                             pw_move or pw_back a world over PW_PLAIN or PW_SAP may be spent, which pw_info tells; one over PW_TREE,
+                             PW_GRID or PW_SKIN never is. A spent world keeps what it had: pw_get, pw_pairs, pw_events and pw_info
+                             tell its boxes, pairs, events, frames and marks, and all that would change or ask it gives this. Close
+                             it, open another one and add its boxes there. After any other call all is as before: ask again. */
     PW_INVERTED = 4,      /* lo > hi on some axis */
     PW_CLOSED = 5,        /* the world isn't open */
     PW_ARGUMENT = 6,      /* no such structure or kind of question, a region whose lo > hi, lengths that don't agree, or an open
@@ -81,7 +81,9 @@ enum {
     PW_PLAIN = 0, /* tests every two: for a few hundred boxes */
     PW_SAP = 1,   /* sweep and prune: if you want exchanges counted; slow by far if boxes go far or are added often */
     PW_TREE = 2,  /* a dynamic tree of enlarged boxes that keeps its pairs: where few boxes move, or much is asked */
-    PW_GRID = 3   /* a hashed grid of levels: where most boxes move */
+    PW_GRID = 3,  /* a hashed grid of levels: where most boxes move */
+    PW_SKIN = 4   /* boxes in skins, a margin around each, over the tree, which hears only of those that leave it: where boxes move by
+                     little in each tick, as bodies at rest or near it do */
 };
 
 /* What became of a pair. */

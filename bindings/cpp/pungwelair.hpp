@@ -37,7 +37,7 @@ enum class [[nodiscard]] Status : pw_status {
     out_of_range = PW_OUT_OF_RANGE
 };
 
-enum class Structure : uint32_t { plain = PW_PLAIN, sap = PW_SAP, tree = PW_TREE, grid = PW_GRID };
+enum class Structure : uint32_t { plain = PW_PLAIN, sap = PW_SAP, tree = PW_TREE, grid = PW_GRID, skin = PW_SKIN };
 
 enum class Event : uint32_t { begin = PW_BEGIN, stay = PW_STAY, over = PW_OVER };
 

@@ -134,6 +134,7 @@ int main() {
     compare<double>(pungwelair::Structure::tree, "tree, double");
     compare<float>(pungwelair::Structure::tree, "tree, float");
     compare<double>(pungwelair::Structure::grid, "grid, double");
+    compare<double>(pungwelair::Structure::skin, "skin, double");
     std::printf("arm: %d failed\n", failures);
     return failures != 0;
 }

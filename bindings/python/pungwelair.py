@@ -9,7 +9,7 @@ from pathlib import Path
 
 library = ctypes.CDLL(str(Path(__file__).parent.parent / "out" / "libpungwelair.so"))
 
-PLAIN, SAP, TREE, GRID = range(4)
+PLAIN, SAP, TREE, GRID, SKIN = range(5)
 BEGIN, STAY, OVER = range(3)
 SLOTS = 8192
 ALL = 0xFFFFFFFF

@@ -141,6 +141,7 @@ pungwelair::Structure structure_of(const std::string& name) {
     if (name == "sap") return pungwelair::Structure::sap;
     if (name == "tree") return pungwelair::Structure::tree;
     if (name == "grid") return pungwelair::Structure::grid;
+    if (name == "skin") return pungwelair::Structure::skin;
     fail("no such structure");
 }
 

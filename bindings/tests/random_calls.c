@@ -310,8 +310,8 @@ static void try_some_call(uint32_t structure) {
 
 int main(int count, char **words) {
     long calls = count > 1 ? atol(words[1]) : 20000;
-    for (uint32_t structure = PW_PLAIN; structure <= PW_GRID; structure++) {
-        seed = (count > 2 ? strtoull(words[2], NULL, 10) : 1) * 4 + structure;
+    for (uint32_t structure = PW_PLAIN; structure <= PW_SKIN; structure++) {
+        seed = (count > 2 ? strtoull(words[2], NULL, 10) : 1) * 5 + structure;
         now = (struct model){0};
         marks = 0, told_count = handle_count = 0;
         EXPECT(pw_open(&world, structure) == PW_OK);

@@ -284,8 +284,8 @@ static void run(uint32_t structure) {
 }
 
 int main(void) {
-    static const char *const names[] = {"plain", "sap", "tree", "grid"};
-    for (uint32_t structure = PW_PLAIN; structure <= PW_GRID; structure++) {
+    static const char *const names[] = {"plain", "sap", "tree", "grid", "skin"};
+    for (uint32_t structure = PW_PLAIN; structure <= PW_SKIN; structure++) {
         refused_request = -1;
         is_first_run = true;
         run(structure);

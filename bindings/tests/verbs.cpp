@@ -12,7 +12,7 @@ using pungwelair::World;
 
 namespace {
 
-constexpr Structure structures[] = {Structure::plain, Structure::sap, Structure::tree, Structure::grid};
+constexpr Structure structures[] = {Structure::plain, Structure::sap, Structure::tree, Structure::grid, Structure::skin};
 constexpr pw_point origin{0, 0, 0};
 constexpr pw_box inverted{{1, 0, 0}, {0, 0, 0}};
 
@@ -101,8 +101,8 @@ void floats() {
 // Each thread has a world of its own, made by another.
 void several_threads() {
     std::vector<std::thread> threads;
-    std::array<std::size_t, 4> pairs{};
-    for (std::size_t k = 0; k < 4; k++)
+    std::array<std::size_t, std::size(structures)> pairs{};
+    for (std::size_t k = 0; k < pairs.size(); k++)
         threads.emplace_back([&pairs, k, world = World(structures[k])]() mutable {
             bool added = true;
             for (int32_t x = 0; x < 500; x++) added = world.add(cube(x * 5)) && added;

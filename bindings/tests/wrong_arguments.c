@@ -76,7 +76,7 @@ static void closed_world(void) {
     pw_world_info info[1];
     size_t count;
     EXPECT(pw_close(&world) == PW_CLOSED);
-    EXPECT(pw_open(&world, 4) == PW_ARGUMENT);
+    EXPECT(pw_open(&world, 5) == PW_ARGUMENT);
     EXPECT(pw_open(&world, ~0u) == PW_ARGUMENT);
     EMPTY(pw_add(&world, boxes, BOXES, &how, out, BOXES, &count), PW_CLOSED, count, out);
     EMPTY(pw_add(&world, boxes, BOXES, &how, out, 0, &count), PW_CLOSED, count, out);
@@ -111,6 +111,7 @@ static void open_with_boxes(uint32_t structure) {
 static void wrong_opening(void) {
     REFUSED(pw_open(&world, PW_PLAIN), PW_ARGUMENT);
     REFUSED(pw_open(&world, PW_GRID), PW_ARGUMENT);
+    REFUSED(pw_open(&world, PW_SKIN), PW_ARGUMENT);
     REFUSED(pw_open(&world, 77), PW_ARGUMENT);
 }
 
@@ -339,7 +340,7 @@ static void wrong_doubles(void) {
 
 int main(void) {
     closed_world();
-    for (uint32_t structure = PW_PLAIN; structure <= PW_GRID; structure++) {
+    for (uint32_t structure = PW_PLAIN; structure <= PW_SKIN; structure++) {
         open_with_boxes(structure);
         wrong_opening();
         wrong_adds();

@@ -10,8 +10,8 @@ pub enum Error {
     /// 8,192 boxes live, or 64 marks are held.
     Full,
     /// Memory ran out, and what ran out wasn't done. After `add`, `shift` and `back` a world over `Plain` or `Sap` may be spent, which
-    /// `info` tells: it keeps what it had, so add its boxes to another one and drop it. One over `Tree` or `Grid` never is. After any
-    /// other call all is as before.
+    /// `info` tells: it keeps what it had, so add its boxes to another one and drop it. One over `Tree`, `Grid` or `Skin` never is. After
+    /// any other call all is as before.
     NoMemory,
     /// A lower corner is above the upper one.
     Inverted,
@@ -105,6 +105,9 @@ pub enum Structure {
     Tree = 2,
     /// A hashed grid of levels: where most boxes move.
     Grid = 3,
+    /// Boxes in skins, a margin around each, over the tree, which hears only of those that leave it: where boxes move by little in each
+    /// tick, as bodies at rest or near it do.
+    Skin = 4,
 }
 
 /// A place or a displacement, in raw units of 1/65,536.
@@ -308,7 +311,8 @@ impl Info {
             0 => Structure::Plain,
             1 => Structure::Sap,
             2 => Structure::Tree,
-            _ => Structure::Grid,
+            3 => Structure::Grid,
+            _ => Structure::Skin,
         }
     }
 

@@ -5,7 +5,7 @@ use pungwelair::{
     Stopped, Structure, Told, World,
 };
 
-const STRUCTURES: [Structure; 4] = [Structure::Plain, Structure::Sap, Structure::Tree, Structure::Grid];
+const STRUCTURES: [Structure; 5] = [Structure::Plain, Structure::Sap, Structure::Tree, Structure::Grid, Structure::Skin];
 const ORIGIN: Point = Point { x: 0, y: 0, z: 0 };
 
 fn cube(x: i32) -> Body {
