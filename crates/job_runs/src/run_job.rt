@@ -13,7 +13,7 @@ use broad_index::{NoGate, PlainIndex};
 use frame_player::{Limits, Status, play, upgrade};
 use hier_grid::HierGrid;
 use job_words::{Job, Structure, Task, read_words};
-use named_index::Named;
+use named_index::{Named, SkinTree};
 use play_io::{Sink, Source};
 use scene_drill::{DrillJob, Load, drill};
 use scene_lines::MOST_LINES;
@@ -62,6 +62,7 @@ pub fn broadplay<R: Threads + Sync, S: Source, K: Sink>(
         Structure::Sap => run_over::<R, Sap, S, K>(rt, alloc, job, source, sink),
         Structure::Tree => run_over::<R, BoxTree, S, K>(rt, alloc, job, source, sink),
         Structure::Grid => run_over::<R, HierGrid, S, K>(rt, alloc, job, source, sink),
+        Structure::Skin => run_over::<R, SkinTree, S, K>(rt, alloc, job, source, sink),
     }
 }
 
