@@ -100,7 +100,7 @@ abbrev pub Puts : {A : Type 0} → Result A ℕ → ℕ → A → A → Type 0
 Puts (Ok x) status old new = (status ≡ OK) × (new ≡ x)
 Puts (Err why) status old new = (status ≡ why) × (new ≡ old)
 
--- What a call says that tells what a world is: over the tree or the grid none is spent.
+-- What a call says that tells what a world is: over the tree, the grid or skins none is spent.
 pub record IsInfo (status : ℕ) (info : PwInfo) (was : AnyWorld) : Type 0 where
   pub ok : status ≡ OK
   pub told : info ≡ info_of was

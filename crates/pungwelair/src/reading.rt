@@ -82,7 +82,7 @@ pub extern "C" fn pw_events(
     OK
 }
 
-/// What the world is. Over the tree or the grid none is spent.
+/// What the world is. Over the tree, the grid or skins none is spent.
 #[unsafe(no_mangle)]
 pub extern "C" fn pw_info(alloc: Global, world: &mut PwWorld, out: &mut PwInfo) -> u32
     ensures { Calls (λ was now. (now ≡ was) × IsInfo result out.new was.world) ((result ≡ CLOSED) × (out.new ≡ out.old))
