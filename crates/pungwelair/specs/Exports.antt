@@ -38,7 +38,7 @@ pub record IsClosed {A : Type 0} (reply : Reply) (room out : A) : Type 0 where
   pub same : out ≡ room
 
 -- the world has the same structure, and is as it was
-pub record IsKept (was now : AnyWorld) : Type 0 where
+pub record IsAsBefore (was now : AnyWorld) : Type 0 where
   pub state : state_of now ≡ state_of was
   pub structure : structure_of now ≡ structure_of was
 
@@ -88,7 +88,7 @@ pub record Removes (handles : List PwHandle) (reply : Reply) (was now : AnyWorld
 -- changed by it.
 pub record Asked (none : ℕ) (hits : List Live → Option (List Handle)) (reply : Reply) (room out : List PwHandle) (was now : AnyWorld) : Type 0 where
   pub answer : Asks none (hits (state_of was).time.now.table.entries) (state_of was).spent reply room out
-  pub kept : IsKept was now
+  pub kept : IsAsBefore was now
 
 -- What a call says that copies items from number `from` on.
 pub record Copies {A B : Type 0} (shape : A → B) (from : ℕ) (items : List A) (reply : Reply) (room out : List B) : Type 0 where
@@ -123,7 +123,7 @@ pub record Updates (status : ℕ) (counts : PwCounts) (was now : AnyWorld) : Typ
   pub structure : structure_of now ≡ structure_of was
 
 -- what a call says that marks the world
-pub record Marks (status : ℕ) (was now : AnyWorld) : Type 0 where
+pub record MarksWorld (status : ℕ) (was now : AnyWorld) : Type 0 where
   pub answer : let old = state_of was in Tells (mark_refusal old.time) (with_time old (marked old.time)) status old (state_of now)
   pub spent : status ≡ NO_MEMORY → (state_of was).spent ≡ true
   pub same : status ≢ OK → state_of now ≡ state_of was

@@ -3,7 +3,7 @@
 ghost use Rattle.std.specs.Prelude.{◌≡◌};
 ghost use Rattle.held_world.specs.declared.TheConstants.{CLOSED};
 ghost use Rattle.held_world.specs.Plain.{handle_in, masks_in};
-ghost use Rattle.pungwelair.specs.Exports.{Calls, SetsMasks, Updates, Marks, GoesBack};
+ghost use Rattle.pungwelair.specs.Exports.{Calls, SetsMasks, Updates, MarksWorld, GoesBack};
 
 use crate::world::PwWorld;
 use held_world::{CLOSED, PwCounts, PwHandle, PwMasks};
@@ -49,7 +49,7 @@ pub extern "C" fn pw_update(alloc: Global, world: &mut PwWorld, counts: &mut PwC
 /// Marks the world as it stands.
 #[unsafe(no_mangle)]
 pub extern "C" fn pw_mark(alloc: Global, world: &mut PwWorld) -> u32
-    ensures { Calls (λ was now. Marks result was.world now.world) (result ≡ CLOSED) world.old.held.inner world.new.held.inner }
+    ensures { Calls (λ was now. MarksWorld result was.world now.world) (result ≡ CLOSED) world.old.held.inner world.new.held.inner }
 {
     let Some(mut held) = world.take(alloc) else {
         return CLOSED;
