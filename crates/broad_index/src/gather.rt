@@ -1,6 +1,6 @@
 //! The pairs that several searches found, put together.
 
-ghost use Rattle.std.specs.Prelude.{◌≡◌, ◌+◌, ◌-◌, ◌^◌, ◌++◌, min, sum, map, IfOk, OnOk};
+ghost use Rattle.std.specs.Prelude.{◌≡◌, ◌+◌, ◌-◌, ◌^◌, ◌++◌, min, sum, map, IfOk, OnOk, OnErr};
 ghost use Rattle.work_pieces.specs.Runs.{put_together};
 ghost use Rattle.broad_index.specs.declared.pair.Pair.{Pair};
 ghost use Rattle.broad_index.specs.Members.{has_pair};
@@ -12,7 +12,8 @@ use slot_lists::push_mapped;
 
 /// Appends a slot with each of a list, the lower one first. After an `Err` `out` is as before.
 pub fn push_ordered_pairs(slot: u32, slots: &[u32], out: &mut Vec<Pair>) -> Result<(), NoMemory>
-    ensures { OnOk result (out.new.items ≡ out.old.items ++ ordered_pairs slot slots.now) }
+    ensures ok { OnOk result (out.new.items ≡ out.old.items ++ ordered_pairs slot slots.now) }
+    ensures err { OnErr result (out.new.items ≡ out.old.items) }
 {
     push_mapped(slots, out, |other| Pair::ordered(slot, *other))
 }
