@@ -14,7 +14,7 @@ use broad_index::Query;
 use fixed_box::NoMemory;
 use live_queries::NearQuery;
 use live_table::{Handle, Live, LiveTable};
-use pair_events::{HPair, Told};
+use pair_events::{Events, HPair};
 use ray_slabs::Ray;
 
 impl AnyWorld {
@@ -84,9 +84,10 @@ impl AnyWorld {
         }
     }
 
-    /// What was told of the last frame that ended: each pair of it, as it began or stayed, and then each pair that was over.
-    pub fn events(&self) -> &[Told]
-        ensures { result.now ≡ (state_of self.now).told }
+    /// What was told of the last frame that ended: each pair of it, as it began or stayed, and then each pair that was over. The events
+    /// are made while they are read, of the pairs of that frame and of `began` and `over`.
+    pub fn events(&self) -> Events<'_>
+        ensures { result ≡ (state_of self.now).told }
     {
         match self {
             AnyWorld::Plain(world) => world.events(),
@@ -94,6 +95,32 @@ impl AnyWorld {
             AnyWorld::Tree(world) => world.events(),
             AnyWorld::Grid(world) => world.events(),
             AnyWorld::Skin(world) => world.events(),
+        }
+    }
+
+    /// The pairs that began in the last frame that ended, by the slots of their boxes.
+    pub fn began(&self) -> &[HPair]
+        ensures { result.now ≡ (state_of self.now).began }
+    {
+        match self {
+            AnyWorld::Plain(world) => world.began(),
+            AnyWorld::Sap(world) => world.began(),
+            AnyWorld::Tree(world) => world.began(),
+            AnyWorld::Grid(world) => world.began(),
+            AnyWorld::Skin(world) => world.began(),
+        }
+    }
+
+    /// The pairs of the frame before it that were over then, by the slots of their boxes.
+    pub fn over(&self) -> &[HPair]
+        ensures { result.now ≡ (state_of self.now).over }
+    {
+        match self {
+            AnyWorld::Plain(world) => world.over(),
+            AnyWorld::Sap(world) => world.over(),
+            AnyWorld::Tree(world) => world.over(),
+            AnyWorld::Grid(world) => world.over(),
+            AnyWorld::Skin(world) => world.over(),
         }
     }
 

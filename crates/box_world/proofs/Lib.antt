@@ -4,3 +4,5 @@ pub mod Gone
 pub mod Marked
 pub mod Refused
 pub mod Stale
+pub mod StillHolding
+pub mod Telling

@@ -3,6 +3,7 @@ use Rattle.std.proofs.Common.{◌≡◌, ◌≢◌, ◌==◌, Bool, true, false,
 use Rattle.std.proofs.Common.{◌<◌, ◌⊎◌, subst, arith}
 use Rattle.std.proofs.lemmas.Bool.{ne_eqb}
 use Rattle.fixed_box.specs.declared.TheConstants.{SLOTS}
+use Rattle.pair_events.specs.declared.hpair.HPair.{HPair}
 use Rattle.pair_events.specs.declared.told.Told.{Told}
 use Rattle.live_table.specs.declared.handle.Handle.{Handle}
 use Rattle.live_table.specs.Table.{Table, least_free, next_handle}
@@ -29,9 +30,13 @@ may_shift w handle live within = rw (live, within) refl
 pub slot_left : (handle : Handle) (t : Table) → handle ≡ next_handle t → handle.slot < SLOTS → least_free t ≢ SLOTS
 slot_left handle t is small none = let same : handle.slot ≡ least_free t = ap (λ h. h.slot) is in absurd (omega (arith, same, small, none))
 
-pub same_state : (t u : Timeline) (es fs : List Told) (spent : Bool) → t ≡ u → es ≡ fs
-    → ◌≡◌ {A = State} (record { time = t; told = es; spent = spent }) (record { time = u; told = fs; spent = spent })
-same_state t u es fs spent e f = ap (λ a. record { time = a; told = es; spent = spent }) e ∙ ap (λ a. record { time = u; told = a; spent = spent }) f
+pub same_state : (t u : Timeline) (es fs : List Told) (bs cs os ps : List HPair) (spent : Bool) → t ≡ u → es ≡ fs → bs ≡ cs → os ≡ ps
+    → ◌≡◌ {A = State} (record { time = t; told = es; began = bs; over = os; spent = spent }) (record { time = u; told = fs; began = cs; over = ps; spent = spent })
+same_state t u es fs bs cs os ps spent time told began over =
+    ap (λ a. record { time = a; told = es; began = bs; over = os; spent = spent }) time
+    ∙ ap (λ a. record { time = u; told = a; began = bs; over = os; spent = spent }) told
+    ∙ ap (λ a. record { time = u; told = fs; began = a; over = os; spent = spent }) began
+    ∙ ap (λ a. record { time = u; told = fs; began = cs; over = a; spent = spent }) over
 
 -- an answer of want of memory alone, where the world is as before
 pub ran_out : {A : Type 0} (cause : Option Refusal) (after old new : State) (result : Result A Refusal) → IsErrAnd result (λ r. r ≡ NoMemory)
@@ -47,7 +52,9 @@ spent_from exchanges spent before old new is =
     let v = world_in exchanges new in
     let w = world_in exchanges old in record {
       spent = refl;
-      told = ap (λ v. v.items) is.events;
+      told = is.tells.told;
+      began = ap (λ v. v.items) is.tells.began;
+      over = ap (λ v. v.items) is.tells.over;
       marks = ap (λ ms. worlds_back v (reverse ms)) is.marks ∙ same_worlds v w (reverse old.marks.marks) is.table is.last;
       table = is.table;
       last = is.last;

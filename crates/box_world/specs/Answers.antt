@@ -5,21 +5,25 @@ use Rattle.fixed_box.specs.declared.TheConstants.{SLOTS}
 use Rattle.live_table.specs.declared.handle.Handle.{Handle}
 use Rattle.live_table.specs.Entries.{entry_at}
 use Rattle.live_table.specs.Table.{least_free}
+use Rattle.pair_events.specs.declared.hpair.HPair.{HPair}
 use Rattle.pair_events.specs.declared.told.Told.{Told}
-use Rattle.pair_events.specs.PairEvents.{events}
+use Rattle.pair_events.specs.PairEvents.{events, missing}
 use Rattle.box_world.specs.declared.TheConstants.{MOST_FRAMES_COUNTED, MOST_EXCHANGES}
 use Rattle.box_world.specs.declared.refusal.Refusal.{Refusal}
 use Rattle.box_world.specs.declared.refusal.Refusal.TheVariants.{Stale, Full, Exhausted, NoMemory}
 use Rattle.box_world.specs.World.{World, Timeline, beginning, pairs, framed}
 
--- The world with its marks, what was told of the last frame that ended, and whether memory ran out in a change.
+-- The world with its marks; what was told of the last frame that ended, with the pairs that began in it and those that were over; and
+-- whether memory ran out in a change.
 pub record State : Type 0 where
   pub time : Timeline
   pub told : List Told
+  pub began : List HPair
+  pub over : List HPair
   pub spent : Bool
 
 abbrev pub opened : State
-opened = record { time = beginning; told = []; spent = false }
+opened = record { time = beginning; told = []; began = []; over = []; spent = false }
 
 -- with another world, and the same marks
 abbrev pub with_world : State → World → State
@@ -29,9 +33,12 @@ with_world s w = record s { time = record s.time { now = w } }
 abbrev pub with_time : State → Timeline → State
 with_time s t = record s { time = t }
 
--- the frame is over, and its events are told
+-- the frame is over, and what it changed is told
 abbrev pub after_frame : State → State
-after_frame s = record (with_world s (framed s.time.now)) { told = events s.time.now.last (pairs s.time.now) }
+after_frame s =
+    let before = s.time.now.last in
+    let now = pairs s.time.now in
+    record (with_world s (framed s.time.now)) { told = events before now; began = missing now before; over = missing before now }
 
 -- a live box has the handle
 abbrev pub is_live : World → Handle → Bool
@@ -77,6 +84,8 @@ pub record IsRefused (cause : Option Refusal) (refusal : Refusal) (old new : Sta
 pub record IsSpentFrom (old new : State) : Type 0 where
   pub spent : new.spent ≡ true
   pub told : new.told ≡ old.told
+  pub began : new.began ≡ old.began
+  pub over : new.over ≡ old.over
   pub marks : new.time.marks ≡ old.time.marks
   pub table : new.time.now.table ≡ old.time.now.table
   pub last : new.time.now.last ≡ old.time.now.last

@@ -11,9 +11,11 @@ use crate::since::Since;
 use crate::{MOST_EXCHANGES, Refusal, exchange_law};
 use broad_index::{BroadPhase, Pair};
 use fixed_box::{FBox, NoMemory};
+use live_queries::current_laws;
 use live_table::{Group, Handle, Live, LiveTable, Masks, map_laws, undo_laws};
-use pair_events::{PairTable, Told};
+use pair_events::{HPair, PairTable};
 use std::alloc::Global;
+use std::mem;
 use world_marks::{Marks, Restored, Undo, undone_laws};
 
 // What a world keeps in step: the live boxes, an index that has them, the last pairs, and the marks with the way back to each.
@@ -28,9 +30,14 @@ pub(crate) struct Parts<B: Drop> {
     // The exchanges of the world before the index was last cleared on a way back.
     pub earlier: u64,
     pub since: Since,
-    pub events: Vec<Told>,
+    // What the last frame that ended changed.
+    pub began: Vec<HPair>,
+    pub over: Vec<HPair>,
+    // The pairs of that frame, where they aren't the last ones any more, since the world went back behind it.
+    pub shown: Option<PairTable>,
     // Room, kept from call to call.
-    pub next_events: Vec<Told>,
+    pub next_began: Vec<HPair>,
+    pub next_over: Vec<HPair>,
     pub pairs: Vec<Pair>,
     pub slots: Vec<u32>,
 }
@@ -43,13 +50,15 @@ impl<B: BroadPhase + Drop> Parts<B> {
     ghost use Rattle.box_world.specs.declared.refusal.Refusal.TheVariants.{Stale, NoMemory as no_memory};
     ghost use Rattle.box_world.specs.World.{beginning, added, moved, masked, removed, marked, gone_back};
     ghost use Rattle.box_world.specs.Answers.{is_counted_out};
-    ghost use Rattle.box_world.specs.Parts.{world_in, timeline_in, IsSound, IsChanged, IsCutOff, IsToNote, Explains};
+    ghost use Rattle.box_world.specs.Parts.{world_in, timeline_in, IsSound, IsChanged, IsCutOff, IsToNote, Explains, TellSame, told_in, restored};
 
     // The opening world.
     pub(crate) fn new(alloc: Global, index: B) -> Result<Parts<B>, NoMemory>
         requires { IsFresh (B.bodies index) (B.spent index) (B.exchanges index) }
         ensures opening { IfOk result (λ parts. timeline_in B.exchanges parts ≡ beginning) }
-        ensures events { IfOk result (λ parts. parts.events.items ≡ []) }
+        ensures told { IfOk result (λ parts. told_in parts ≡ []) }
+        ensures began { IfOk result (λ parts. parts.began.items ≡ []) }
+        ensures over { IfOk result (λ parts. parts.over.items ≡ []) }
         ensures sound { IfOk result (IsSound B.bodies B.spent B.exchanges) }
     {
         let table = LiveTable::new(alloc)?;
@@ -63,8 +72,11 @@ impl<B: BroadPhase + Drop> Parts<B> {
             frames: 0,
             earlier: 0,
             since: Since::Changed,
-            events: Vec::new(alloc),
-            next_events: Vec::new(alloc),
+            began: Vec::new(alloc),
+            over: Vec::new(alloc),
+            shown: None,
+            next_began: Vec::new(alloc),
+            next_over: Vec::new(alloc),
             pairs: Vec::new(alloc),
             slots: Vec::new(alloc),
         })
@@ -137,13 +149,14 @@ impl<B: BroadPhase + Drop> Parts<B> {
         undo_laws();
         undone_laws();
         map_laws();
+        current_laws();
         exchange_law();
         self.table.find(handle)?;
         self.index.shift(handle.slot, body)?;
         let Ok(()) = self.table.set_box(handle, body) else {
             unreachable!()
         };
-        self.since = Since::Changed;
+        self.since = self.since.after_move();
         if let Some(live) = before {
             self.marks.note(Undo::Moved {
                 handle,
@@ -205,7 +218,7 @@ impl<B: BroadPhase + Drop> Parts<B> {
         requires sound { IsSound B.bodies B.spent B.exchanges self.old }
         ensures held { result ≡ nat_lt (length (timeline_in B.exchanges self.old).marks) MOST_MARKS }
         ensures marked { timeline_in B.exchanges self.new ≡ marked (timeline_in B.exchanges self.old) }
-        ensures events { self.new.events ≡ self.old.events }
+        ensures tells { TellSame self.old self.new }
         ensures sound { IsSound B.bodies B.spent B.exchanges self.new }
     {
         let exchanges = self.exchanges();
@@ -219,19 +232,35 @@ impl<B: BroadPhase + Drop> Parts<B> {
         ensures none { self.old.marks.marks ≡ [] → result ≡ Ok false }
         ensures back { OnOk result (timeline_in B.exchanges self.new ≡ gone_back (timeline_in B.exchanges self.old)) }
         ensures cut_off { OnErr result (IsCutOff B.spent self.old self.new) }
-        ensures events { self.new.events ≡ self.old.events }
+        ensures tells { TellSame self.old self.new }
         ensures sound { OnOk result (IsSound B.bodies B.spent B.exchanges self.new) }
     {
+        let keeps_pairs = self.marks.keeps_pairs();
+        let mut last = PairTable::new(self.alloc);
         let Some(Restored { frames, exchanges }) = self
             .marks
-            .back(&mut self.index, &mut self.table, &mut self.pair_table)?
+            .back(&mut self.index, &mut self.table, &mut last)?
         else {
             return Ok(false);
         };
         self.since = Since::Changed;
         self.earlier = count_from(exchanges, &mut self.index);
         self.frames = frames;
+        self.restore(keeps_pairs, last);
         Ok(true)
+    }
+
+    // Makes these the last pairs, where the mark kept some. Those of the frame that was told of are kept then, so that what was told stays.
+    fn restore(&mut self, keeps_pairs: bool, last: PairTable)
+        ensures { self.new ≡ restored keeps_pairs last self.old }
+    {
+        if !keeps_pairs {
+            return;
+        }
+        let former = mem::replace(&mut self.pair_table, last);
+        if self.shown.is_none() {
+            self.shown = Some(former);
+        }
     }
 }
 

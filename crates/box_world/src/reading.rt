@@ -14,7 +14,7 @@ use broad_index::{BroadPhase, Query};
 use fixed_box::{NoMemory, SLOTS};
 use live_queries::{NearQuery, push_cast, push_entered, push_hits, push_nearest};
 use live_table::{Handle, Live, LiveTable};
-use pair_events::{HPair, Told};
+use pair_events::{Events, HPair};
 use ray_slabs::Ray;
 
 impl<B: BroadPhase + Drop> BoxWorld<B> {
@@ -58,11 +58,30 @@ impl<B: BroadPhase + Drop> BoxWorld<B> {
         self.parts.marks.held()
     }
 
-    /// What was told of the last frame that ended: each pair of it, as it began or stayed, and then each pair that was over.
-    pub fn events(&self) -> &[Told]
-        ensures { result.now ≡ self.now.told }
+    /// What was told of the last frame that ended: each pair of it, as it began or stayed, and then each pair that was over. The events
+    /// are made while they are read, of the pairs of that frame and of `began` and `over`.
+    pub fn events(&self) -> Events<'_>
+        ensures { result ≡ self.now.told }
     {
-        &self.parts.events
+        let pairs = match &self.parts.shown {
+            Some(shown) => shown.last(),
+            None => self.parts.pair_table.last(),
+        };
+        Events::of(pairs, &self.parts.began, &self.parts.over)
+    }
+
+    /// The pairs that began in the last frame that ended, by the slots of their boxes.
+    pub fn began(&self) -> &[HPair]
+        ensures { result.now ≡ self.now.began }
+    {
+        &self.parts.began
+    }
+
+    /// The pairs of the frame before it that were over then, by the slots of their boxes.
+    pub fn over(&self) -> &[HPair]
+        ensures { result.now ≡ self.now.over }
+    {
+        &self.parts.over
     }
 
     /// The pairs of the last frame, by the slots of their boxes then. After a way back they are those of the last frame before

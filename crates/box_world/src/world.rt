@@ -169,14 +169,15 @@ impl<B: BroadPhase + Drop> BoxWorld<B> {
     }
 
     /// The frame ends: its pairs are those of the boxes as they stand, and what became of each since the last frame is told. Answers
-    /// how many pairs there are; `pairs` and `events` have them. `Exhausted` comes where `MOST_FRAMES_COUNTED` frames have ended. After
+    /// how many pairs there are; `pairs` has them, and `began`, `over` and `events` tell what became of each. `Exhausted` comes where `MOST_FRAMES_COUNTED` frames have ended. After
     /// any `Err` all is as before.
     ///
-    /// It searches on the caller's thread. The two lists of events are kept and serve by turns; the list of pairs is a new one,
+    /// It searches on the caller's thread, and takes a step for each pair of both frames. Where boxes only moved since the last frame,
+    /// boxes are looked up for pairs alone that weren't there; nothing is written of a pair that stays. The list of pairs is a new one,
     /// since it is kept as the last.
     ///
-    /// Where no box came, moved, got other masks or went since the last frame, and nobody went back, nothing is searched: the first such
-    /// frame takes a step for each pair, which stays, and those after it cost the same however many boxes and pairs there are.
+    /// Where no box came, moved, got other masks or went since the last frame, and nobody went back, nothing is searched, nothing began and
+    /// nothing is over: such a frame costs the same however many boxes and pairs there are.
     pub fn update(&mut self) -> Result<u32, Refusal>
         ensures answer { Answers (frame_refusal self.old.time.now) (after_frame self.old) result self.old self.new }
         ensures count { IfOk result (λ count. count ≡ length (pairs self.old.time.now)) }
@@ -188,9 +189,12 @@ impl<B: BroadPhase + Drop> BoxWorld<B> {
         if self.parts.frames == MOST_FRAMES_COUNTED {
             return Err(Refusal::Exhausted);
         }
-        if let Since::Changed = self.parts.since {
-            self.parts.pairs.clear();
-            self.parts.index.pairs(&mut self.parts.pairs)?;
+        match self.parts.since {
+            Since::Same => {}
+            _ => {
+                self.parts.pairs.clear();
+                self.parts.index.pairs(&mut self.parts.pairs)?;
+            }
         }
         Ok(self.parts.end_frame()?)
     }
@@ -216,12 +220,15 @@ impl<B: BroadPhase + Drop> BoxWorld<B> {
         if self.parts.frames == MOST_FRAMES_COUNTED {
             return Err(Refusal::Exhausted);
         }
-        if let Since::Changed = self.parts.since {
-            let workers = workers.max(1).min(MOST_WORKERS);
-            self.parts.pairs.clear();
-            self.parts
-                .index
-                .pairs_with(rt, workers, gate, &mut self.parts.pairs)?;
+        match self.parts.since {
+            Since::Same => {}
+            _ => {
+                let workers = workers.max(1).min(MOST_WORKERS);
+                self.parts.pairs.clear();
+                self.parts
+                    .index
+                    .pairs_with(rt, workers, gate, &mut self.parts.pairs)?;
+            }
         }
         Ok(self.parts.end_frame()?)
     }

@@ -6,7 +6,7 @@ ghost use Rattle.frame_player.specs.FrameText.{shown_number};
 ghost use Rattle.frame_player.specs.Outlet.{IsAppended};
 
 use crate::report::Report;
-use pair_events::Told;
+use pair_events::{Events, Told};
 use pair_report::{HandleTexts, put_exchanges, put_frame};
 use play_io::{Sink, SinkFault};
 
@@ -16,13 +16,13 @@ use play_io::{Sink, SinkFault};
 pub(crate) fn send_frame<K: Sink>(
     number: u64,
     pairs: u32,
-    events: &[Told],
+    events: Events<'_>,
     exchanges: Option<u64>,
     texts: &mut HandleTexts,
     out: &mut Report<'_, K>,
 ) -> Result<(), SinkFault>
     ensures { IsAppended K.written K.faults K.since out.old out.new
-        (frame_line number pairs ++ (flat_map told_line events.now ++ shown_number exchanges)) result }
+        (frame_line number pairs ++ (flat_map told_line events.entry ++ shown_number exchanges)) result }
 {
     put_frame(number, pairs, out.text)?;
     out.hand_on()?;
@@ -32,16 +32,15 @@ pub(crate) fn send_frame<K: Sink>(
 
 // A line for each event.
 fn send_events<K: Sink>(
-    events: &[Told],
+    events: Events<'_>,
     texts: &mut HandleTexts,
     out: &mut Report<'_, K>,
 ) -> Result<(), SinkFault>
-    ensures { IsAppended K.written K.faults K.since out.old out.new (flat_map told_line events.now) result }
+    ensures { IsAppended K.written K.faults K.since out.old out.new (flat_map told_line events.entry) result }
 {
     let mut rest = events;
-    'events: while let Some((event, more)) = rest.split_first() {
-        send_event(event, texts, out)?;
-        rest = more;
+    'events: while let Some(event) = rest.next() {
+        send_event(&event, texts, out)?;
     }
     Ok(())
 }

@@ -1,6 +1,7 @@
 -- A list is copied into a caller's room, one item after another.
-use Rattle.std.proofs.Common.{◌≡◌, ℕ, ◌+◌, ◌-◌, ◌<◌, ◌≤◌, List, [], ◌∷◌, ◌++◌, length, get_or, set, take, drop, map, sym, ap, ◌∙◌, arith}
-use Rattle.std.proofs.lemmas.List.{append_assoc, length-drop, length-map, length-take-le, take_more, drop_more, set_at, map_push}
+use Rattle.std.proofs.Common.{◌≡◌, ℕ, ◌+◌, ◌-◌, min, ◌<◌, ◌≤◌, List, [], ◌∷◌, ◌++◌, length, get_or, set, take, drop, map, sym, ap, ◌∙◌, arith}
+use Rattle.held_world.specs.Copies.{copied}
+use Rattle.std.proofs.lemmas.List.{append_assoc, length-drop, length-map, length-take-le, take_all, take_more, drop_more, set_at, map_push}
 
 pub some_left : {A : Type 0} (items more : List A) (x : A) (n : ℕ) → x ∷ more ≡ drop n items → n < length items
 some_left items more x n h = let same : length (x ∷ more) ≡ length items - n = ap length h ∙ length-drop n items in omega (arith, same)
@@ -40,3 +41,25 @@ copying_goes_on out items rest more x y n room now u first is lt =
           ∙ ap (λ z. (map out (take n items) ++ z ∷ []) ++ drop (n + 1) room) is
           ∙ ap (λ l. l ++ drop (n + 1) room) (sym (ap (map out) (one_more items more x n left) ∙ map_push out (take n items) x));
     }
+
+-- where none is left all are written
+all_copied : {A B : Type 0} (out : A → B) (items rest : List A) (n : ℕ) (room now : List B) → IsCopying out items rest n room now → rest ≡ []
+    → n ≡ length items
+all_copied out items rest n room now u none =
+    let no : 0 ≡ length items - n = ap length (sym none ∙ u.left) ∙ length-drop n items in
+    let most = u.most in omega (arith, no, most)
+
+pub copied_whole : {A B : Type 0} (out : A → B) (items rest : List A) (n : ℕ) (room now : List B) → IsCopying out items rest n room now → rest ≡ []
+    → now ≡ copied out items room
+copied_whole out items rest n room now u none =
+    let all : n ≡ length items = all_copied out items rest n room now u none in
+    let in_room = u.in_room in
+    let fits : length items ≤ length room = omega (arith, all, in_room) in
+    u.written ∙ ap (λ k. map out (take k items) ++ drop k room) all
+    ∙ ap (λ l. map out l ++ drop (length items) room) (take_all (length items) items (omega arith) ∙ sym (take_all (length room) items fits))
+
+pub counted_whole : {A B : Type 0} (out : A → B) (items rest : List A) (n : ℕ) (room now : List B) → IsCopying out items rest n room now → rest ≡ []
+    → n ≡ min (length items) (length room)
+counted_whole out items rest n room now u none =
+    let all : n ≡ length items = all_copied out items rest n room now u none in
+    let in_room = u.in_room in omega (arith, all, in_room)

@@ -1,6 +1,6 @@
 //! The calls that change a world once: other masks, the end of a frame, a mark and a way back.
 
-ghost use Rattle.std.specs.Prelude.{◌≡◌, ◌≢◌, ◌↔◌, [], true, false, None, length};
+ghost use Rattle.std.specs.Prelude.{◌≡◌, ◌≢◌, ◌↔◌, ◌+◌, [], true, false, None, length};
 ghost use Rattle.box_world.specs.World.{masked, marked, gone_back};
 ghost use Rattle.box_world.specs.Answers.{with_world, with_time, after_frame, change_refusal, frame_refusal};
 ghost use Rattle.any_world.specs.AnyWorld.{state_of, structure_of};
@@ -26,13 +26,17 @@ impl HeldWorld {
         status(&self.world.mask(handle_of(handle), masks_of(masks)))
     }
 
-    /// The frame ends, and `counts` tells how many pairs and events it has: none where it doesn't end, and then all is as before.
+    /// The frame ends, and `counts` tells how many pairs, events and changes it has: none where it doesn't end, and then all is as before.
     pub fn update(&mut self, counts: &mut PwCounts) -> u32
         ensures answer { let old = state_of self.old.world in
             Tells (frame_refusal old.time.now) (after_frame old) result old (state_of self.new.world) }
         ensures counts { let new = state_of self.new.world in
-            result ≡ OK → counts.new ≡ record { pairs = length new.time.now.last; events = length new.told } }
-        ensures none { result ≢ OK → counts.new ≡ record { pairs = 0; events = 0 } }
+            result ≡ OK → counts.new ≡ record {
+              pairs = length new.time.now.last;
+              events = length new.told;
+              changes = length new.began + length new.over;
+            } }
+        ensures none { result ≢ OK → counts.new ≡ record { pairs = 0; events = 0; changes = 0 } }
         ensures same { result ≢ OK → state_of self.new.world ≡ state_of self.old.world }
         ensures structure { structure_of self.new.world ≡ structure_of self.old.world }
     {
@@ -41,6 +45,7 @@ impl HeldWorld {
                 *counts = PwCounts {
                     pairs: self.world.pairs().len(),
                     events: self.world.events().len(),
+                    changes: self.world.began().len() + self.world.over().len(),
                 };
                 OK
             }
@@ -48,6 +53,7 @@ impl HeldWorld {
                 *counts = PwCounts {
                     pairs: 0,
                     events: 0,
+                    changes: 0,
                 };
                 status_of(refusal)
             }

@@ -10,6 +10,7 @@ ghost use Rattle.held_world.specs.Batches.{IsBatch};
 ghost use Rattle.held_world.specs.Changes.{adds, moves, removes, handles_given};
 ghost use Rattle.held_world.specs.Copies.{copied};
 ghost use Rattle.held_world.specs.Plain.{handle_out, pair_out, told_out, structure_in};
+ghost use Rattle.held_world.specs.Reading.{changes_of};
 ghost use Rattle.held_world.specs.Steps.{Stepped};
 
 use crate::answers::status_of;
@@ -18,6 +19,7 @@ use crate::plain::{body_of, handle_of, handle_out, structure_of};
 use crate::{ARGUMENT, INVERTED, NO_MEMORY, OK, PwBox, PwHandle, PwPair, PwTold, Reply};
 use any_world::AnyWorld;
 use live_table::{Group, Handle, Masks};
+use pair_events::Events;
 use std::alloc::Global;
 
 /// What stands behind a world that C holds: the world, and room for the answer to one query.
@@ -147,12 +149,23 @@ impl HeldWorld {
     }
 
     /// Copies what was told of the last frame that ended from number `from` on, as many as there is room for, and answers how many
-    /// those are.
+    /// those are. It takes a step for each event before `from` too.
     pub fn copy_events(&self, from: usize, out: &mut [PwTold]) -> usize
         ensures copied { out.new ≡ copied told_out (drop from (state_of self.now.world).told) out.old }
         ensures count { result ≡ min (length (state_of self.now.world).told - from) (length out.old) }
     {
         copy_told(self.world.events(), from, out)
+    }
+
+    /// Copies what changed in the last frame that ended from number `from` on, as many as there is room for, and answers how many those
+    /// are: `BEGIN` of each pair that began, in the order of the pairs, and then `OVER` of each that was over. It takes a step for each
+    /// change before `from` too, and none for a pair that stayed.
+    pub fn copy_changes(&self, from: usize, out: &mut [PwTold]) -> usize
+        ensures copied { out.new ≡ copied told_out (drop from (changes_of (state_of self.now.world))) out.old }
+        ensures count { result ≡ min (length (changes_of (state_of self.now.world)) - from) (length out.old) }
+    {
+        let changes = Events::of_changes(self.world.began(), self.world.over());
+        copy_told(changes, from, out)
     }
 
     // One box comes.

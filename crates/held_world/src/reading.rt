@@ -9,12 +9,13 @@ ghost use Rattle.held_world.specs.Reading.{info_of};
 use crate::HeldWorld;
 use crate::plain::{PwHandle, PwLive, handle_of, live_out, structure_out};
 
-/// How many pairs the frame that ended last has, and how many events.
+/// How many pairs the frame that ended last has, how many events, and how many pairs began or were over in it.
 #[repr(C)]
 #[derive(Clone, Copy)]
 pub struct PwCounts {
     pub pairs: usize,
     pub events: usize,
+    pub changes: usize,
 }
 
 /// What a world is: its structure's number, whether it is spent (1, or 0), the numbers of its live boxes, of the marks that are held

@@ -1,6 +1,7 @@
 pub mod Asked
 pub mod BesideLaws
 pub mod Counts
+pub mod Current
 pub mod FoundSlots
 pub mod HitOf
 pub mod InOrder

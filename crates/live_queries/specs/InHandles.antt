@@ -1,5 +1,5 @@
--- Serves proofs alone: the answers of an index of slots, in handles.
-use Rattle.std.specs.Prelude.{ℕ, List, if◌then◌else◌, Option, Some, None}
+-- The answers of an index of slots, in handles.
+use Rattle.std.specs.Prelude.{◌≡◌, ℕ, List, [], ◌∷◌, if◌then◌else◌, Option, Some, None}
 use Rattle.live_table.specs.declared.handle.Handle.{Handle}
 use Rattle.live_table.specs.declared.live.Live.{Live}
 use Rattle.live_table.specs.Entries.{live_at}
@@ -17,6 +17,15 @@ pair_of (Some a) (Some b) = if may a b then Some (record { a = a.handle; b = b.h
 -- the pair of two slots
 abbrev pub touching : List Live → Pair → Option HPair
 touching entries pair = pair_of (live_at pair.a entries) (live_at pair.b entries)
+
+-- the slots of a pair
+abbrev pub slots_in : HPair → Pair
+slots_in pair = record { a = pair.a.slot; b = pair.b.slot }
+
+-- Each of some pairs is that of its slots: both boxes are live, and may pair.
+abbrev pub AreCurrent : List Live → List HPair → Type 0
+AreCurrent entries [] = Unit {0}
+AreCurrent entries (pair ∷ pairs) = (touching entries (slots_in pair) ≡ Some pair) × AreCurrent entries pairs
 
 -- a live box by its handle, where it is in one of the groups that are asked for
 abbrev pub listed_of : ℕ → Option Live → Option Handle

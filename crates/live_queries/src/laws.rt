@@ -17,6 +17,9 @@ ghost use Rattle.live_table.specs.Table.{Table, IsTable};
 ghost use Rattle.broad_index.specs.declared.query.Query.TheVariants.{Along};
 ghost use Rattle.pair_events.specs.declared.hpair.HPair.{HPair};
 ghost use Rattle.pair_events.specs.PairEvents.{is_in_order};
+ghost use Rattle.live_table.specs.declared.handle.Handle.{Handle};
+ghost use Rattle.live_table.specs.Entries.{with_body};
+ghost use Rattle.live_queries.specs.InHandles.{AreCurrent};
 ghost use Rattle.live_queries.specs.PairLaw.{IsPairOf};
 ghost use Rattle.live_queries.specs.Pairs.{pairs_of, hits_of, is_asked_for};
 ghost use Rattle.live_queries.specs.Queries.{handles, by_place, met_in_order, entered_of, cast_of, asked_for, nearest_to};
@@ -33,6 +36,13 @@ pub fn pairs_law()
     ensures members { (t : Table) (pair : HPair) → IsTable t → Contains (pairs_of t.entries) pair ↔ IsPairOf t.entries pair }
     ensures order { (t : Table) → IsTable t → is_in_order (pairs_of t.entries) ≡ true }
     ensures few { (t : Table) → IsTable t → length (pairs_of t.entries) ≤ SLOTS * SLOTS }
+{}
+
+/// Laws of pairs whose boxes are live and may pair, for proofs, with nothing to run: the pairs of a table are such, and such pairs stay so
+/// while boxes only move.
+pub fn current_laws()
+    ensures pairs { (t : Table) → IsTable t → AreCurrent t.entries (pairs_of t.entries) }
+    ensures moved { (es : List Live) (pairs : List HPair) (handle : Handle) (body : Bounds) → AreCurrent es pairs → AreCurrent (with_body handle body es) pairs }
 {}
 
 /// Laws of the queries in an order of their own, for proofs, with nothing to run. A ray by entry has the handles of the ray

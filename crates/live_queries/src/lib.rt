@@ -13,7 +13,7 @@ mod pairs;
 mod probe;
 
 pub use hits::push_hits;
-pub use laws::{pairs_law, queries_law};
+pub use laws::{current_laws, pairs_law, queries_law};
 pub use met::{push_cast, push_entered};
 pub use nearest::{NearQuery, push_nearest};
-pub use pairs::push_pairs;
+pub use pairs::{push_pairs, push_pairs_after};

@@ -1,10 +1,11 @@
 //! The pair cache of a frame: the pairs of the last frame, and the turn to those of the next.
 
 ghost use Rattle.std.specs.Prelude.{◌≡◌, ◌++◌, [], true, IfOk, OnOk, OnErr};
-ghost use Rattle.pair_events.specs.PairEvents.{events, is_in_order};
+ghost use Rattle.pair_events.specs.PairEvents.{events, is_in_order, missing};
 
-use crate::merge::{push_events, push_stays};
-use crate::{HPair, Told};
+use crate::changes::push_changes;
+use crate::events::push_events;
+use crate::{Events, HPair, Told, change_laws};
 use fixed_box::NoMemory;
 use std::alloc::Global;
 use std::marker::Model;
@@ -14,7 +15,9 @@ use std::mem;
 #[derive(Drop)]
 pub struct PairTable {
     last: Vec<HPair>,
-    over: Vec<Told>,
+    // Room for `turn` and `turn_keep`.
+    began: Vec<HPair>,
+    over: Vec<HPair>,
 }
 
 impl Model for PairTable {
@@ -36,6 +39,7 @@ impl PairTable {
     {
         PairTable {
             last: Vec::new(alloc),
+            began: Vec::new(alloc),
             over: Vec::new(alloc),
         }
     }
@@ -73,16 +77,35 @@ impl PairTable {
         ensures kept { OnOk result (self.new ≡ now.items) }
         ensures err { OnErr result ((out.new.items ≡ out.old.items) × (self.new ≡ self.old)) }
     {
-        push_events(&self.last, &now, &mut self.over, out)?;
+        change_laws();
+        self.began.clear();
+        self.over.clear();
+        push_changes(&self.last, &now, &mut self.began, &mut self.over)?;
+        push_events(Events::of(&now, &self.began, &self.over), out)?;
         Ok(mem::replace(&mut self.last, now))
     }
 
-    /// Appends what is told of a frame that has the pairs of the last one: each stays. After an `Err` `out` is as before.
-    pub fn stay(&self, out: &mut Vec<Told>) -> Result<(), NoMemory>
-        ensures told { OnOk result (out.new.items ≡ out.old.items ++ events self.now self.now) }
-        ensures err { OnErr result (out.new.items ≡ out.old.items) }
+    /// Keeps the present pairs, and answers the former ones. The two lists are replaced by the pairs that began and by those that are
+    /// over, in order; nothing is written of a pair that stayed, and no list is copied. The present pairs rise as those of `turn` do.
+    /// After an `Err` the table is as before, `now` is dropped, and the two lists may have any pairs.
+    pub fn turn_changes(
+        &mut self,
+        now: Vec<HPair>,
+        began: &mut Vec<HPair>,
+        over: &mut Vec<HPair>,
+    ) -> Result<Vec<HPair>, NoMemory>
+        requires { is_in_order now.items ≡ true }
+        ensures former { IfOk result (λ former. former.items ≡ self.old) }
+        ensures order { IfOk result (λ former. is_in_order former.items ≡ true) }
+        ensures began { OnOk result (began.new.items ≡ missing now.items self.old) }
+        ensures over { OnOk result (over.new.items ≡ missing self.old now.items) }
+        ensures kept { OnOk result (self.new ≡ now.items) }
+        ensures err { OnErr result (self.new ≡ self.old) }
     {
-        push_stays(&self.last, out)
+        began.clear();
+        over.clear();
+        push_changes(&self.last, &now, began, over)?;
+        Ok(mem::replace(&mut self.last, now))
     }
 
     /// Makes these the pairs of the last frame. Nothing is told of what that changes. They rise as those of `turn` do.

@@ -1,5 +1,5 @@
 -- What the exports say of a world that C holds.
-use Rattle.std.specs.Prelude.{◌≡◌, ◌≢◌, ◌↔◌, ◌⊎◌, ℕ, ◌-◌, ◌<◌, ◌≤◌, ◌++◌, List, [], map, take, drop, zip, length, min, true, false, is_some}
+use Rattle.std.specs.Prelude.{◌≡◌, ◌≢◌, ◌↔◌, ◌⊎◌, ℕ, ◌+◌, ◌-◌, ◌<◌, ◌≤◌, ◌++◌, List, [], map, take, drop, zip, length, min, true, false, is_some}
 use Rattle.std.specs.Prelude.{Option, None, Some, Result, Ok, Err}
 use Rattle.live_table.specs.declared.group.Group.{Group}
 use Rattle.live_table.specs.declared.handle.Handle.{Handle}
@@ -117,8 +117,9 @@ pub record SetsMasks (handle : Handle) (masks : Masks) (status : ℕ) (was now :
 -- what a call says that ends the frame
 pub record Updates (status : ℕ) (counts : PwCounts) (was now : AnyWorld) : Type 0 where
   pub answer : let old = state_of was in Tells (frame_refusal old.time.now) (after_frame old) status old (state_of now)
-  pub some : status ≡ OK → counts ≡ record { pairs = length (state_of now).time.now.last; events = length (state_of now).told }
-  pub none : status ≢ OK → counts ≡ record { pairs = 0; events = 0 }
+  pub some : let new = state_of now in status ≡ OK
+      → counts ≡ record { pairs = length new.time.now.last; events = length new.told; changes = length new.began + length new.over }
+  pub none : status ≢ OK → counts ≡ record { pairs = 0; events = 0; changes = 0 }
   pub same : status ≢ OK → state_of now ≡ state_of was
   pub structure : structure_of now ≡ structure_of was
 

@@ -28,16 +28,17 @@ pub extern "C" fn pw_mask(
     status
 }
 
-/// Ends the frame, and tells how many pairs and events it has.
+/// Ends the frame, and tells how many pairs, events and changes it has.
 #[unsafe(no_mangle)]
 pub extern "C" fn pw_update(alloc: Global, world: &mut PwWorld, counts: &mut PwCounts) -> u32
-    ensures { Calls (λ was now. Updates result counts.new was.world now.world) ((result ≡ CLOSED) × (counts.new ≡ record { pairs = 0; events = 0 }))
-        world.old.held.inner world.new.held.inner }
+    ensures { Calls (λ was now. Updates result counts.new was.world now.world)
+        ((result ≡ CLOSED) × (counts.new ≡ record { pairs = 0; events = 0; changes = 0 })) world.old.held.inner world.new.held.inner }
 {
     let Some(mut held) = world.take(alloc) else {
         *counts = PwCounts {
             pairs: 0,
             events: 0,
+            changes: 0,
         };
         return CLOSED;
     };

@@ -1,10 +1,11 @@
-//! The exports that read a world: a live box, pairs, events and numbers.
+//! The exports that read a world: a live box, pairs, events, changes and numbers.
 
 ghost use Rattle.std.specs.Prelude.{◌≡◌, ok_or, option_map};
 ghost use Rattle.live_table.specs.Entries.{entry_at};
 ghost use Rattle.any_world.specs.AnyWorld.{state_of};
 ghost use Rattle.held_world.specs.declared.TheConstants.{OK, STALE, CLOSED};
 ghost use Rattle.held_world.specs.Plain.{handle_in, live_out, pair_out, told_out};
+ghost use Rattle.held_world.specs.Reading.{changes_of};
 ghost use Rattle.held_world.specs.declared.answers.Reply.{Reply};
 ghost use Rattle.pungwelair.specs.Exports.{Calls, IsClosed, Copies, Puts, IsInfo};
 
@@ -78,6 +79,29 @@ pub extern "C" fn pw_events(
         return CLOSED;
     };
     *copied = held.copy_events(from, out);
+    world.put(held);
+    OK
+}
+
+/// Copies the changes of the last frame from number `from` on, as many as there is room for, and tells how many those are: `BEGIN` of
+/// each pair that began, and then `OVER` of each that was over.
+#[unsafe(no_mangle)]
+pub extern "C" fn pw_changes(
+    alloc: Global,
+    world: &mut PwWorld,
+    from: usize,
+    out: &mut [PwTold],
+    copied: &mut usize,
+) -> u32
+    ensures { let reply : Reply = record { status = result; count = copied.new } in
+        Calls (λ was now. (now ≡ was) × Copies told_out from (changes_of (state_of was.world)) reply out.old out.new)
+        (IsClosed reply out.old out.new) world.old.held.inner world.new.held.inner }
+{
+    let Some(held) = world.take(alloc) else {
+        *copied = 0;
+        return CLOSED;
+    };
+    *copied = held.copy_changes(from, out);
     world.put(held);
     OK
 }

@@ -1,6 +1,6 @@
 //! The stack of marks: mark, note what undoes each change, and go back to the newest.
 
-ghost use Rattle.std.specs.Prelude.{◌≡◌, ◌≢◌, ◌<◌, ◌≤◌, ◌+◌, ◌^◌, ◌↔◌, ◌++◌, [], ◌∷◌, List, Bool, true, false, length, Ok, None, Some, IfOk, OnOk};
+ghost use Rattle.std.specs.Prelude.{◌≡◌, ◌≢◌, ◌<◌, ◌≤◌, ◌+◌, ◌^◌, ◌↔◌, ◌++◌, [], ◌∷◌, List, Bool, true, false, length, Ok, None, Some, IfOk, OnOk, is_some};
 ghost use Rattle.std.specs.Prelude.{OnErr, not, nat_lt};
 ghost use Rattle.live_table.specs.Bodies.{bodies_of};
 ghost use Rattle.live_table.specs.Table.{IsTable};
@@ -131,6 +131,17 @@ impl Marks {
     {
         if let Some(mark) = &mut self.newest {
             mark.keep(last);
+        }
+    }
+
+    /// Whether the newest mark has pairs of its own, since a frame ended after it: then `back` makes them the last ones.
+    pub fn keeps_pairs(&self) -> bool
+        ensures newest { (older : List Mark) (mark : Mark) → self.now.marks ≡ older ++ mark ∷ [] → result ≡ is_some mark.kept }
+        ensures none { self.now.marks ≡ [] → result ≡ false }
+    {
+        match &self.newest {
+            Some(mark) => mark.kept.is_some(),
+            None => false,
         }
     }
 

@@ -33,16 +33,6 @@ enum Asked {
     Nearest { at: [i32; 3], want: u32 },
 }
 
-// Boxes by their corners, a question of some groups, and the slots of the handles that come, in their order.
-#[derive(Drop)]
-struct Row<'a> {
-    name: &'a str,
-    boxes: &'a [[[i32; 3]; 2]],
-    asked: Asked,
-    mask: u32,
-    slots: &'a [u32],
-}
-
 fn point(parts: &[i32; 3]) -> Point {
     Point {
         x: parts[0],
@@ -99,12 +89,13 @@ fn ray_from(x: i32) -> Ray {
     }
 }
 
-// The handles that come.
+// The handles that come, of some groups.
 fn ask(
     alloc: Global,
     table: &LiveTable,
     index: &PlainIndex,
-    row: &Row<'_>,
+    asked: &Asked,
+    mask: u32,
     out: &mut Vec<Handle>,
 ) -> Result<(), Fail>
     requires table { IsTable table.now }
@@ -112,16 +103,16 @@ fn ask(
     requires boxes { index.now.bodies ≡ bodies_of table.now.entries }
 {
     let mut slots = Vec::new(alloc);
-    match &row.asked {
+    match asked {
         Asked::Hits(x) => {
             let query = Query::Along(ray_from(*x));
             index.hits(&query, &mut slots)?;
-            push_hits(table, &query, row.mask, &slots, out)?;
+            push_hits(table, &query, mask, &slots, out)?;
         }
         Asked::Entered(x) => {
             let ray = ray_from(*x);
             index.hits(&Query::Along(ray), &mut slots)?;
-            push_entered(alloc, table, &ray, row.mask, &slots, out)?;
+            push_entered(alloc, table, &ray, mask, &slots, out)?;
         }
         Asked::Cast { body, by } => {
             let cast = Cast {
@@ -129,13 +120,13 @@ fn ask(
                 by: Point { x: *by, y: 0, z: 0 },
             };
             index.hits(&Query::Region(cast.hull()), &mut slots)?;
-            push_cast(alloc, table, &cast, row.mask, &slots, out)?;
+            push_cast(alloc, table, &cast, mask, &slots, out)?;
         }
         Asked::Nearest { at, want } => {
             let query = NearQuery {
                 at: point(at),
                 want: (*want).clamp(1, SLOTS),
-                mask: row.mask,
+                mask,
             };
             push_nearest(alloc, table, index, &query, out)?;
         }
@@ -143,16 +134,27 @@ fn ask(
     Ok(())
 }
 
-// Whether a row's boxes answer as it says.
-fn answers(alloc: Global, row: &Row<'_>) -> Result<bool, Fail> {
+// Boxes by their corners answer a question of some groups with the handles under these slots, in their order.
+fn answer(
+    alloc: Global,
+    name: &str,
+    boxes: &[[[i32; 3]; 2]],
+    asked: Asked,
+    mask: u32,
+    slots: &[u32],
+) -> Result<(), Fail> {
     let mut table = LiveTable::new(alloc)?;
     let mut index = PlainIndex::new(alloc)?;
-    for corners in row.boxes {
+    for corners in boxes {
         enter(&mut table, &mut index, corners)?;
     }
     let mut handles = Vec::new(alloc);
-    ask(alloc, &table, &index, row, &mut handles)?;
-    Ok(are_first_of(&handles, row.slots))
+    ask(alloc, &table, &index, &asked, mask, &mut handles)?;
+    if are_first_of(&handles, slots) {
+        Ok(())
+    } else {
+        Err(name.into())
+    }
 }
 
 // Whether these are the handles of the first boxes that the slots had, in the same order.
@@ -170,140 +172,141 @@ fn are_first_of(handles: &[Handle], slots: &[u32]) -> bool {
     rest.is_empty()
 }
 
-// One box behind two that begin at one place; two ahead of a cast; one at the end of space; three crates, two of them as far
-// from the middle of the first; and a box far from the lowest point beside one near by.
+// One box behind two that begin at one place.
 #[test]
-fn each_query_has_its_own_order(rt: HostRuntime) -> Result<(), Fail> {
-    let three_ahead = [unit(5, 6), unit(2, 3), unit(2, 9)];
-    let two_ahead = [unit(10, 11), unit(5, 6)];
+fn a_ray_meets_boxes_by_slot_or_by_entry(rt: HostRuntime) -> Result<(), Fail> {
+    let alloc = rt.alloc();
+    let ahead = [unit(5, 6), unit(2, 3), unit(2, 9)];
+    let inside = Asked::Entered(2 * ONE + HALF);
+    answer(
+        alloc,
+        "a ray by slot",
+        &ahead,
+        Asked::Hits(0),
+        ALL,
+        &[0, 1, 2],
+    )?;
+    answer(
+        alloc,
+        "a ray by entry",
+        &ahead,
+        Asked::Entered(0),
+        ALL,
+        &[1, 2, 0],
+    )?;
+    answer(
+        alloc,
+        "a ray that begins in two boxes",
+        &ahead,
+        inside,
+        1,
+        &[1, 2, 0],
+    )?;
+    answer(
+        alloc,
+        "a ray for another group",
+        &ahead,
+        Asked::Entered(0),
+        2,
+        &[],
+    )
+}
+
+// A box of one unit, cast this far.
+fn cast_by(by: i32) -> Asked {
+    Asked::Cast {
+        body: unit(0, 1),
+        by,
+    }
+}
+
+#[test]
+fn a_cast_meets_boxes_by_entry(rt: HostRuntime) -> Result<(), Fail> {
+    let alloc = rt.alloc();
+    let ahead = [unit(10, 11), unit(5, 6)];
+    answer(alloc, "a cast", &ahead, cast_by(20 * ONE), ALL, &[1, 0])?;
+    answer(
+        alloc,
+        "a cast one raw unit short",
+        &ahead,
+        cast_by(262_143),
+        ALL,
+        &[],
+    )?;
+    answer(
+        alloc,
+        "a cast that touches at its end",
+        &ahead,
+        cast_by(4 * ONE),
+        ALL,
+        &[1],
+    )
+}
+
+#[test]
+fn a_cast_goes_to_the_end_of_space(rt: HostRuntime) -> Result<(), Fail> {
+    let alloc = rt.alloc();
     let at_the_end = [flat([i32::MAX, 0, 0])];
-    let three_crates = [unit(0, 1), unit(3, 4), unit(-3, -2)];
-    let far_and_near = [
+    let out = Asked::Cast {
+        body: flat([32_000 * ONE, 0, 0]),
+        by: i32::MAX,
+    };
+    let away = Asked::Cast {
+        body: flat([0, 0, 0]),
+        by: LOW,
+    };
+    answer(alloc, "a cast out of space", &at_the_end, out, ALL, &[0])?;
+    answer(alloc, "a cast away", &at_the_end, away, ALL, &[])
+}
+
+// The boxes that are nearest to the middle of the first of three, of which the two others are as far from it.
+fn nearest(want: u32) -> Asked {
+    Asked::Nearest {
+        at: [HALF, HALF, HALF],
+        want,
+    }
+}
+
+#[test]
+fn the_nearest_come_first(rt: HostRuntime) -> Result<(), Fail> {
+    let alloc = rt.alloc();
+    let crates = [unit(0, 1), unit(3, 4), unit(-3, -2)];
+    answer(alloc, "the two nearest", &crates, nearest(2), ALL, &[0, 1])?;
+    answer(
+        alloc,
+        "all, by how near they are",
+        &crates,
+        nearest(8192),
+        ALL,
+        &[0, 1, 2],
+    )?;
+    answer(
+        alloc,
+        "the nearest of another group",
+        &crates,
+        nearest(3),
+        2,
+        &[],
+    )
+}
+
+// A box far from the lowest point beside one near by.
+#[test]
+fn a_square_of_more_than_64_bits_is_farther(rt: HostRuntime) -> Result<(), Fail> {
+    let boxes = [
         flat([i32::MAX, LOW + 2 * ONE, LOW]),
         flat([LOW, LOW, LOW + 2 * ONE]),
     ];
-    let middle = [HALF, HALF, HALF];
-    for row in [
-        Row {
-            name: "a ray by slot",
-            boxes: &three_ahead,
-            asked: Asked::Hits(0),
-            mask: ALL,
-            slots: &[0, 1, 2],
-        },
-        Row {
-            name: "a ray by entry",
-            boxes: &three_ahead,
-            asked: Asked::Entered(0),
-            mask: ALL,
-            slots: &[1, 2, 0],
-        },
-        Row {
-            name: "a ray that begins in two boxes",
-            boxes: &three_ahead,
-            asked: Asked::Entered(2 * ONE + HALF),
-            mask: 1,
-            slots: &[1, 2, 0],
-        },
-        Row {
-            name: "a ray for another group",
-            boxes: &three_ahead,
-            asked: Asked::Entered(0),
-            mask: 2,
-            slots: &[],
-        },
-        Row {
-            name: "a cast",
-            boxes: &two_ahead,
-            asked: Asked::Cast {
-                body: unit(0, 1),
-                by: 20 * ONE,
-            },
-            mask: ALL,
-            slots: &[1, 0],
-        },
-        Row {
-            name: "a cast one raw unit short",
-            boxes: &two_ahead,
-            asked: Asked::Cast {
-                body: unit(0, 1),
-                by: 262_143,
-            },
-            mask: ALL,
-            slots: &[],
-        },
-        Row {
-            name: "a cast that touches at its end",
-            boxes: &two_ahead,
-            asked: Asked::Cast {
-                body: unit(0, 1),
-                by: 4 * ONE,
-            },
-            mask: ALL,
-            slots: &[1],
-        },
-        Row {
-            name: "a cast out of space",
-            boxes: &at_the_end,
-            asked: Asked::Cast {
-                body: flat([32_000 * ONE, 0, 0]),
-                by: i32::MAX,
-            },
-            mask: ALL,
-            slots: &[0],
-        },
-        Row {
-            name: "a cast away",
-            boxes: &at_the_end,
-            asked: Asked::Cast {
-                body: flat([0, 0, 0]),
-                by: LOW,
-            },
-            mask: ALL,
-            slots: &[],
-        },
-        Row {
-            name: "the two nearest",
-            boxes: &three_crates,
-            asked: Asked::Nearest {
-                at: middle,
-                want: 2,
-            },
-            mask: ALL,
-            slots: &[0, 1],
-        },
-        Row {
-            name: "all, by how near they are",
-            boxes: &three_crates,
-            asked: Asked::Nearest {
-                at: middle,
-                want: 8192,
-            },
-            mask: ALL,
-            slots: &[0, 1, 2],
-        },
-        Row {
-            name: "the nearest of another group",
-            boxes: &three_crates,
-            asked: Asked::Nearest {
-                at: middle,
-                want: 3,
-            },
-            mask: 2,
-            slots: &[],
-        },
-        Row {
-            name: "a square of more than 64 bits",
-            boxes: &far_and_near,
-            asked: Asked::Nearest {
-                at: [LOW, LOW, LOW],
-                want: 1,
-            },
-            mask: ALL,
-            slots: &[1],
-        },
-    ] {
-        assert!(rt; answers(rt.alloc(), &row)?, "{}", row.name);
-    }
-    Ok(())
+    let lowest = Asked::Nearest {
+        at: [LOW, LOW, LOW],
+        want: 1,
+    };
+    answer(
+        rt.alloc(),
+        "a square of more than 64 bits",
+        &boxes,
+        lowest,
+        ALL,
+        &[1],
+    )
 }

@@ -4,8 +4,8 @@ use any_world::{AnyWorld, Structure};
 use box_world::{BoxWorld, Refusal};
 use broad_index::{BroadPhase, NoGate, PlainIndex, Query};
 use fixed_box::{FBox, Point, SLOTS};
-use live_table::{Group, Masks};
-use pair_events::{Event, Told};
+use live_table::{Group, Handle, Masks};
+use pair_events::{Event, Events};
 use std::alloc::Global;
 use std::test::Fail;
 use std::thread::Threads;
@@ -43,11 +43,13 @@ pub(crate) fn unit(x: i32, yz: i32) -> Result<FBox, Fail> {
 }
 
 // Whether one event is told, of the first two slots.
-fn is_told(events: &[Told], event: Event) -> bool {
-    match events {
-        [told] => told.event == event && told.pair.a.slot == 0 && told.pair.b.slot == 1,
-        _ => false,
-    }
+fn is_told(events: Events<'_>, event: Event) -> bool {
+    let mut rest = events;
+    let Some(told) = rest.next() else {
+        return false;
+    };
+    let first_two = told.pair.a.slot == 0 && told.pair.b.slot == 1;
+    told.event == event && first_two && rest.next().is_none()
 }
 
 // Ends a frame, and answers whether it is the one of this number, with so many exchanges before it, so many pairs, and this
@@ -157,38 +159,63 @@ fn a_frame_is_searched_by_any_number_of_workers(rt: HostRuntime) -> Result<(), F
     Ok(())
 }
 
-// Two boxes that touch and one apart, which moves to them; a mark, two of them go or see nobody, a frame, and back. Answers
-// whether each call came to what it should.
-fn plays_a_scene(alloc: Global, world: &mut AnyWorld, structure: Structure) -> Result<bool, Fail> {
+// The boxes of a scene: two that touch, and one apart.
+#[derive(Clone, Copy)]
+struct Boxes {
+    first: Handle,
+    second: Handle,
+    third: Handle,
+}
+
+fn place(world: &mut AnyWorld) -> Result<Boxes, Fail> {
     let first = world.add(unit(0, 0)?, SEEN, NOBODYS)?;
     let second = world.add(unit(1, 0)?, SEEN, NOBODYS)?;
     let third = world.add(unit(5, 5)?, SEEN, NOBODYS)?;
-    let exchanges = if structure == Structure::Sap { 3 } else { 0 };
-    let counted = world.exchanges() == exchanges;
+    Ok(Boxes {
+        first,
+        second,
+        third,
+    })
+}
+
+// The two are a pair, and the third moves to them.
+fn joins(world: &mut AnyWorld, third: Handle) -> Result<bool, Fail> {
     let began = world.update()?;
     world.shift(third, unit(2, 0)?)?;
     let joined = world.update()?;
+    Ok(began == 1 && joined == 2)
+}
+
+// A mark, one box sees nobody and another goes, and no pair is left.
+fn parts(world: &mut AnyWorld, boxes: Boxes) -> Result<bool, Fail> {
     let marked = world.mark()?;
-    world.mask(second, Masks { is: 1, sees: 0 })?;
-    world.remove(first)?;
+    world.mask(boxes.second, Masks { is: 1, sees: 0 })?;
+    world.remove(boxes.first)?;
     let parted = world.update()?;
-    let went = world.back()?;
+    Ok(marked && parted == 0)
+}
+
+// Whether the first two boxes are those that meet the place of the first one.
+fn are_found(alloc: Global, world: &mut AnyWorld, boxes: Boxes) -> Result<bool, Fail> {
     let mut met = Vec::new(alloc);
     world.hits(&Query::Region(unit(0, 0)?), 1, &mut met)?;
-    let found = met.len() == 2 && met[0] == first && met[1] == second;
-    Ok(
-        world.structure() == structure
-            && began == 1
-            && joined == 2
-            && marked
-            && parted == 0
-            && went
-            && world.pairs().len() == 2
-            && world.len() == 3
-            && world.frames() == 2
-            && found
-            && counted,
-    )
+    Ok(met.len() == 2 && met[0] == boxes.first && met[1] == boxes.second)
+}
+
+// Two boxes that touch and one apart, which moves to them; a mark, two of them go or see nobody, a frame, and back. Answers
+// whether each call came to what it should.
+fn plays_a_scene(alloc: Global, world: &mut AnyWorld, structure: Structure) -> Result<bool, Fail> {
+    let boxes = place(world)?;
+    let exchanges = if structure == Structure::Sap { 3 } else { 0 };
+    let counted = world.exchanges() == exchanges;
+    let changed = joins(world, boxes.third)? && parts(world, boxes)? && world.back()?;
+    let found = are_found(alloc, world, boxes)?;
+    Ok(counted && changed && found && is_as_marked(world) && world.structure() == structure)
+}
+
+// Whether the pairs, boxes and frames are those of the mark.
+fn is_as_marked(world: &AnyWorld) -> bool {
+    world.pairs().len() == 2 && world.len() == 3 && world.frames() == 2
 }
 
 // The scene over a structure. The world is handed on, so that what it owns is let go in one place.

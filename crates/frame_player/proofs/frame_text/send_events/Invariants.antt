@@ -8,7 +8,7 @@ abbrev pub invariant-events : goal.invariant-events
 invariant-events g l =
     (l.out.sink.ghost_name ≡ l.fn.out.sink.ghost_name)
     × IsHanded (outlet_of g.K.Sink.written g.K.Sink.faults g.K.Sink.since l.fn.out) (outlet_of g.K.Sink.written g.K.Sink.faults g.K.Sink.since l.out)
-    (l.fn.out.text.now.items ++ flat_map told_line l.events) (l.out.text.now.items ++ flat_map told_line l.rest)
+    (l.fn.out.text.now.items ++ flat_map told_line l.fn.events) (l.out.text.now.items ++ flat_map told_line l.rest)
 
 abbrev pub decreases-events : goal.decreases-events
 decreases-events g l = length l.rest

@@ -10,7 +10,7 @@ pub returns-in_err-hand_on : goal.returns-in_err-hand_on
 returns-in_err-hand_on g c =
     let at = outlet_of g.K.Sink.written g.K.Sink.faults g.K.Sink.since in
     let first = frame_line c.args.number c.args.pairs in
-    let later = flat_map told_line c.args.events.now ++ shown_number c.args.exchanges in
+    let later = flat_map told_line c.args.events ++ shown_number c.args.exchanges in
     let text = c.args.out.now.text.now.items in (
       c.in_err-hand_on.ensures.0,
       stopped_so (at c.args.out.now) (at c.hand_on.new.self) (text ++ (first ++ later)) c.hand_on.new.self.text.now.items c.from_residual-in_err-hand_on.result
@@ -23,7 +23,7 @@ pub returns-in_err-send_events : goal.returns-in_err-send_events
 returns-in_err-send_events g c =
     let at = outlet_of g.K.Sink.written g.K.Sink.faults g.K.Sink.since in
     let first = frame_line c.args.number c.args.pairs in
-    let lines = flat_map told_line c.args.events.now in
+    let lines = flat_map told_line c.args.events in
     let last = shown_number c.args.exchanges in
     let text = c.args.out.now.text.now.items in
     let start = text ++ (first ++ (lines ++ last)) in
@@ -41,7 +41,7 @@ pub returns : goal.returns
 returns g c =
     let at = outlet_of g.K.Sink.written g.K.Sink.faults g.K.Sink.since in
     let first = frame_line c.args.number c.args.pairs in
-    let lines = flat_map told_line c.args.events.now in
+    let lines = flat_map told_line c.args.events in
     let last = shown_number c.args.exchanges in
     let text = c.args.out.now.text.now.items in
     let start = text ++ (first ++ (lines ++ last)) in

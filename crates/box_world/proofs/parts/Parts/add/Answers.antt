@@ -51,7 +51,7 @@ returns-clause-added g c =
           (old.earlier + exchanges old.index + counted counts (exchanges_of_add w body)) given.given refl refl total)
           (changed_worlds c.undone_laws.ensures.append w c.give.new.self (old.earlier + exchanges c.add.new.self) (Given handle) old.marks.marks
           c.note.new.self.marks marks back);
-      events = refl;
+      tells = record { told = refl; began = refl; over = refl };
       kept = record {
         sound = put.sound;
         boxes = put.ok ∙ ap (λ b. insert b handle.slot body) kept.boxes

@@ -1,10 +1,12 @@
 -- The newest marked world is the world again.
-use Rattle.std.proofs.Common.{◌≡◌, ◌≢◌, ◌+◌, ◌∷◌, [], nat_lt, length, reverse, ap, sym, ◌∙◌, subst, arith, lt-ltb}
+use Rattle.std.proofs.Common.{◌≡◌, ◌≢◌, ◌+◌, List, ◌∷◌, [], cond, nat_lt, length, reverse, ap, sym, ◌∙◌, subst, arith, lt-ltb}
 use Rattle.world_marks.specs.Marks.{or_kept}
 use Rattle.world_marks.specs.Undone.{undone}
-use Rattle.box_world.specs.Parts.{world_in, timeline_in, marked_world, worlds_back, CanReturn}
+use Rattle.box_world.specs.Parts.{world_in, timeline_in, marked_world, worlds_back, told_in, CanReturn, IsSound}
 use Rattle.box_world.specs.World.{World, back_to}
 use Rattle.box_world.proofs.Marked.{EndsIn, ends_in, back_worlds, back_returns, same_world, same_time}
+use Rattle.pair_events.specs.declared.hpair.HPair.{HPair}
+use Rattle.box_world.proofs.Telling.{restored_pairs, restored_told}
 use Rattle.box_world.proofs.parts.Parts.back.Goals as goal
 
 pub returns-clause-held : goal.returns-clause-held
@@ -36,11 +38,16 @@ returns-clause-back g c =
     let none : exchanges c.count_from-self.new.index ≡ 0 = c.count_from-self.ensures.cleared back.sound in
     let total = c.count_from-self.result + exchanges c.count_from-self.new.index in
     let restored : total ≡ m.exchanges = omega (arith, none, earlier) in
-    let v : World = record { table = c.back.new.table; last = c.back.new.pairs; frames = c.in-Some.field-0.frames; exchanges = total } in
-    let same : v ≡ marked_world w m = same_world c.back.new.table (undone m.undos old.table) c.back.new.pairs (or_kept m.kept old.pair_table)
-    c.in-Some.field-0.frames m.frames total m.exchanges is.table is.pairs frames restored in
+    let keeps = c.keeps_pairs-keeps_pairs.result in
+    let last : List HPair = cond keeps c.back.new.pairs old.pair_table in
+    let pairs : last ≡ or_kept m.kept old.pair_table = restored_pairs keeps m.kept c.back.new.pairs old.pair_table
+    (c.keeps_pairs-keeps_pairs.ensures.newest older m ends.is) (is.pairs ∙ ap (or_kept m.kept) c.new-last.ensures) in
+    let v : World = record { table = c.back.new.table; last = last; frames = c.in-Some.field-0.frames; exchanges = total } in
+    let same : v ≡ marked_world w m = same_world c.back.new.table (undone m.undos old.table) last (or_kept m.kept old.pair_table)
+    c.in-Some.field-0.frames m.frames total m.exchanges is.table pairs frames restored in
     let u = marked_world w m in
-    same_time v u (worlds_back v (reverse c.back.new.self.marks)) (worlds_back u (reverse older)) same
+    ap (timeline_in exchanges) c.restore.ensures
+    ∙ same_time v u (worlds_back v (reverse c.back.new.self.marks)) (worlds_back u (reverse older)) same
     (ap (λ x. worlds_back x (reverse c.back.new.self.marks)) same ∙ ap (λ ks. worlds_back u (reverse ks)) is.held)
     ∙ sym (ap (back_to t) (back_worlds w older m old.marks.marks ends.is))
 
@@ -56,7 +63,7 @@ returns-clause-sound g c =
     let older = ends.older in
     let is = back.gone_back older m ends.is in
     let none : exchanges c.count_from-self.new.index ≡ 0 = c.count_from-self.ensures.cleared back.sound in
-    record {
+    subst (IsSound g.B.BroadPhase.bodies g.B.BroadPhase.spent exchanges) (sym c.restore.ensures) (record {
       sound = c.count_from-self.ensures.spent ∙ back.sound;
       boxes = c.count_from-self.ensures.bodies ∙ back.boxes;
       table = back.table some;
@@ -65,4 +72,13 @@ returns-clause-sound g c =
           subst (λ ks. CanReturn c.back.new.table (reverse ks)) (sym is.held) (subst (λ s. CanReturn s (reverse older)) (sym is.table) way.1);
       counted = let fits = c.count_from-self.ensures.fits in omega (arith, none, fits);
       since = tt;
+    })
+
+pub returns-clause-tells : goal.returns-clause-tells
+returns-clause-tells g c =
+    let old = c.args.self.now in
+    record {
+      told = ap told_in c.restore.ensures ∙ restored_told c.keeps_pairs-keeps_pairs.result c.back.new.pairs old.shown old.pair_table old.began.items old.over.items;
+      began = ap (λ p. p.began) c.restore.ensures;
+      over = ap (λ p. p.over) c.restore.ensures;
     }

@@ -3,7 +3,7 @@ use Rattle.std.proofs.Common.{◌≡◌, ◌+◌, false, ap, ◌∙◌, subst, a
 use Rattle.live_queries.specs.Pairs.{pairs_of}
 use Rattle.box_world.specs.Parts.{world_in, worlds_back, timeline_in, StillHolds}
 use Rattle.box_world.proofs.Marked.{counted_time}
-use Rattle.box_world.proofs.parts.Parts.end_frame.Goals.{in-Changed+in_ok-compare-in-Changed, in-SamePairs+in_ok-stay-in-SamePairs, in-SameEvents}
+use Rattle.box_world.proofs.parts.Parts.end_frame.Goals.{in-Changed+in_ok-compare-in-Changed, in-Moved+in_ok-compare-in-Moved, in-Same}
 use Rattle.box_world.proofs.parts.Parts.end_frame.Goals as goal
 
 pub returns-clause-time : goal.returns-clause-time
@@ -18,16 +18,13 @@ returns-clause-time g c =
     let told : timeline_in exchanges mid ≡ record (timeline_in exchanges old) { now = record w { last = pairs } } =
     elim c.match-self.branch [
       | in-Changed+in_ok-compare-in-Changed b ↦ ap (timeline_in exchanges) b.self-is ∙ b.in_ok-compare-in-Changed.ensures.told.time
-      | in-SamePairs+in_ok-stay-in-SamePairs b ↦ ap (timeline_in exchanges) b.self-is ∙ b.in_ok-stay-in-SamePairs.ensures.told.time
-      | in-SameEvents b ↦
-          let holds = subst (λ s. StillHolds s old.table.entries old.pair_table old.events.items) b.in-SameEvents.is kept.since in
-          ap (timeline_in exchanges) b.self-is
-          ∙ ap (λ ps. record { now = record w { last = ps }; marks = worlds_back w (reverse old.marks.marks) }) holds.0
+      | in-Moved+in_ok-compare-in-Moved b ↦ ap (timeline_in exchanges) b.self-is ∙ b.in_ok-compare-in-Moved.ensures.told.time
+      | in-Same b ↦ ap (timeline_in exchanges) b.self-is ∙ b.rest.ensures.time
     ] in
     let sound : spent mid.index ≡ false = elim c.match-self.branch [
       | in-Changed+in_ok-compare-in-Changed b ↦ ap (λ p. spent p.index) b.self-is ∙ b.in_ok-compare-in-Changed.ensures.told.kept.sound
-      | in-SamePairs+in_ok-stay-in-SamePairs b ↦ ap (λ p. spent p.index) b.self-is ∙ b.in_ok-stay-in-SamePairs.ensures.told.kept.sound
-      | in-SameEvents b ↦ ap (λ p. spent p.index) b.self-is ∙ kept.sound
+      | in-Moved+in_ok-compare-in-Moved b ↦ ap (λ p. spent p.index) b.self-is ∙ b.in_ok-compare-in-Moved.ensures.told.kept.sound
+      | in-Same b ↦ ap (λ p. spent p.index) b.self-is ∙ b.rest.ensures.kept.sound
     ] in
     let cleared : exchanges c.clear_exchanges.new.self ≡ 0 = c.clear_exchanges.ensures.cleared sound in
     counted_time (world_in exchanges mid) w pairs (reverse mid.marks.marks) (worlds_back w (reverse old.marks.marks))

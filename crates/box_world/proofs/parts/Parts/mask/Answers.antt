@@ -35,7 +35,7 @@ returns-in-Some-clause-masked g c =
           refl refl refl)
           (changed_worlds c.undone_laws.ensures.append w c.set_masks.new.self w.exchanges (Masked handle live.masks) old.marks.marks c.note.new.self.marks
           marks back);
-      events = refl;
+      tells = record { told = refl; began = refl; over = refl };
       kept = record {
         sound = kept.sound;
         boxes = kept.boxes ∙ sym set.bodies;

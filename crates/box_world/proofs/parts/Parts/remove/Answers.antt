@@ -40,7 +40,7 @@ returns-in-Some-clause-removed g c =
           (old.earlier + exchanges c.leave.new.self) w.exchanges table refl refl total)
           (changed_worlds c.undone_laws.ensures.append w c.take.new.self (old.earlier + exchanges c.leave.new.self) (Taken live) old.marks.marks
           c.note.new.self.marks marks back);
-      events = refl;
+      tells = record { told = refl; began = refl; over = refl };
       kept = record {
         sound = c.leave.ensures.spent ∙ kept.sound;
         boxes = c.leave.ensures.gone kept.sound ∙ ap (λ b. remove b handle.slot) kept.boxes ∙ sym taken.bodies;

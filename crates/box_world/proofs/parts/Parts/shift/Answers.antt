@@ -5,10 +5,11 @@ use Rattle.live_table.specs.Entries.{entry_at}
 use Rattle.live_table.specs.Table.{after_set_box}
 use Rattle.world_marks.specs.declared.undo.Undo.TheVariants.{Moved}
 use Rattle.world_marks.specs.Marks.{noted, with_newest}
-use Rattle.box_world.specs.Parts.{world_in, worlds_back, IsToNote}
+use Rattle.box_world.specs.Parts.{world_in, worlds_back, IsToNote, StillHolds, after_move}
 use Rattle.box_world.specs.World.{moved, counted, exchanges_of_move}
 use Rattle.box_world.proofs.Counted.{counted_on, still_fits, move_passes}
 use Rattle.box_world.proofs.Marked.{changed_worlds, changed_returns, unmarked_worlds, unmarked_returns, same_world, same_time}
+use Rattle.box_world.proofs.StillHolding.{still_holds}
 use Rattle.box_world.proofs.parts.Parts.shift.Goals as goal
 
 pub shift-requires-clause-present : goal.shift-requires-clause-present
@@ -52,7 +53,7 @@ returns-in-Some-clause-moved g c =
       time = same_time now (moved counts w handle body) (worlds_back now (reverse c.note.new.self.marks)) (worlds_back w (reverse old.marks.marks)) world
           (changed_worlds c.undone_laws.ensures.append w c.set_box.new.self (old.earlier + exchanges c.shift.new.self) (Moved handle live.body)
           old.marks.marks c.note.new.self.marks marks back);
-      events = refl;
+      tells = record { told = refl; began = refl; over = refl };
       kept = record {
         sound = put.sound;
         boxes = put.ok ∙ ap (λ b. insert b handle.slot body) kept.boxes ∙ sym set.bodies;
@@ -61,7 +62,9 @@ returns-in-Some-clause-moved g c =
             old.marks.marks c.note.new.self.marks marks can back kept.returns;
         counted = still_fits (old.earlier + exchanges c.shift.new.self) (old.earlier + exchanges old.index) (counted counts number) total
             c.requires.countable (c.exchange_law.ensures.moved counts w handle body kept.table);
-        since = tt;
+        since = subst (λ s. StillHolds s c.set_box.new.self.entries old.pair_table) (sym c.after_move-self.ensures)
+            (subst (λ s. StillHolds (after_move old.since) s.entries old.pair_table) (sym table)
+            (still_holds c.current_laws.ensures.pairs c.current_laws.ensures.moved old.since t old.pair_table handle body kept.table kept.since));
       };
     }
 
@@ -92,7 +95,7 @@ returns-in_default-before-clause-moved g c =
     record {
       time = same_time now (moved counts w handle body) (worlds_back now (reverse old.marks.marks)) (worlds_back w (reverse old.marks.marks)) world
           (unmarked_worlds now w old.marks.marks old.marks.marks none refl);
-      events = refl;
+      tells = record { told = refl; began = refl; over = refl };
       kept = record {
         sound = put.sound;
         boxes = put.ok ∙ ap (λ b. insert b handle.slot body) kept.boxes ∙ sym set.bodies;
@@ -100,6 +103,8 @@ returns-in_default-before-clause-moved g c =
         returns = unmarked_returns c.set_box.new.self old.marks.marks old.marks.marks none refl;
         counted = still_fits (old.earlier + exchanges c.shift.new.self) (old.earlier + exchanges old.index) (counted counts number) total
             c.requires.countable (c.exchange_law.ensures.moved counts w handle body kept.table);
-        since = tt;
+        since = subst (λ s. StillHolds s c.set_box.new.self.entries old.pair_table) (sym c.after_move-self.ensures)
+            (subst (λ s. StillHolds (after_move old.since) s.entries old.pair_table) (sym table)
+            (still_holds c.current_laws.ensures.pairs c.current_laws.ensures.moved old.since t old.pair_table handle body kept.table kept.since));
       };
     }

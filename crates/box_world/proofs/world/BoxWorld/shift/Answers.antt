@@ -14,4 +14,4 @@ returns-in-Err-NoMemory-clause-answer g c =
     rw (← c.self.view_is) (cut_off _ _ _ c.if-self.false
     (may_shift (world_in g.B.BroadPhase.exchanges parts) c.args.handle live (sym c.is_counted_out.ensures ∙ c.if-is_counted_out.false))
     (spent_from g.B.BroadPhase.exchanges g.B.BroadPhase.spent c.self.inside.spent parts c.shift.new.self
-    (record { index = is.index; table = is.table; last = is.last; marks = is.marks ∙ c.in_ok-before.ensures.marks; frames = is.frames; events = is.events })))
+    (record { index = is.index; table = is.table; last = is.last; marks = is.marks ∙ c.in_ok-before.ensures.marks; frames = is.frames; tells = record { told = is.tells.told; began = is.tells.began; over = is.tells.over } })))
