@@ -1,5 +1,5 @@
 // Bullet's btBroadphaseInterface over a world of this library: for a btCollisionWorld or btDiscreteDynamicsWorld in place of
-// btDbvtBroadphase. Bullet's pair cache is fed by what each update tells: a pair that began comes in, one that is over goes out.
+// btDbvtBroadphase. Bullet's pair cache is fed by the changes of each update alone: a pair that began comes in, one that is over goes out.
 //
 // Bullet's boxes are moved by an origin, scaled, rounded outward to 1/65,536 and cut to -32,768 .. 32,767, by steps that never turn
 // two numbers round: so boxes that meet always have boxes here that meet. A plane or a terrain without end may stand in the world.
@@ -183,7 +183,7 @@ private:
     std::vector<Proxy*> by_slot = std::vector<Proxy*>(PW_SLOTS);
     std::vector<pw_handle> waiting, moved;
     std::vector<pw_box> moved_to;
-    std::vector<pw_told> events;
+    std::vector<pw_told> changes;
     std::vector<pw_pair> pairs;
     // Pairs of ghosts that came in before an update told them.
     std::vector<std::pair<pw_handle, pw_handle>> early;
@@ -315,10 +315,9 @@ private:
         if (frame.status != Status::ok) return refuse(frame.status), false;
         is_changed = false;
         pairs_of_frame = frame.pairs;
-        events.resize(frame.events);
-        static_cast<void>(world.events(0, events));
-        for (const pw_told& told : events) {
-            if (told.event == PW_STAY) continue;
+        changes.resize(frame.changes);
+        static_cast<void>(world.changes(0, changes));
+        for (const pw_told& told : changes) {
             Proxy *a = proxy_of(told.pair.a), *b = proxy_of(told.pair.b);
             // Bullet has taken the pairs of a destroyed proxy out already.
             if (!a || !b) continue;

@@ -94,14 +94,13 @@ static void let_fall(pw_world *world) {
 
 static void print_changes(pw_world *world, int tick) {
     pw_counts counts;
-    pw_told events[ROOM];
+    pw_told changes[ROOM];
     size_t copied;
     must(pw_update(world, &counts));
-    must(pw_events(world, 0, events, ROOM, &copied));
+    must(pw_changes(world, 0, changes, ROOM, &copied));
     printf("tick %d: %zu pairs\n", tick, counts.pairs);
     for (size_t k = 0; k < copied; k++)
-        if (events[k].event != PW_STAY)
-            printf("  %s %u %u\n", events[k].event == PW_BEGIN ? "begin" : "over", events[k].pair.a.slot, events[k].pair.b.slot);
+        printf("  %s %u %u\n", changes[k].event == PW_BEGIN ? "begin" : "over", changes[k].pair.a.slot, changes[k].pair.b.slot);
 }
 
 int main(void) {

@@ -9,7 +9,7 @@
  *     for (;;) {                                            // a tick
  *         pw_move(&world, moved, m, bodies, m, &done);      // what is elsewhere now
  *         pw_update(&world, &counts);                       // find the pairs
- *         pw_events(&world, 0, events, room, &copied);      // which began, stayed or are over
+ *         pw_changes(&world, 0, changes, room, &copied);    // which began or are over
  *         pw_ray_hits(&world, &ray, hits, room, &count);    // ask
  *     }
  *     pw_close(&world);
@@ -41,7 +41,7 @@ extern "C" {
 #endif
 
 /* The most boxes that live at once. Slots are below it, so an array of this length has room for the answer to any question (there may be
- * more pairs, and more events). */
+ * more pairs, events and changes). */
 #define PW_SLOTS 8192u
 
 /* The most marks that a world holds. */
@@ -62,9 +62,10 @@ enum {
     PW_FULL = 2,          /* PW_SLOTS boxes live, or PW_MOST_MARKS marks are held */
     PW_NO_MEMORY = 3,     /* malloc gave none, and what ran out wasn't done: of a batch the steps before it were. After pw_add,
                              pw_move or pw_back a world over PW_PLAIN or PW_SAP may be spent, which pw_info tells; one over PW_TREE,
-                             PW_GRID or PW_SKIN never is. A spent world keeps what it had: pw_get, pw_pairs, pw_events and pw_info
-                             tell its boxes, pairs, events, frames and marks, and all that would change or ask it gives this. Close
-                             it, open another one and add its boxes there. After any other call all is as before: ask again. */
+                             PW_GRID or PW_SKIN never is. A spent world keeps what it had: pw_get, pw_pairs, pw_events, pw_changes
+                             and pw_info tell its boxes, pairs, events, frames and marks, and all that would change or ask it gives
+                             this. Close it, open another one and add its boxes there. After any other call all is as before: ask
+                             again. */
     PW_INVERTED = 4,      /* lo > hi on some axis */
     PW_CLOSED = 5,        /* the world isn't open */
     PW_ARGUMENT = 6,      /* no such structure or kind of question, a region whose lo > hi, lengths that don't agree, or an open
@@ -156,9 +157,10 @@ typedef struct pw_told {
     pw_pair pair;
 } pw_told;
 
-/* How many pairs the frame has that pw_update ended, and how many events. */
+/* How many pairs the frame has that pw_update ended, how many events, and how many changes, which are the events of pairs that began
+ * or are over. */
 typedef struct pw_counts {
-    size_t pairs, events;
+    size_t pairs, events, changes;
 } pw_counts;
 
 /* A question about the boxes of the groups of `mask`: PW_REGION, PW_POINT, PW_RAY or PW_SEGMENT. */
@@ -231,7 +233,9 @@ pw_status pw_remove(pw_world *world, const pw_handle *handles, size_t handles_le
 pw_status pw_get(pw_world *world, pw_handle handle, pw_live *out);
 
 /* Ends the frame: finds the pairs of the boxes as they stand and what became of each since the last frame, and tells how many
- * there are. They stay readable until the next update. PW_EXHAUSTED, PW_NO_MEMORY: all is as before. */
+ * there are. They stay readable until the next update. Where no box came, moved, got other masks or went since the last update, and
+ * nobody went back, nothing is searched, nothing begins and nothing is over: it takes the same time however many boxes and pairs there
+ * are. PW_EXHAUSTED, PW_NO_MEMORY: all is as before. */
 pw_status pw_update(pw_world *world, pw_counts *counts);
 
 /* Copies the pairs of the last frame from number `from` on, in order of (a's slot, b's slot), as many as there is room for, and
@@ -240,8 +244,14 @@ pw_status pw_update(pw_world *world, pw_counts *counts);
 pw_status pw_pairs(pw_world *world, size_t from, pw_pair *out, size_t out_len, size_t *copied);
 
 /* Copies what the last update told, from number `from` on: each of its pairs in order, PW_BEGIN or PW_STAY, and then in order those
- * that are over. As many as there is room for, and tells how many those are. After pw_back they stay what the last update told. */
+ * that are over. As many as there is room for, and tells how many those are. After pw_back they stay what the last update told. Events
+ * are made while they are copied, with a step for each before `from` too: read all by one call, or pw_changes. */
 pw_status pw_events(pw_world *world, size_t from, pw_told *out, size_t out_len, size_t *copied);
+
+/* The same without the pairs that stayed: from number `from` on, each pair that began in order, PW_BEGIN, and then in order those that
+ * are over, PW_OVER. It takes a step for each up to the last one copied and none for a pair that stayed, so it is what an engine reads
+ * that keeps pairs of its own. After pw_back they, too, stay what the last update told. */
+pw_status pw_changes(pw_world *world, size_t from, pw_told *out, size_t out_len, size_t *copied);
 
 /* Tells how many live boxes meet a question, and copies the handles of the first of them, in order of slots, as many as there
  * is room for. PW_ARGUMENT: no such kind of question, or a region whose lo > hi. PW_NO_MEMORY. After both `out` is as before. */

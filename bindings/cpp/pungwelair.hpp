@@ -6,8 +6,8 @@
 //     auto crate = box ? world.add(*box) : std::nullopt;      // a handle
 //     for (;;) {                                              // a tick
 //         auto moved = world.move(handles, boxes);            // moved.status, moved.done
-//         auto frame = world.update();                        // frame.status, frame.pairs, frame.events
-//         auto told = world.events(0, events);                // told.status, told.count
+//         auto frame = world.update();                        // frame.status, frame.pairs, frame.events, frame.changes
+//         auto told = world.changes(0, changes);              // told.status, told.count
 //         auto found = world.ray_hits(ray, hits);             // found.status, found.count
 //     }
 #ifndef PUNGWELAIR_HPP
@@ -80,7 +80,7 @@ struct [[nodiscard]] Count {
 // The frame that an update ended.
 struct [[nodiscard]] Frame {
     Status status;
-    std::size_t pairs, events;
+    std::size_t pairs, events, changes;
     explicit operator bool() const { return status == Status::ok; }
 };
 
@@ -163,7 +163,7 @@ public:
     Frame update() {
         pw_counts counts{};
         Status status = Status(pw_update(&world, &counts));
-        return {status, counts.pairs, counts.events};
+        return {status, counts.pairs, counts.events, counts.changes};
     }
     Count pairs(std::size_t from, Span<pw_pair> out) {
         Count copied{};
@@ -173,6 +173,12 @@ public:
     Count events(std::size_t from, Span<pw_told> out) {
         Count copied{};
         copied.status = Status(pw_events(&world, from, out.data(), out.size(), &copied.count));
+        return copied;
+    }
+    // The same without the pairs that stayed, for which no step is taken.
+    Count changes(std::size_t from, Span<pw_told> out) {
+        Count copied{};
+        copied.status = Status(pw_changes(&world, from, out.data(), out.size(), &copied.count));
         return copied;
     }
 

@@ -1,6 +1,6 @@
 """A crate is dropped between two others and lifted again: what it meets on its way, and what a ray through all of them finds."""
 
-from pungwelair import BEGIN, STAY, Refused, World, box_around
+from pungwelair import BEGIN, Refused, World, box_around
 
 
 def cube(x, y):
@@ -13,9 +13,9 @@ with World() as world:
     names = {floor.slot: "floor", left.slot: "left", right.slot: "right", crate.slot: "crate"}
     for height in (3, 2, 1.5, 1, 0, 4):
         world.move(crate, cube(0, height))
-        for event, a, b in world.update():
-            if event != STAY:
-                print(height, "begin" if event == BEGIN else "over", names[a], names[b])
+        world.end_frame()
+        for event, a, b in world.changes():
+            print(height, "begin" if event == BEGIN else "over", names[a], names[b])
     print("on the ray:", *(names[slot] for slot in world.ray_hits((300000, 32768, 32768), (-1, 0, 0))))
     world.remove(crate)
     try:

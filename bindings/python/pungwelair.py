@@ -43,7 +43,7 @@ class Told(Structure):
 
 
 class Counts(Structure):
-    _fields_ = [("pairs", c_size_t), ("events", c_size_t)]
+    _fields_ = [(name, c_size_t) for name in ("pairs", "events", "changes")]
 
 
 class Ray(Structure):
@@ -77,6 +77,7 @@ class World:
     def __init__(self, structure=TREE):
         self._held = Held()
         self._found = (Handle * SLOTS)()
+        self._counts = Counts()
         call("pw_open", byref(self._held), c_uint32(structure))
 
     def close(self):
@@ -104,12 +105,28 @@ class World:
 
     def update(self):
         """Ends the frame, and gives what became of each pair: an event and the two slots."""
-        counts, copied = Counts(), c_size_t()
+        self.end_frame()
+        return self.events()
+
+    def end_frame(self):
+        """Ends the frame, and reads nothing of it."""
+        counts = Counts()
         call("pw_update", byref(self._held), byref(counts))
+        self._counts = counts
+
+    def events(self):
+        """What became of each pair in the last frame that ended: an event and the two slots."""
+        return self._told("pw_events", self._counts.events)
+
+    def changes(self):
+        """The same without the pairs that stayed: those that began, and then those that are over."""
+        return self._told("pw_changes", self._counts.changes)
+
+    def _told(self, name, count):
         # An array of no items is a pointer too.
-        events = (Told * max(counts.events, 1))()
-        call("pw_events", byref(self._held), c_size_t(0), events, c_size_t(counts.events), byref(copied))
-        return [(told.event, told.a.slot, told.b.slot) for told in events[: copied.value]]
+        told, copied = (Told * max(count, 1))(), c_size_t()
+        call(name, byref(self._held), c_size_t(0), told, c_size_t(count), byref(copied))
+        return [(one.event, one.a.slot, one.b.slot) for one in told[: copied.value]]
 
     def ray_hits(self, origin, direction, mask=ALL):
         """The slots of the boxes that a ray of raw numbers meets, in the order in which it meets them."""

@@ -3,6 +3,7 @@
 #include "pungwelair.hpp"
 #include <cstdio>
 #include <cstdlib>
+#include <cstring>
 #include <iostream>
 #include <string>
 #include <vector>
@@ -66,6 +67,8 @@ pw_handle handle_at(const Words& words, std::size_t at) {
 
 std::string text_of(pw_handle handle) { return std::to_string(handle.slot) + ":" + std::to_string(handle.generation); }
 
+bool same(const pw_told& a, const pw_told& b) { return std::memcmp(&a, &b, sizeof a) == 0; }
+
 class Player {
     pungwelair::World world;
     std::string report;
@@ -92,13 +95,21 @@ class Player {
         auto frame = world.update();
         must(frame.status);
         reply("frame " + std::to_string(world.info()->frames) + " " + std::to_string(frame.pairs));
-        std::vector<pw_told> events(frame.events);
+        std::vector<pw_told> events(frame.events), changes(frame.changes);
         std::vector<pw_pair> pairs(frame.pairs);
         auto copied = world.events(0, events);
         must(copied.status);
         if (copied.count != frame.events) fail("events are missing");
-        for (const pw_told& told : events)
+        copied = world.changes(0, changes);
+        must(copied.status);
+        if (copied.count != frame.changes) fail("changes are missing");
+        auto change = changes.begin();
+        for (const pw_told& told : events) {
             reply(names[told.event] + text_of(told.pair.a) + " " + text_of(told.pair.b));
+            if (told.event == PW_STAY) continue;
+            if (change == changes.end() || !same(*change++, told)) fail("other changes than events");
+        }
+        if (change != changes.end()) fail("more changes than events");
         must(world.pairs(0, pairs).status);
         for (std::size_t k = 0; k < pairs.size(); k++)
             if (pairs[k].a.slot != events[k].pair.a.slot || pairs[k].b.slot != events[k].pair.b.slot) fail("other pairs than events");

@@ -16,7 +16,7 @@ static size_t handle_count;
 static pw_world world = PW_WORLD_INIT;
 
 /* How many answers had something in them. */
-static long pairs_seen, changes_seen, hits_seen;
+static long pairs_seen, over_seen, hits_seen;
 
 /* Random numbers: splitmix64. */
 static uint64_t seed;
@@ -149,12 +149,25 @@ static void try_get(void) {
     EXPECT(out.group.owner == live->group.owner && (out.group.fixed != 0) == (live->group.fixed != 0));
 }
 
+/* The changes from a number on, with some room. */
+static void expect_changes(size_t from, size_t room) {
+    static pw_told changes[2 * MOST_PAIRS + 1];
+    size_t left = from < changed_count ? changed_count - from : 0, copied = 99;
+    memset(changes, FILL, room * sizeof *changes);
+    EXPECT(pw_changes(&world, from, changes, room, &copied) == PW_OK && copied == (left < room ? left : room));
+    EXPECT(are_copied(changes, room, changed + from, left, sizeof *changes));
+}
+
+/* All changes are read, with room for one more, and then some, from any number on. */
 static void try_update(void) {
-    pw_counts counts = {99, 99};
+    pw_counts counts = {99, 99, 99};
     pw_status status = pw_update(&world, &counts);
     end_frame_of_model();
-    EXPECT(status == PW_OK && counts.pairs == now.last_count && counts.events == told_count);
-    pairs_seen += (long)now.last_count, changes_seen += (long)(told_count - now.last_count);
+    EXPECT(status == PW_OK && counts.pairs == now.last_count && counts.events == told_count && counts.changes == changed_count);
+    expect_changes(0, changed_count + 1);
+    size_t from = below((uint32_t)changed_count + 2), room = below((uint32_t)changed_count + 2);
+    expect_changes(from, room);
+    pairs_seen += (long)now.last_count, over_seen += (long)(told_count - now.last_count);
 }
 
 /* From any number on, with any room, past the end too. */
@@ -170,6 +183,7 @@ static void try_lists(void) {
     memset(events, FILL, room * sizeof *events);
     EXPECT(pw_events(&world, from, events, room, &copied) == PW_OK && copied == (left < room ? left : room));
     EXPECT(are_copied(events, room, told + from, left, sizeof *events));
+    expect_changes(from, room);
 }
 
 static void expect_hits(pw_status status, const pw_handle *out, size_t room, size_t count, const struct hit *hits, size_t wanted) {
@@ -313,12 +327,12 @@ int main(int count, char **words) {
     for (uint32_t structure = PW_PLAIN; structure <= PW_SKIN; structure++) {
         seed = (count > 2 ? strtoull(words[2], NULL, 10) : 1) * 5 + structure;
         now = (struct model){0};
-        marks = 0, told_count = handle_count = 0;
+        marks = 0, told_count = changed_count = handle_count = 0;
         EXPECT(pw_open(&world, structure) == PW_OK);
         for (long k = 0; k < calls; k++) try_some_call(structure);
         EXPECT(pw_close(&world) == PW_OK);
     }
-    printf("random_calls: %ld pairs, %ld over, %ld hits\n", pairs_seen, changes_seen, hits_seen);
-    EXPECT(pairs_seen > 0 && changes_seen > 0 && hits_seen > 0);
+    printf("random_calls: %ld pairs, %ld over, %ld hits\n", pairs_seen, over_seen, hits_seen);
+    EXPECT(pairs_seen > 0 && over_seen > 0 && hits_seen > 0);
     return tested("random_calls");
 }

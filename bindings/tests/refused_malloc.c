@@ -62,7 +62,8 @@ static long spent_worlds;
 
 /* The lists of the last frame. */
 static pw_pair pairs[ROOM];
-static pw_told events[ROOM];
+static pw_told events[ROOM], changes[ROOM];
+static size_t change_count;
 
 /* A call says that memory was refused exactly where some was. */
 #define TELLS(status, call)                                         \
@@ -80,6 +81,21 @@ static pw_told events[ROOM];
         if (status == PW_NO_MEMORY) status = (call);                \
         EXPECT(status == PW_OK);                                    \
     } while (0)
+
+/* A call that asks for no memory. */
+#define NEEDS_NONE(call)                                            \
+    do {                                                            \
+        long before = requests;                                     \
+        EXPECT((call) == PW_OK && requests == before);              \
+    } while (0)
+
+/* Where no frame ended since, the changes are those that were told last. */
+static void expect_same_changes(void) {
+    static pw_told again[ROOM];
+    size_t copied;
+    NEEDS_NONE(pw_changes(&world, 0, again, ROOM, &copied));
+    EXPECT(copied == change_count && !memcmp(again, changes, copied * sizeof *again));
+}
 
 static pw_box box_of(int32_t k, int32_t shift) {
     int32_t x = k % 7 * 100 + shift, y = k / 7 % 7 * 100, z = k / 49 * 100 + shift / 2;
@@ -103,7 +119,7 @@ static void leave_spent_world(void) {
     EXPECT(pw_move(&world, handles, 1, &body, 1, &count) == PW_NO_MEMORY && count == 0);
     EXPECT(pw_remove(&world, handles, 1, &count) == PW_NO_MEMORY && count == 0);
     EXPECT(pw_mask(&world, handles[0], how.masks) == PW_NO_MEMORY);
-    EXPECT(pw_update(&world, &counts) == PW_NO_MEMORY && counts.pairs == 0 && counts.events == 0);
+    EXPECT(pw_update(&world, &counts) == PW_NO_MEMORY && counts.pairs == 0 && counts.events == 0 && counts.changes == 0);
     EXPECT(pw_hits(&world, &query, &handle, 1, &count) == PW_NO_MEMORY && count == 0);
     EXPECT(pw_ray_hits(&world, &ray, &handle, 1, &count) == PW_NO_MEMORY && count == 0);
     EXPECT(pw_cast_hits(&world, &cast, &handle, 1, &count) == PW_NO_MEMORY && count == 0);
@@ -112,6 +128,7 @@ static void leave_spent_world(void) {
     /* What it had can be read still. */
     EXPECT(pw_pairs(&world, 0, pairs, ROOM, &count) == PW_OK);
     EXPECT(pw_events(&world, 0, events, ROOM, &count) == PW_OK);
+    expect_same_changes();
     EXPECT(pw_close(&world) == PW_OK && blocks == 0);
     EXPECT(pw_open(&world, PW_PLAIN) == PW_OK);
     EXPECT(pw_add(&world, &body, 1, &how, &handle, 1, &count) == PW_OK && count == 1);
@@ -200,19 +217,30 @@ static void back(void) {
     pw_world_info before = info_now();
     do TELLS(status, pw_back(&world));
     while (goes_on(status, true, &before, before.boxes));
+    if (!is_spent) expect_same_changes();
 }
 
 static void update(void) {
     pw_counts counts;
+    pw_status status;
     size_t copied;
-    ASK(pw_update(&world, &counts));
+    TELLS(status, pw_update(&world, &counts));
+    if (status == PW_NO_MEMORY) {
+        EXPECT(counts.pairs == 0 && counts.events == 0 && counts.changes == 0);
+        expect_same_changes();
+        status = pw_update(&world, &counts);
+    }
+    EXPECT(status == PW_OK);
     answered(&counts, sizeof counts);
-    ASK(pw_pairs(&world, 0, pairs, ROOM, &copied));
+    NEEDS_NONE(pw_pairs(&world, 0, pairs, ROOM, &copied));
     EXPECT(copied == counts.pairs);
     answered(pairs, copied * sizeof *pairs);
-    ASK(pw_events(&world, 0, events, ROOM, &copied));
+    NEEDS_NONE(pw_events(&world, 0, events, ROOM, &copied));
     EXPECT(copied == counts.events);
     answered(events, copied * sizeof *events);
+    NEEDS_NONE(pw_changes(&world, 0, changes, ROOM, &change_count));
+    EXPECT(change_count == counts.changes);
+    answered(changes, change_count * sizeof *changes);
 }
 
 static void ask(void) {
@@ -249,8 +277,12 @@ static void see(void) {
     answered(fields, sizeof fields);
 }
 
-/* The steps of a run. Each of the changes may end it, with a spent world. */
-static void fill(void) { add(0, BOXES, 0); }
+/* The steps of a run. Each of the changes may end it, with a spent world. The first half of the boxes has one owner and the second has
+ * none, so some are pairs, of which some stay. */
+static void fill(void) {
+    add(0, MOVED, 0);
+    if (!is_spent) add(MOVED, BOXES - MOVED, 0);
+}
 static void move_half(void) { move(0, MOVED, 30); }
 static void mask_one(void) { mask(7); }
 static void mark(void) { ASK(pw_mark(&world)); }
@@ -268,7 +300,7 @@ enum { STEPS = sizeof steps / sizeof *steps };
 /* One run, with one request refused or none. */
 static void run(uint32_t structure) {
     requests = refusals = 0;
-    answer_at = 0;
+    answer_at = change_count = 0;
     is_spent = false;
     pw_status status;
     TELLS(status, pw_open(&world, structure));

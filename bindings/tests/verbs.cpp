@@ -32,16 +32,20 @@ void changes_and_frames(Structure structure) {
     auto frame = world.update();
     pw_pair pairs[4];
     std::array<pw_told, 4> events;
-    EXPECT(frame && frame.pairs == 2 && frame.events == 2);
+    EXPECT(frame && frame.pairs == 2 && frame.events == 2 && frame.changes == 2);
     EXPECT(world.pairs(0, pairs).count == 2 && same(pairs[1].a, handles[2]) && same(pairs[1].b, *owned));
     EXPECT(world.events(1, events).count == 1 && event_of(events[0]) == pungwelair::Event::begin);
+    EXPECT(world.changes(1, events).count == 1 && same(events[0].pair.b, *owned));
 
     const pw_handle which[2] = {handles[1], *owned};
     EXPECT(world.move(handles[0], cube(100)) == Status::ok);
     EXPECT(world.move(which, std::vector{cube(105), cube(30)}).done == 2);
     EXPECT(world.mask(*owned, {1, 0}) == Status::ok);
-    EXPECT(world.update().pairs == 1 && world.events(0, events).count == 2);
+    frame = world.update();
+    EXPECT(frame.pairs == 1 && frame.events == 2 && frame.changes == 1 && world.events(0, events).count == 2);
     EXPECT(event_of(events[0]) == pungwelair::Event::stay && event_of(events[1]) == pungwelair::Event::over);
+    std::vector<pw_told> changes(frame.changes);
+    EXPECT(world.changes(0, changes).count == 1 && event_of(changes[0]) == pungwelair::Event::over && same(changes[0].pair.b, *owned));
 
     EXPECT(world.remove(*owned) == Status::ok && world.remove(handles).done == 3);
     EXPECT(world.info() && world.info()->boxes == 0 && world.info()->frames == 2 && world.info()->structure == uint32_t(structure));
@@ -74,6 +78,8 @@ void marks_and_refusals() {
     EXPECT(world.add(one, pw_seen_by_all(), none).status == Status::argument);
     EXPECT(world.move(none, one).status == Status::argument && world.remove(none).status == Status::ok);
     EXPECT(world.hits({PW_POINT, 1, origin, origin}, none).count == 1);
+    std::vector<pw_told> no_room;
+    EXPECT(world.changes(0, no_room).status == Status::ok && World().changes(0, no_room).status == Status::closed);
     EXPECT(world.open(Structure::tree) == Status::argument && world.close() == Status::ok && world.close() == Status::closed);
     EXPECT(!world.info() && world.open(Structure::tree) == Status::ok && world.info());
 }

@@ -18,8 +18,8 @@ struct view {
     uint64_t info[6];
     pw_live live[BOXES];
     pw_pair pairs[ROOM];
-    pw_told events[ROOM];
-    size_t pair_count, event_count;
+    pw_told events[ROOM], changes[ROOM];
+    size_t pair_count, event_count, change_count;
 };
 
 static void look(struct view *view) {
@@ -31,6 +31,7 @@ static void look(struct view *view) {
     for (int k = 0; k < BOXES; k++) EXPECT(pw_get(&world, handles[k], &view->live[k]) == PW_OK);
     EXPECT(pw_pairs(&world, 0, view->pairs, ROOM, &view->pair_count) == PW_OK);
     EXPECT(pw_events(&world, 0, view->events, ROOM, &view->event_count) == PW_OK);
+    EXPECT(pw_changes(&world, 0, view->changes, ROOM, &view->change_count) == PW_OK);
 }
 
 /* What leaves the world as it was. */
@@ -72,7 +73,7 @@ static void closed_world(void) {
     pw_ray ray = {~0u, origin, origin};
     pw_cast cast = {~0u, boxes[0], origin};
     pw_near near_to = {~0u, 1, origin};
-    pw_counts counts = {99, 99};
+    pw_counts counts = {99, 99, 99};
     pw_world_info info[1];
     size_t count;
     EXPECT(pw_close(&world) == PW_CLOSED);
@@ -86,9 +87,10 @@ static void closed_world(void) {
     EXPECT(pw_mask(&world, none, how.masks) == PW_CLOSED);
     memset(live, FILL, sizeof live);
     EXPECT(pw_get(&world, none, live) == PW_CLOSED && is_filled(live, sizeof live));
-    EXPECT(pw_update(&world, &counts) == PW_CLOSED && counts.pairs == 0 && counts.events == 0);
+    EXPECT(pw_update(&world, &counts) == PW_CLOSED && counts.pairs == 0 && counts.events == 0 && counts.changes == 0);
     EMPTY(pw_pairs(&world, 0, pairs, ROOM, &count), PW_CLOSED, count, pairs);
     EMPTY(pw_events(&world, 0, events, ROOM, &count), PW_CLOSED, count, events);
+    EMPTY(pw_changes(&world, 0, events, ROOM, &count), PW_CLOSED, count, events);
     EMPTY(pw_hits(&world, &query, out, ROOM, &count), PW_CLOSED, count, out);
     EMPTY(pw_ray_hits(&world, &ray, out, ROOM, &count), PW_CLOSED, count, out);
     EMPTY(pw_cast_hits(&world, &cast, out, ROOM, &count), PW_CLOSED, count, out);
@@ -105,7 +107,7 @@ static void open_with_boxes(uint32_t structure) {
     size_t done;
     EXPECT(pw_open(&world, structure) == PW_OK);
     EXPECT(pw_add(&world, boxes, BOXES, &how, handles, BOXES, &done) == PW_OK && done == BOXES);
-    EXPECT(pw_update(&world, &counts) == PW_OK && counts.pairs == 1 && counts.events == 1);
+    EXPECT(pw_update(&world, &counts) == PW_OK && counts.pairs == 1 && counts.events == 1 && counts.changes == 1);
 }
 
 static void wrong_opening(void) {
@@ -193,15 +195,32 @@ static void room_for_lists(void) {
     for (int k = 0; k < 3; k++) {
         STAYS(EMPTY(pw_pairs(&world, past[k], pairs, ROOM, &copied), PW_OK, copied, pairs));
         STAYS(EMPTY(pw_events(&world, past[k], events, ROOM, &copied), PW_OK, copied, events));
+        STAYS(EMPTY(pw_changes(&world, past[k], events, ROOM, &copied), PW_OK, copied, events));
     }
     STAYS(EMPTY(pw_pairs(&world, 0, pairs, 0, &copied), PW_OK, copied, pairs));
     STAYS(EMPTY(pw_events(&world, 0, events, 0, &copied), PW_OK, copied, events));
+    STAYS(EMPTY(pw_changes(&world, 0, events, 0, &copied), PW_OK, copied, events));
     memset(pairs, FILL, sizeof pairs);
     memset(events, FILL, sizeof events);
     EXPECT(pw_pairs(&world, 0, pairs, ROOM, &copied) == PW_OK && copied == 1);
     EXPECT(pairs[0].a.slot == 0 && pairs[0].b.slot == 1 && is_filled(pairs + 1, sizeof pairs - sizeof *pairs));
     EXPECT(pw_events(&world, 0, events, ROOM, &copied) == PW_OK && copied == 1);
     EXPECT(events[0].event == PW_BEGIN && events[0].pair.b.slot == 1 && is_filled(events + 1, sizeof events - sizeof *events));
+    memset(events, FILL, sizeof events);
+    EXPECT(pw_changes(&world, 0, events, ROOM, &copied) == PW_OK && copied == 1);
+    EXPECT(events[0].event == PW_BEGIN && events[0].pair.b.slot == 1 && is_filled(events + 1, sizeof events - sizeof *events));
+}
+
+/* A pair that stays is an event and no change: in a frame that searches, since a box came and went, and in one that doesn't. */
+static void pair_that_stays(void) {
+    pw_counts counts;
+    pw_told events[ROOM];
+    size_t copied;
+    for (int k = 0; k < 2; k++) {
+        EXPECT(pw_update(&world, &counts) == PW_OK && counts.pairs == 1 && counts.events == 1 && counts.changes == 0);
+        STAYS(EMPTY(pw_changes(&world, 0, events, ROOM, &copied), PW_OK, copied, events));
+        EXPECT(pw_events(&world, 0, events, ROOM, &copied) == PW_OK && copied == 1 && events[0].event == PW_STAY);
+    }
 }
 
 static void wrong_questions(void) {
@@ -347,6 +366,7 @@ int main(void) {
         wrong_moves();
         removed_twice();
         room_for_lists();
+        pair_that_stays();
         wrong_questions();
         room_for_hits();
         questions_at_the_ends();

@@ -37,6 +37,7 @@ extern "C" {
     pub fn pw_update(world: &mut Held, counts: &mut Frame) -> u32;
     pub fn pw_pairs(world: &mut Held, from: usize, out: *mut Pair, out_len: usize, copied: &mut usize) -> u32;
     pub fn pw_events(world: &mut Held, from: usize, out: *mut Told, out_len: usize, copied: &mut usize) -> u32;
+    pub fn pw_changes(world: &mut Held, from: usize, out: *mut Told, out_len: usize, copied: &mut usize) -> u32;
     pub fn pw_hits(world: &mut Held, query: &RawQuery, out: *mut Handle, out_len: usize, count: &mut usize) -> u32;
     pub fn pw_ray_hits(world: &mut Held, ray: &Ray, out: *mut Handle, out_len: usize, count: &mut usize) -> u32;
     pub fn pw_cast_hits(world: &mut Held, cast: &Cast, out: *mut Handle, out_len: usize, count: &mut usize) -> u32;

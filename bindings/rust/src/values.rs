@@ -228,12 +228,14 @@ impl Told {
     }
 }
 
-/// How many pairs the frame has that an update ended, and how many events.
+/// How many pairs the frame has that an update ended, how many events, and how many changes, which are the events of pairs that began or
+/// are over.
 #[repr(C)]
 #[derive(Clone, Copy, Debug, Default, PartialEq, Eq)]
 pub struct Frame {
     pub pairs: usize,
     pub events: usize,
+    pub changes: usize,
 }
 
 /// A question by a shape. The ray has no end, and its direction may be zero.
@@ -328,7 +330,7 @@ const _: () = {
     use std::mem::size_of;
     assert!(size_of::<Body>() == 24 && size_of::<How>() == 16 && size_of::<Live>() == 40 && size_of::<Told>() == 20);
     assert!(size_of::<RawQuery>() == 32 && size_of::<Ray>() == 28 && size_of::<Cast>() == 40 && size_of::<Near>() == 20);
-    assert!(size_of::<Info>() == 32 && size_of::<library::Held>() == 16);
+    assert!(size_of::<Info>() == 32 && size_of::<Frame>() == 24 && size_of::<library::Held>() == 16);
 };
 
 /// The least box in raw units that holds a box of floats: the lower corner is rounded down and the upper one up, so boxes of floats

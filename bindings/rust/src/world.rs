@@ -89,7 +89,7 @@ impl World {
         Ok(out)
     }
 
-    /// Ends the frame, and tells how many pairs it has and how many events: `Exhausted` or `NoMemory`, and then all is as before.
+    /// Ends the frame, and tells how many pairs, events and changes it has: `Exhausted` or `NoMemory`, and then all is as before.
     pub fn update(&mut self) -> Result<Frame, Error> {
         let mut counts = Frame::default();
         // SAFETY: the words are those that the last call left; `counts` is a value of its own.
@@ -105,11 +105,20 @@ impl World {
         counted(status, copied)
     }
 
-    /// Copies what the last update told from number `from` on: its pairs, and then those that are over.
+    /// Copies what the last update told from number `from` on: its pairs, and then those that are over. It takes a step for each event
+    /// before `from` too.
     pub fn events(&mut self, from: usize, out: &mut [Told]) -> Result<usize, Error> {
         let mut copied = 0;
         // SAFETY: the words are those that the last call left; the pointer leads to as many items as the length says.
         let status = unsafe { library::pw_events(&mut self.held, from, out.as_mut_ptr(), out.len(), &mut copied) };
+        counted(status, copied)
+    }
+
+    /// The same without the pairs that stayed: those that began, and then those that are over. No pair that stayed costs a step.
+    pub fn changes(&mut self, from: usize, out: &mut [Told]) -> Result<usize, Error> {
+        let mut copied = 0;
+        // SAFETY: the words are those that the last call left; the pointer leads to as many items as the length says.
+        let status = unsafe { library::pw_changes(&mut self.held, from, out.as_mut_ptr(), out.len(), &mut copied) };
         counted(status, copied)
     }
 

@@ -31,6 +31,7 @@ fn changes_and_frames() {
         assert_eq!((frame.pairs, world.pairs(0, &mut pairs)), (2, Ok(2)));
         assert_eq!(pairs[1], Pair { a: handles[2], b: owned });
         assert_eq!((frame.events, world.events(1, &mut events), events[0].event()), (2, Ok(1), Event::Begin));
+        assert_eq!((frame.changes, world.changes(1, &mut events), events[0].pair.b), (2, Ok(1), owned));
 
         world.shift(handles[0], cube(100)).unwrap();
         world.shift_all(&[handles[1], owned], &[cube(105), cube(30)]).unwrap();
@@ -38,6 +39,8 @@ fn changes_and_frames() {
         let frame = world.update().unwrap();
         assert_eq!((frame.pairs, frame.events, world.events(0, &mut events)), (1, 2, Ok(2)));
         assert_eq!((events[0].event(), events[1].event(), events[1].pair.b), (Event::Stay, Event::Over, owned));
+        assert_eq!((frame.changes, world.changes(0, &mut events)), (1, Ok(1)));
+        assert_eq!((events[0].event(), events[0].pair.b), (Event::Over, owned));
 
         world.remove(owned).unwrap();
         world.remove_all(&handles).unwrap();
@@ -96,7 +99,7 @@ fn refusals_and_empty_slices() {
     assert_eq!(world.add_all(&[], How::default(), &mut []), Ok(()));
     assert_eq!(world.shift_all(&[], &[]), Ok(()));
     assert_eq!(world.remove_all(&[]), Ok(()));
-    assert_eq!((world.pairs(0, &mut []), world.events(0, &mut [])), (Ok(0), Ok(0)));
+    assert_eq!((world.pairs(0, &mut []), world.events(0, &mut []), world.changes(0, &mut [])), (Ok(0), Ok(0), Ok(0)));
     assert_eq!(world.hits(Query::Point(ORIGIN), 1, &mut []), Ok(1));
 }
 
