@@ -1,6 +1,11 @@
 // Times a frame in process: each structure of the library, and Bullet's dynamic tree where it is built with it, over the same moving
 // boxes and the same questions. Text is nowhere. Both answers are compared by a sum before any time is told.
 //
+// A frame is what an engine does that keeps something for each pair: it tells what moved, has the pairs found, and hears which began and
+// which are over. Of the library these are pw_move, pw_update and pw_changes; of Bullet setAabb, calculateOverlappingPairs, and a callback
+// that its pair cache calls for each pair that comes or goes. No list of all pairs is read in that time. Bullet's pairs are those of
+// enlarged boxes, and some have parted already: which of them meet is found for the sum alone, outside of the time.
+//
 //     in_process BOXES FRAMES ROUNDS [LOAD..]
 //     in_process SCENE ROUNDS                   a scene of `add`, `move` and `frame` alone, as bench/physics.cpp writes them
 #include "pungwelair.h"
@@ -149,12 +154,13 @@ uint64_t nanoseconds() {
     return uint64_t(t.tv_sec) * 1000000000u + uint64_t(t.tv_nsec);
 }
 
-// What is timed: boxes come, and each frame they move, pairs are found, and questions are asked.
+// What is timed: each frame boxes move and the changes of pairs are heard, and questions are asked.
 struct Engine {
     virtual ~Engine() = default;
     virtual void add(const std::vector<pw_box> &boxes) = 0;
     virtual void move(const std::vector<Move> &moves) = 0;
     virtual void update() = 0;
+    // Of the pairs that meet, once after each update.
     virtual uint64_t pairs_sum() = 0;
     virtual uint64_t ask(const pw_query &query) = 0;
 };
@@ -170,8 +176,9 @@ struct Pungwelair final : Engine {
     bool each;
     std::vector<pw_handle> handles, whose, hits = std::vector<pw_handle>(PW_SLOTS);
     std::vector<pw_box> bodies;
-    std::vector<pw_pair> pairs;
-    pw_counts counts = {0, 0};
+    std::vector<pw_told> changes;
+    size_t changed = 0;
+    uint64_t sum = 0;
 
     Pungwelair(uint32_t structure, bool each) : each(each) { must(pw_open(&world, structure)); }
     ~Pungwelair() override { must(pw_close(&world)); }
@@ -192,14 +199,17 @@ struct Pungwelair final : Engine {
         if (!moves.empty()) must(pw_move(&world, whose.data(), whose.size(), bodies.data(), bodies.size(), &done));
     }
     void update() override {
-        size_t copied;
+        pw_counts counts;
         must(pw_update(&world, &counts));
-        if (pairs.size() < counts.pairs + 1) pairs.resize(counts.pairs * 2 + 1);
-        must(pw_pairs(&world, 0, pairs.data(), pairs.size(), &copied));
+        if (changes.size() < counts.changes + 1) changes.resize(counts.changes * 2 + 1);
+        must(pw_changes(&world, 0, changes.data(), changes.size(), &changed));
     }
+    // What began comes to the last sum and what is over goes, so that it is right only if each change was told.
     uint64_t pairs_sum() override {
-        uint64_t sum = 0;
-        for (size_t i = 0; i < counts.pairs; i++) sum += pair_key(pairs[i].a.slot, pairs[i].b.slot);
+        for (size_t i = 0; i < changed; i++) {
+            uint64_t key = pair_key(changes[i].pair.a.slot, changes[i].pair.b.slot);
+            sum += changes[i].event == PW_BEGIN ? key : 0 - key;
+        }
         return sum;
     }
     uint64_t ask(const pw_query &query) override {
@@ -214,13 +224,32 @@ bool meet(const pw_box &a, const pw_box &b) {
     return a.lo.x <= b.hi.x && b.lo.x <= a.hi.x && a.lo.y <= b.hi.y && b.lo.y <= a.hi.y && a.lo.z <= b.hi.z && b.lo.z <= a.hi.z;
 }
 
-// Its pair cache keeps pairs of enlarged boxes, in single precision: those that meet are picked out, as the engine above it does.
+// Its pair cache keeps pairs of enlarged boxes, in single precision.
 struct Bullet final : Engine {
+    struct Change {
+        bool begins;
+        uint32_t a, b;
+    };
+    // What the cache calls for ghosts.
+    struct Changes final : btOverlappingPairCallback {
+        std::vector<Change> heard;
+        btBroadphasePair *addOverlappingPair(btBroadphaseProxy *a, btBroadphaseProxy *b) override {
+            heard.push_back({true, slot_of(a), slot_of(b)});
+            return nullptr;
+        }
+        void *removeOverlappingPair(btBroadphaseProxy *a, btBroadphaseProxy *b, btDispatcher *) override {
+            heard.push_back({false, slot_of(a), slot_of(b)});
+            return nullptr;
+        }
+        void removeOverlappingPairsContainingProxy(btBroadphaseProxy *, btDispatcher *) override {}
+    };
+    Changes changes;
     btDbvtBroadphase tree;
     std::vector<pw_box> bodies;
     std::vector<btBroadphaseProxy *> proxies;
-    std::vector<std::pair<uint32_t, uint32_t>> met;
+    int pairs = 0;
 
+    Bullet() { tree.getOverlappingPairCache()->setInternalGhostPairCallback(&changes); }
     static btVector3 at(const pw_point &p) { return {float(p.x) / unit, float(p.y) / unit, float(p.z) / unit}; }
     static uint32_t slot_of(const btBroadphaseProxy *p) { return uint32_t(reinterpret_cast<uintptr_t>(p->m_clientObject)); }
     void add(const std::vector<pw_box> &boxes) override {
@@ -236,16 +265,17 @@ struct Bullet final : Engine {
     }
     void update() override {
         tree.calculateOverlappingPairs(nullptr);
-        btBroadphasePairArray &kept = tree.getOverlappingPairCache()->getOverlappingPairArray();
-        met.clear();
-        for (int i = 0; i < kept.size(); i++) {
-            uint32_t a = slot_of(kept[i].m_pProxy0), b = slot_of(kept[i].m_pProxy1);
-            if (meet(bodies[a], bodies[b])) met.push_back({a, b});
-        }
     }
     uint64_t pairs_sum() override {
+        for (const Change &change : changes.heard) pairs += change.begins ? 1 : -1;
+        changes.heard.clear();
+        btBroadphasePairArray &kept = tree.getOverlappingPairCache()->getOverlappingPairArray();
+        if (pairs != kept.size()) std::fprintf(stderr, "bullet: a change wasn't heard\n"), std::exit(1);
         uint64_t sum = 0;
-        for (auto &p : met) sum += pair_key(p.first, p.second);
+        for (int i = 0; i < kept.size(); i++) {
+            uint32_t a = slot_of(kept[i].m_pProxy0), b = slot_of(kept[i].m_pProxy1);
+            if (meet(bodies[a], bodies[b])) sum += pair_key(a, b);
+        }
         return sum;
     }
     struct Boxes final : btBroadphaseAabbCallback {
@@ -334,7 +364,7 @@ int play_scene(const char *name, int rounds) {
         for (size_t e = 0; e < count; e++) play(engines[e], all, times[e]);
     size_t moves = 0;
     for (auto &frame : all.moves) moves += frame.size();
-    std::printf("%s: %zu boxes, %zu frames, %zu moves; microseconds a frame of moves and pairs, least of %d\n", name, all.first.size(), all.moves.size(),
+    std::printf("%s: %zu boxes, %zu frames, %zu moves; microseconds a frame of moves and changes, least of %d\n", name, all.first.size(), all.moves.size(),
                 moves, rounds);
     for (size_t e = 0; e < count; e++) {
         if (times[e].sum != times[0].sum) return std::fprintf(stderr, "%s, %s: other pairs\n", name, engines[e].name), 1;
@@ -350,7 +380,7 @@ int main(int argc, char **argv) {
     if (argc < 4) return std::fprintf(stderr, "usage: in_process BOXES FRAMES ROUNDS [LOAD..], or in_process SCENE ROUNDS\n"), 2;
     int boxes = std::atoi(argv[1]), frames = std::atoi(argv[2]), rounds = std::atoi(argv[3]);
     constexpr size_t count = sizeof engines / sizeof *engines;
-    std::printf("%d boxes, %d frames, least of %d; microseconds a frame of moves and pairs, nanoseconds a question\n", boxes, frames, rounds);
+    std::printf("%d boxes, %d frames, least of %d; microseconds a frame of moves and changes, nanoseconds a question\n", boxes, frames, rounds);
     std::printf("%-8s %-22s %12s %9s %9s %9s\n", "load", "engine", "frame", "box", "point", "segment");
     for (const Load &load : loads) {
         bool wanted = argc == 4;
