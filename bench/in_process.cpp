@@ -1,10 +1,14 @@
-// Times a frame in process: each structure of the library, and Bullet's dynamic tree where it is built with it, over the same moving
-// boxes and the same questions. Text is nowhere. Both answers are compared by a sum before any time is told.
+// Times a frame in process: each structure of the library, and Bullet's dynamic tree and Embree where it is built with them, over the
+// same moving boxes and the same questions. Text is nowhere. All answers are compared by a sum before any time is told.
 //
 // A frame is what an engine does that keeps something for each pair: it tells what moved, has the pairs found, and hears which began and
 // which are over. Of the library these are pw_move, pw_update and pw_changes; of Bullet setAabb, calculateOverlappingPairs, and a callback
 // that its pair cache calls for each pair that comes or goes. No list of all pairs is read in that time. Bullet's pairs are those of
 // enlarged boxes, and some have parted already: which of them meet is found for the sum alone, outside of the time.
+//
+// Embree keeps no pairs. Its tree over all boxes is refitted, or built anew, where a box moved, and is collided with itself, on one
+// thread; each pair that it tells is tested exactly. Then the pairs are sorted and compared with the last list, which tells what began
+// and what is over. "pairs alone" are the same without that sorting and comparing, which is then done outside of the time.
 //
 //     in_process BOXES FRAMES ROUNDS [LOAD..]
 //     in_process SCENE ROUNDS                   a scene of `add`, `move` and `frame` alone, as bench/physics.cpp writes them
@@ -16,11 +20,15 @@
 #include <cstdlib>
 #include <cstring>
 #include <ctime>
+#include <iterator>
 #include <memory>
 #include <string>
 #include <vector>
 #ifdef WITH_BULLET
 #include <BulletCollision/BroadphaseCollision/btDbvtBroadphase.h>
+#endif
+#ifdef WITH_EMBREE
+#include <embree3/rtcore.h>
 #endif
 
 namespace {
@@ -219,11 +227,11 @@ struct Pungwelair final : Engine {
     }
 };
 
-#ifdef WITH_BULLET
-bool meet(const pw_box &a, const pw_box &b) {
+[[maybe_unused]] bool meet(const pw_box &a, const pw_box &b) {
     return a.lo.x <= b.hi.x && b.lo.x <= a.hi.x && a.lo.y <= b.hi.y && b.lo.y <= a.hi.y && a.lo.z <= b.hi.z && b.lo.z <= a.hi.z;
 }
 
+#ifdef WITH_BULLET
 // Its pair cache keeps pairs of enlarged boxes, in single precision.
 struct Bullet final : Engine {
     struct Change {
@@ -308,20 +316,104 @@ struct Bullet final : Engine {
 };
 #endif
 
+#ifdef WITH_EMBREE
+// The boxes as one geometry of the user's, whose primitives are the slots, in single precision. Coordinates are rounded to the nearest
+// float, which turns no two of them round, so that boxes that meet are among the pairs.
+struct Embree final : Engine {
+    RTCDevice device = rtcNewDevice("threads=1,user_threads=1");
+    RTCScene scene = rtcNewScene(device);
+    RTCGeometry geometry = rtcNewGeometry(device, RTC_GEOMETRY_TYPE_USER);
+    bool hears_in_time, is_changed = true;
+    std::vector<pw_box> bodies;
+    std::vector<uint32_t> pairs, last, began, over; // a pair is the lower slot and 13 bits of the higher one
+    uint64_t sum = 0;
+
+    Embree(RTCBuildQuality quality, bool hears_in_time) : hears_in_time(hears_in_time) {
+        rtcSetSceneFlags(scene, RTC_SCENE_FLAG_DYNAMIC);
+        rtcSetSceneBuildQuality(scene, RTC_BUILD_QUALITY_LOW);
+        rtcSetGeometryBuildQuality(geometry, quality);
+        rtcSetGeometryUserData(geometry, this);
+        rtcSetGeometryBoundsFunction(geometry, bounds, nullptr);
+    }
+    ~Embree() override { rtcReleaseGeometry(geometry), rtcReleaseScene(scene), rtcReleaseDevice(device); }
+    static void bounds(const RTCBoundsFunctionArguments *asked) {
+        const pw_box &b = static_cast<Embree *>(asked->geometryUserPtr)->bodies[asked->primID];
+        RTCBounds &out = *asked->bounds_o;
+        out.lower_x = float(b.lo.x), out.lower_y = float(b.lo.y), out.lower_z = float(b.lo.z);
+        out.upper_x = float(b.hi.x), out.upper_y = float(b.hi.y), out.upper_z = float(b.hi.z);
+    }
+    static void collided(void *self, RTCCollision *found, unsigned count) {
+        auto &e = *static_cast<Embree *>(self);
+        for (unsigned i = 0; i < count; i++) {
+            // Each pair comes both ways round.
+            uint32_t a = found[i].primID0, b = found[i].primID1;
+            if (a < b && meet(e.bodies[a], e.bodies[b])) e.pairs.push_back(a << 13 | b);
+        }
+    }
+    void add(const std::vector<pw_box> &boxes) override {
+        bodies = boxes;
+        rtcSetGeometryUserPrimitiveCount(geometry, unsigned(boxes.size()));
+        rtcAttachGeometry(scene, geometry);
+    }
+    void move(const std::vector<Move> &moves) override {
+        for (const Move &m : moves) bodies[m.slot] = m.body;
+        is_changed |= !moves.empty();
+    }
+    void update() override {
+        began.clear(), over.clear();
+        if (!is_changed) return;
+        pairs.clear();
+        rtcCommitGeometry(geometry);
+        rtcCommitScene(scene);
+        rtcCollide(scene, scene, collided, this);
+        if (hears_in_time) hear();
+    }
+    void hear() {
+        std::sort(pairs.begin(), pairs.end());
+        std::set_difference(pairs.begin(), pairs.end(), last.begin(), last.end(), std::back_inserter(began));
+        std::set_difference(last.begin(), last.end(), pairs.begin(), pairs.end(), std::back_inserter(over));
+        std::swap(pairs, last);
+    }
+    uint64_t pairs_sum() override {
+        if (is_changed && !hears_in_time) hear();
+        is_changed = false;
+        for (uint32_t pair : began) sum += pair_key(pair >> 13, pair & 8191);
+        for (uint32_t pair : over) sum -= pair_key(pair >> 13, pair & 8191);
+        return sum;
+    }
+    uint64_t ask(const pw_query &) override { return 0; }
+};
+
+template <RTCBuildQuality quality, bool hears_in_time> std::unique_ptr<Engine> embree() {
+    return std::make_unique<Embree>(quality, hears_in_time);
+}
+#endif
+
 struct Named {
     const char *name;
     std::unique_ptr<Engine> (*make)();
-    bool exact_segments; // its segments are those of enlarged boxes in single precision, so their hits aren't compared
+    enum { exactly, nearly, never } asked; // nearly: segments meet enlarged boxes in single precision, so their hits aren't compared
 };
 
 template <uint32_t structure, bool each> std::unique_ptr<Engine> ours() { return std::make_unique<Pungwelair>(structure, each); }
 
 const Named engines[] = {
-    {"plain", ours<PW_PLAIN, false>, true}, {"sap", ours<PW_SAP, false>, true},       {"tree", ours<PW_TREE, false>, true},
-    {"tree, a call a move", ours<PW_TREE, true>, true}, {"grid", ours<PW_GRID, false>, true}, {"grid, a call a move", ours<PW_GRID, true>, true},
-    {"skin", ours<PW_SKIN, false>, true}, {"skin, a call a move", ours<PW_SKIN, true>, true},
+    {"plain", ours<PW_PLAIN, false>, Named::exactly},
+    {"sap", ours<PW_SAP, false>, Named::exactly},
+    {"tree", ours<PW_TREE, false>, Named::exactly},
+    {"tree, a call a move", ours<PW_TREE, true>, Named::exactly},
+    {"grid", ours<PW_GRID, false>, Named::exactly},
+    {"grid, a call a move", ours<PW_GRID, true>, Named::exactly},
+    {"skin", ours<PW_SKIN, false>, Named::exactly},
+    {"skin, a call a move", ours<PW_SKIN, true>, Named::exactly},
 #ifdef WITH_BULLET
-    {"bullet's dbvt", [] { return std::unique_ptr<Engine>(new Bullet); }, false},
+    {"bullet's dbvt", [] { return std::unique_ptr<Engine>(new Bullet); }, Named::nearly},
+#endif
+#ifdef WITH_EMBREE
+    {"embree, refitted", embree<RTC_BUILD_QUALITY_REFIT, true>, Named::never},
+    {"  pairs alone", embree<RTC_BUILD_QUALITY_REFIT, false>, Named::never},
+    {"embree, built anew", embree<RTC_BUILD_QUALITY_LOW, true>, Named::never},
+    {"  pairs alone", embree<RTC_BUILD_QUALITY_LOW, false>, Named::never},
 #endif
 };
 
@@ -346,7 +438,7 @@ void play(const Named &named, const Play &play, Times &least) {
             uint64_t count = 0;
             for (size_t q = size_t(k); q < play.questions[f].size(); q += 3) count += engine->ask(play.questions[f][q]);
             kind[k] += nanoseconds() - begun;
-            if (k < 2 || named.exact_segments) least.hits = least.hits * 31 + count;
+            if (k < 2 || named.asked == Named::exactly) least.hits = least.hits * 31 + count;
         }
     }
     least.frame = std::min(least.frame, frame);
@@ -392,10 +484,11 @@ int main(int argc, char **argv) {
             for (size_t e = 0; e < count; e++) play(engines[e], all, times[e]);
         for (size_t e = 0; e < count; e++) {
             if (times[e].sum != times[0].sum) return std::fprintf(stderr, "%s, %s: other pairs\n", load.name, engines[e].name), 1;
-            if (engines[e].exact_segments && times[e].hits != times[0].hits)
+            if (engines[e].asked == Named::exactly && times[e].hits != times[0].hits)
                 return std::fprintf(stderr, "%s, %s: other hits\n", load.name, engines[e].name), 1;
             std::printf("%-8s %-22s %12.1f", load.name, engines[e].name, double(times[e].frame) / frames / 1000);
-            for (uint64_t k : times[e].kind) load.questions ? std::printf(" %9.0f", double(k) / frames / load.questions) : std::printf(" %9s", "-");
+            bool is_asked = load.questions && engines[e].asked != Named::never;
+            for (uint64_t k : times[e].kind) is_asked ? std::printf(" %9.0f", double(k) / frames / load.questions) : std::printf(" %9s", "-");
             std::printf("\n");
         }
     }
