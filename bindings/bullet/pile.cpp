@@ -192,7 +192,7 @@ int main() {
     Shapes shapes;
     std::vector<Poses> way;
     {
-        pungwelair::BulletBroadphase broadphase(pungwelair::Structure::tree);
+        pungwelair::BulletBroadphase broadphase;
         Falling falling(broadphase, shapes);
         long met = 0;
         for (int step = 0; step < steps; step++) {

@@ -19,12 +19,23 @@
 #include <LinearMath/btAabbUtil2.h>
 #include <algorithm>
 #include <cmath>
+#include <cstring>
 #include <functional>
 #include <memory>
 #include <utility>
 #include <vector>
 
 namespace pungwelair {
+
+// The whole numbers beside a number of raw units within the range, as pw_box_around_double takes them for a lower and an upper side.
+inline int32_t raw_floor(double raw) {
+    int32_t whole = int32_t(raw);
+    return whole - (whole > raw);
+}
+inline int32_t raw_ceiling(double raw) {
+    int32_t whole = int32_t(raw);
+    return whole + (whole < raw);
+}
 
 class BulletBroadphase : public btBroadphaseInterface {
 public:
@@ -42,7 +53,9 @@ public:
         std::function<void(Status, void*)> refused;
     };
 
-    explicit BulletBroadphase(Structure structure) : BulletBroadphase(structure, Options()) {}
+    // Over skins if no structure is named: most bodies of a simulation move by little in each step.
+    explicit BulletBroadphase(Structure structure = Structure::skin) : BulletBroadphase(structure, Options()) {}
+    explicit BulletBroadphase(Options options) : BulletBroadphase(Structure::skin, std::move(options)) {}
     BulletBroadphase(Structure structure, Options options)
         : structure(structure), options(std::move(options)), own(this->options.cache ? nullptr : new btHashedOverlappingPairCache),
           cache(own ? own.get() : this->options.cache) {
@@ -68,6 +81,8 @@ public:
         if (!given) return;
         flush();
         auto& proxy = *static_cast<Proxy*>(given);
+        // Where the flush came to nothing.
+        if (proxy.waits) waiting.erase(std::find(waiting.begin(), waiting.end(), &proxy));
         if (by_slot[proxy.handle.slot] == &proxy) by_slot[proxy.handle.slot] = nullptr;
         // Without a mark the library wants no memory for it, and a closed world has no box.
         static_cast<void>(world.remove(proxy.handle));
@@ -88,7 +103,7 @@ public:
         auto& proxy = *static_cast<Proxy*>(given);
         proxy.m_aabbMin = low;
         proxy.m_aabbMax = high;
-        if (!proxy.waits) waiting.push_back(proxy.handle);
+        if (!proxy.waits) waiting.push_back(&proxy);
         proxy.waits = true;
         if (is_ghost(proxy)) pair_at_once(proxy);
     }
@@ -133,7 +148,7 @@ public:
     void aabbTest(const btVector3& low, const btVector3& high, btBroadphaseAabbCallback& callback) override {
         if (low.x() > high.x() || low.y() > high.y() || low.z() > high.z()) return;
         if (!flush()) return;
-        pw_box box = box_of(low, high);
+        pw_box box = fixed(low, high).box;
         ask([&](std::vector<pw_handle>& found) { return world.hits({PW_REGION, ~0u, box.lo, box.hi}, found); },
             [&](Proxy& proxy) {
                 if (TestAabbAgainstAabb2(low, high, proxy.m_aabbMin, proxy.m_aabbMax)) callback.process(&proxy);
@@ -158,14 +173,23 @@ public:
 
 private:
     static constexpr double least = -32768, most = 32767, unit = 65536;
+    // Inverted, as no box is.
+    static constexpr pw_box nowhere{{1, 1, 1}, {0, 0, 0}};
 
     struct Proxy final : btBroadphaseProxy {
         using btBroadphaseProxy::btBroadphaseProxy;
         pw_handle handle{};
         pw_masks told{};          // the masks that the library has
+        pw_box has = nowhere;     // the box that it has, or nowhere if that isn't known
         std::size_t place = 0;    // in the list of all
         bool waits = false;       // a move of it waits
         bool is_beyond = false;   // its box leaves the range
+    };
+
+    // A box as the library takes it.
+    struct Fixed {
+        pw_box box;
+        bool is_beyond;           // it was cut to the range
     };
 
     // The way of a ray in units of the library, and the part of it that lies in the range.
@@ -181,7 +205,8 @@ private:
     World world;
     std::vector<std::unique_ptr<Proxy>> proxies;
     std::vector<Proxy*> by_slot = std::vector<Proxy*>(PW_SLOTS);
-    std::vector<pw_handle> waiting, moved;
+    std::vector<Proxy*> waiting;
+    std::vector<pw_handle> moved;
     std::vector<pw_box> moved_to;
     std::vector<pw_told> changes;
     std::vector<pw_pair> pairs;
@@ -197,29 +222,36 @@ private:
         if (options.refused) options.refused(status, object);
     }
 
-    // A NaN counts as the end of the range, and a box that is inverted is turned.
-    pw_box box_of(const btVector3& low, const btVector3& high) const {
-        double lo[3], hi[3];
+    // What pw_box_around_double gives of a box, cut to the range. It stands here since each box that moves in a step takes it.
+    Fixed fixed(const btVector3& low, const btVector3& high) const {
+        int32_t lo[3], hi[3];
+        bool is_beyond = false;
         for (int axis = 0; axis < 3; axis++) {
-            lo[axis] = std::isnan(low[axis]) ? least : std::clamp(here(low, axis), least, most);
-            hi[axis] = std::isnan(high[axis]) ? most : std::clamp(here(high, axis), least, most);
-            if (lo[axis] > hi[axis]) std::swap(lo[axis], hi[axis]);
+            double first = here(low, axis), last = here(high, axis);
+            if (!(least <= first && first <= last && last <= most)) is_beyond |= cut(first, last);
+            // The products are exact.
+            lo[axis] = raw_floor(first * unit);
+            hi[axis] = raw_ceiling(last * unit);
         }
-        pw_box box{};
-        static_cast<void>(pw_box_around_double(lo, hi, &box));
-        return box;
+        return {{{lo[0], lo[1], lo[2]}, {hi[0], hi[1], hi[2]}}, is_beyond};
     }
     double here(const btVector3& place, int axis) const { return (double(place[axis]) - double(options.origin[axis])) * options.scale; }
 
-    bool leaves_range(const Proxy& proxy) const {
-        for (int axis = 0; axis < 3; axis++)
-            if (!(here(proxy.m_aabbMin, axis) >= least && here(proxy.m_aabbMax, axis) <= most)) return true;
-        return false;
+    // Cuts an interval to the range, and tells whether it left it. A NaN counts as the end of the range, and an inverted one is turned.
+    static bool cut(double& first, double& last) {
+        bool is_beyond = !(first >= least && last <= most);
+        first = first >= least ? std::min(first, most) : least;
+        last = last <= most ? std::max(last, least) : most;
+        if (first > last) std::swap(first, last);
+        return is_beyond;
     }
-    void note_range(Proxy& proxy) {
+
+    static bool are_same(const pw_box& a, const pw_box& b) { return std::memcmp(&a, &b, sizeof a) == 0; }
+
+    void note_range(Proxy& proxy, bool is_beyond) {
+        beyond += is_beyond;
         beyond -= proxy.is_beyond;
-        proxy.is_beyond = leaves_range(proxy);
-        beyond += proxy.is_beyond;
+        proxy.is_beyond = is_beyond;
     }
 
     // One that is in no group pairs with nothing, and is found by questions all the same.
@@ -241,14 +273,15 @@ private:
     }
 
     Status put(Proxy& proxy) {
-        pw_box box = box_of(proxy.m_aabbMin, proxy.m_aabbMax);
+        Fixed now = fixed(proxy.m_aabbMin, proxy.m_aabbMax);
         pw_masks masks = masks_of(proxy);
         bool is_fixed = (proxy.m_collisionFilterGroup & options.fixed_groups) != 0;
-        Status status = world.add({&box, 1}, {masks, {0, is_fixed}}, {&proxy.handle, 1}).status;
+        Status status = world.add({&now.box, 1}, {masks, {0, is_fixed}}, {&proxy.handle, 1}).status;
         if (status != Status::ok) return status;
         proxy.told = masks;
+        proxy.has = now.box;
         by_slot[proxy.handle.slot] = &proxy;
-        note_range(proxy);
+        note_range(proxy, now.is_beyond);
         is_changed = true;
         return status;
     }
@@ -281,21 +314,31 @@ private:
         if (waiting.empty()) return true;
         moved.clear();
         moved_to.clear();
-        for (pw_handle handle : waiting) {
-            Proxy* proxy = proxy_of(handle);
-            if (!proxy) continue;
-            note_range(*proxy);
-            moved.push_back(handle);
-            moved_to.push_back(box_of(proxy->m_aabbMin, proxy->m_aabbMax));
+        for (Proxy* proxy : waiting) {
+            Fixed now = fixed(proxy->m_aabbMin, proxy->m_aabbMax);
+            note_range(*proxy, now.is_beyond);
+            proxy->waits = false;
+            // A body that trembles at rest often has the same box here.
+            if (are_same(now.box, proxy->has)) continue;
+            proxy->has = now.box;
+            moved.push_back(proxy->handle);
+            moved_to.push_back(now.box);
         }
-        is_changed = true;
-        Status status = world.move(moved, moved_to).status;
+        Status status = moved.empty() ? Status::ok : world.move(moved, moved_to).status;
         if (status == Status::no_memory && is_spent()) return renew();
-        // A move that was refused waits for the next time.
-        if (status != Status::ok) return refuse(status), true;
-        for (pw_handle handle : moved) proxy_of(handle)->waits = false;
-        waiting.clear();
+        is_changed |= !moved.empty();
+        if (status == Status::ok) waiting.clear();
+        else wait_again(status);
         return true;
+    }
+
+    // Moves that were refused wait for the next time, and which of them were done isn't known.
+    void wait_again(Status status) {
+        for (Proxy* proxy : waiting) {
+            proxy->waits = true;
+            proxy->has = nowhere;
+        }
+        refuse(status);
     }
 
     // Tells the library the masks that were written into proxies, or that a callback decides from now on.
@@ -341,11 +384,13 @@ private:
     // A ghost is asked for its pairs between two steps, so it has them at once.
     void pair_at_once(Proxy& ghost) {
         if (!flush()) return;
-        pw_box box = box_of(ghost.m_aabbMin, ghost.m_aabbMax);
+        pw_box box = fixed(ghost.m_aabbMin, ghost.m_aabbMax).box;
         ask([&](std::vector<pw_handle>& found) { return world.hits({PW_REGION, ~0u, box.lo, box.hi}, found); },
             [&](Proxy& other) {
                 bool meets = &other != &ghost && TestAabbAgainstAabb2(ghost.m_aabbMin, ghost.m_aabbMax, other.m_aabbMin, other.m_aabbMax);
-                if (meets && add_pair(ghost, other)) early.push_back({ghost.handle, other.handle});
+                if (!meets || !add_pair(ghost, other)) return;
+                early.push_back({ghost.handle, other.handle});
+                settled_pairs++;
             });
     }
 
@@ -359,7 +404,7 @@ private:
     }
     // Whether the library has them as a pair, by their boxes as it has them.
     bool are_paired(const Proxy& a, const Proxy& b) const {
-        pw_box one = box_of(a.m_aabbMin, a.m_aabbMax), other = box_of(b.m_aabbMin, b.m_aabbMax);
+        pw_box one = fixed(a.m_aabbMin, a.m_aabbMax).box, other = fixed(b.m_aabbMin, b.m_aabbMax).box;
         bool meet = one.lo.x <= other.hi.x && other.lo.x <= one.hi.x && one.lo.y <= other.hi.y && other.lo.y <= one.hi.y &&
                     one.lo.z <= other.hi.z && other.lo.z <= one.hi.z;
         bool fixed = (a.m_collisionFilterGroup & options.fixed_groups) && (b.m_collisionFilterGroup & options.fixed_groups);

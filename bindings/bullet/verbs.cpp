@@ -5,6 +5,8 @@
 #include "pungwelair_broadphase.hpp"
 #include <BulletCollision/CollisionDispatch/btGhostObject.h>
 #include <BulletDynamics/btBulletDynamicsCommon.h>
+#include <algorithm>
+#include <cmath>
 #include <cstdio>
 #include <random>
 #include <set>
@@ -285,7 +287,7 @@ void wrong_ones() {
     BulletBroadphase::Options options;
     options.has_collision_objects = false;
     options.refused = [&](Status status, void* object) { refused.push_back({status, object}); };
-    BulletBroadphase broadphase(Structure::tree, options);
+    BulletBroadphase broadphase(options);
     Boxes boxes(broadphase);
     btBroadphaseProxy* turned = broadphase.createProxy(btVector3(1, 1, 1), btVector3(0, 0, 0), 0, nullptr, 1, -1, nullptr);
     boxes.proxies.push_back(turned);
@@ -302,6 +304,29 @@ void wrong_ones() {
 }
 
 // Pair caches of the user's: one that removes when it is told, and one that does so when it is sorted.
+// The binding rounds as the library does, whose rounding is proved.
+void rounding() {
+    std::mt19937_64 random(11);
+    const double ends[] = {-32768, std::nextafter(-32768.0, 0), -0.0, 0, 5e-324, -5e-324, 1 / 65536.0, std::nextafter(32767.0, 0), 32767};
+    for (int k = 0; k < 300000; k++) {
+        double side[2];
+        for (double& at : side) {
+            int kind = int(random() % 4);
+            double part = double(random() >> 11) / 9007199254740992.0;
+            double whole = std::floor(part * 65535 - 32768);
+            at = kind == 0 ? ends[random() % 9] : kind == 1 ? part * 65535 - 32768 : kind == 2 ? whole + double(int(random() % 65536)) / 65536
+                : std::nextafter(whole, random() % 2 ? 1e9 : -1e9);
+            at = std::clamp(at, -32768.0, 32767.0);
+        }
+        if (side[0] > side[1]) std::swap(side[0], side[1]);
+        double low[3] = {side[0], side[0], side[0]}, high[3] = {side[1], side[1], side[1]};
+        pw_box box{};
+        expect(pw_box_around_double(low, high, &box) == PW_OK, "the library takes the sides", k);
+        bool alike = pungwelair::raw_floor(side[0] * 65536) == box.lo.x && pungwelair::raw_ceiling(side[1] * 65536) == box.hi.z;
+        expect(alike, "the binding rounds as the library", k);
+    }
+}
+
 void own_caches() {
     btHashedOverlappingPairCache hashed;
     btSortedOverlappingPairCache sorted;
@@ -342,6 +367,7 @@ int main() {
         expect(moved_ours == 1 && moved_theirs == 1, "a ghost that was moved sees at once what it came to");
     }
     wrong_ones();
+    rounding();
     own_caches();
     std::printf("verbs of Bullet: %d failed\n", failures);
     return failures != 0;
