@@ -7,6 +7,7 @@ use fixed_box::{FBox, Point, SLOTS};
 use live_table::{Group, Handle, Masks};
 use pair_events::{Event, Events};
 use std::alloc::Global;
+use std::mem;
 use std::test::Fail;
 use std::thread::Threads;
 use sweep_prune::Sap;
@@ -218,10 +219,13 @@ fn is_as_marked(world: &AnyWorld) -> bool {
     world.pairs().len() == 2 && world.len() == 3 && world.frames() == 2
 }
 
-// The scene over a structure. The world is handed on, so that what it owns is let go in one place.
+// The scene over a structure. The world isn't let go: that would be proved anew for each structure that it may be over, which takes
+// minutes, and the test ends.
 fn plays_over(alloc: Global, structure: Structure) -> Result<bool, Fail> {
     let mut world = AnyWorld::new(alloc, structure)?;
-    plays_a_scene(alloc, &mut world, structure)
+    let played = plays_a_scene(alloc, &mut world, structure);
+    mem::forget(world);
+    played
 }
 
 #[test]
