@@ -6,8 +6,8 @@ ghost use Rattle.tree_search.specs.Preorder.{listed};
 ghost use Rattle.box_tree.specs.Searches.{marked_leaf};
 
 use fixed_box::{FBox, NoMemory};
-use slot_lists::push_filter_mapped;
-use tree_search::{ListedNode, NodeKind, SlotMarks};
+use slot_lists::{SlotMarks, push_filter_mapped};
+use tree_search::{ListedNode, NodeKind};
 
 // Appends the marked slots of a list in preorder, each with its box, in the order of the leaves. So those that lie together
 // in space mostly stand together. After an `Err` `out` is as before.

@@ -11,8 +11,8 @@ ghost use Rattle.box_tree.specs.Boxes.{untouched};
 use crate::room::Room;
 use broad_index::{Pair, renew_pairs};
 use fixed_box::NoMemory;
+use slot_lists::SlotMarks;
 use std::mem;
-use tree_search::SlotMarks;
 
 // Appends the pairs of a map, keeps them, and takes the marks away: those of the kept pairs that have no marked slot, and
 // those that were found for marked slots.

@@ -9,7 +9,8 @@ ghost use Rattle.box_tree.specs.Searches.{sought_from, reached_in, searches, loo
 use crate::tree_boxes::TreeBoxes;
 use broad_index::push_ordered_pairs;
 use fixed_box::{FBox, NoMemory, SLOTS};
-use tree_search::{SlotMarks, TreeFindings, descend_with_box, push_others};
+use slot_lists::SlotMarks;
+use tree_search::{TreeFindings, descend_with_box, push_others};
 
 // Appends the touched slots that are present, in rising order.
 pub(crate) fn push_sought(

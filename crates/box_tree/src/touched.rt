@@ -22,8 +22,8 @@ use crate::tree_boxes::TreeBoxes;
 use crate::tree_listing::{TreeListing, list_nodes};
 use broad_index::{holding_laws, keeping_laws};
 use fixed_box::{FBox, NoMemory};
-use slot_lists::push_filter_mapped;
-use tree_search::{ListedNode, SearchRoom, SlotMarks, TreeFindings, listing_law, search_boxes};
+use slot_lists::{SlotMarks, push_filter_mapped};
+use tree_search::{ListedNode, SearchRoom, TreeFindings, listing_law, search_boxes};
 
 // From how many touched slots on they are searched for in groups. For fewer it doesn't pay to walk over the tree.
 const FEWEST_GROUPED: usize = 1_024;

@@ -24,10 +24,11 @@ use broad_index::{
     keeping_laws, member_laws, pays_threads, push_rising_slots, settle_pairs,
 };
 use fixed_box::{FBox, NoMemory};
+use slot_lists::SlotMarks;
 use std::alloc::Global;
 use std::marker::Model;
 use tree_nodes::{MOST_HEIGHT, Nodes};
-use tree_search::{SearchRoom, SlotMarks, TreeFindings, push_hits};
+use tree_search::{SearchRoom, TreeFindings, push_hits};
 
 /// Moving boxes under slots, in a balanced tree of fat boxes that keeps the pairs it found. Other engines call it a dynamic
 /// AABB tree: its leaves are proxies, a fat box is an enlarged AABB, the touched slots are a move buffer, and the kept pairs

@@ -1,1 +1,2 @@
 mod SlotCounts
+mod Written

@@ -1,5 +1,7 @@
 pub mod LinkLaws
 pub mod Links
+pub mod Marks
+pub mod Meeting
 pub mod Patterns
 pub mod Present
 pub mod Rising

@@ -5,6 +5,7 @@ ghost use Rattle.std.specs.Prelude.{All, map as mapped, slice_index_or};
 ghost use Rattle.std.specs.FinMap as map;
 ghost use Rattle.slot_lists.specs.SlotMap.{entries_from};
 ghost use Rattle.slot_lists.specs.Present.{present};
+ghost use Rattle.slot_lists.specs.Meeting.{both_meet, slots_meet};
 
 use fixed_box::{FBox, NoMemory, SLOTS};
 use std::alloc::Global;
@@ -58,6 +59,21 @@ impl SlotBoxes {
         } else {
             None
         }
+    }
+
+    /// Whether both slots have boxes, and these meet.
+    #[inline(always)]
+    pub fn meet(&self, a: u32, b: u32) -> bool
+        ensures { result ≡ slots_meet self.now a b }
+    {
+        let (a, b) = (a as usize, b as usize);
+        if a >= self.boxes.len() {
+            return false;
+        }
+        if b >= self.boxes.len() {
+            return false;
+        }
+        both_meet(&self.boxes[a], &self.boxes[b])
     }
 
     /// Puts a box under an absent slot. It takes no memory.
@@ -114,6 +130,17 @@ impl SlotBoxes {
     {
         list_present(&self.boxes, slots)?;
         Ok(())
+    }
+}
+
+// Whether two boxes are there and meet. They are read in place, and not copied.
+#[inline(always)]
+fn both_meet(a: &Option<FBox>, b: &Option<FBox>) -> bool
+    ensures { result ≡ both_meet a.now b.now }
+{
+    match (a, b) {
+        (Some(a), Some(b)) => a.overlaps(b),
+        _ => false,
     }
 }
 

@@ -10,7 +10,7 @@ use Rattle.broad_index.specs.declared.pair.Pair.{Pair}
 use Rattle.broad_index.specs.Held.{Holds}
 use Rattle.std.proofs.lemmas.List.Folds.{list_any-append}
 use Rattle.broad_index.specs.Members.{has_pair, same_pair, has_slot}
-use Rattle.tree_search.specs.Looked.{unmarked}
+use Rattle.slot_lists.specs.Marks.{unmarked}
 use Rattle.tree_search.specs.Crossed.{crossed, touched_of, Adds, AreOf}
 use Rattle.tree_search.specs.Group.{undone}
 use Rattle.tree_search.proofs.CrossedPairs.{hit, any_row, any_cross, crossed_has, crossed_either}

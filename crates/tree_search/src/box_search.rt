@@ -8,15 +8,16 @@ ghost use Rattle.broad_index.specs.Touched.{ordered_pairs};
 ghost use Rattle.tree_nodes.specs.Tree.{visits_in};
 ghost use Rattle.tree_search.specs.Exact.{exact_in};
 ghost use Rattle.tree_search.specs.Crossed.{crossed, all_visits_in, Adds, AreOf};
-ghost use Rattle.tree_search.specs.Looked.{raised, unmarked};
+ghost use Rattle.slot_lists.specs.Marks.{unmarked};
+ghost use Rattle.tree_search.specs.Looked.{raised};
 ghost use Rattle.tree_search.specs.Preorder.{preorder_in};
 
 use crate::descent::{box_law, descend_with_box};
 use crate::group::{GROUP, search_group};
-use crate::{BoxedTree, ListedNode, SearchRoom, SlotMarks, TreeFindings};
+use crate::{BoxedTree, ListedNode, SearchRoom, TreeFindings};
 use broad_index::push_ordered_pairs;
 use fixed_box::{FBox, NoMemory};
-use slot_lists::push_filtered;
+use slot_lists::{SlotMarks, push_filtered};
 
 /// Appends the pairs of the boxes of a room with those that they meet, and answers a number raised by how many nodes a descent
 /// for each of them looks at. They are searched for in groups, in their order, in the list of the nodes.

@@ -11,10 +11,11 @@ ghost use Rattle.tree_search.specs.Group.{all_below, picked, left_pairs, undone,
 ghost use Rattle.tree_search.specs.Reading.{IsListed};
 
 use crate::descent::box_law;
-use crate::{ListedNode, NodeKind, SlotMarks};
+use crate::{ListedNode, NodeKind};
 use broad_index::Pair;
 use fixed_box::{FBox, NoMemory};
 use lane_boxes::BoxPacket;
+use slot_lists::SlotMarks;
 
 // How many boxes descend together: as many as are tested at once.
 pub(crate) const GROUP: usize = 8;

@@ -10,7 +10,6 @@ mod hits;
 mod laws;
 mod preorder;
 mod search_room;
-mod slot_marks;
 mod tree_findings;
 mod waiting;
 
@@ -21,5 +20,4 @@ pub use hits::push_hits;
 pub use laws::listing_law;
 pub use preorder::{ListedNode, NodeKind, list_preorder};
 pub use search_room::SearchRoom;
-pub use slot_marks::SlotMarks;
 pub use tree_findings::TreeFindings;

@@ -1,10 +1,10 @@
 //! Buffers that a search of many boxes keeps from call to call.
 
 ghost use Rattle.std.specs.Prelude.{◌≡◌, [], IfOk};
-ghost use Rattle.tree_search.specs.Looked.{unmarked};
+ghost use Rattle.slot_lists.specs.Marks.{unmarked};
 
-use crate::SlotMarks;
 use fixed_box::{FBox, NoMemory};
+use slot_lists::SlotMarks;
 use std::alloc::Global;
 
 /// Lists that a search of many boxes keeps for their memory alone.

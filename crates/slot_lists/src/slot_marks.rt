@@ -2,7 +2,7 @@
 
 ghost use Rattle.std.specs.Prelude.{◌≡◌, true, false, IfOk, length, slice_index_or, slice_set};
 ghost use Rattle.fixed_box.specs.declared.TheConstants.{SLOTS};
-ghost use Rattle.tree_search.specs.Looked.{unmarked};
+ghost use Rattle.slot_lists.specs.Marks.{unmarked};
 
 use fixed_box::{NoMemory, SLOTS};
 use std::alloc::Global;

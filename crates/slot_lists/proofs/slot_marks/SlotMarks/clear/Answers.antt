@@ -1,6 +1,6 @@
 -- There is a mark for each slot.
 use Rattle.std.proofs.Common.{rules, ◌≡◌, ◌∙◌, ap, false, length, replicate}
-use Rattle.tree_search.proofs.slot_marks.SlotMarks.clear.Goals as goal
+use Rattle.slot_lists.proofs.slot_marks.SlotMarks.clear.Goals as goal
 
 pub returns : goal.returns
 returns c =
