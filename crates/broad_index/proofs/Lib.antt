@@ -1,6 +1,7 @@
 pub mod AmongEntries
 pub mod Answering
 pub mod Costs
+pub mod Distinct
 pub mod ExchangeCounts
 pub mod Holding
 pub mod MapMembers

@@ -3,11 +3,12 @@ use Rattle.std.specs.Prelude.{ℕ, Bool, false, not, ◌&&◌, nat_lt, ◌==◌,
 use Rattle.std.specs.List.{list_any}
 use Rattle.std.specs.Ordering.{nat_cmp}
 use Rattle.std.specs.FinMap.{FinMap, get}
-use Rattle.fixed_box.specs.Bounds.{Bounds, meets}
+use Rattle.fixed_box.specs.Bounds.{Bounds}
 use Rattle.broad_index.specs.declared.pair.Pair.{Pair}
 use Rattle.broad_index.specs.declared.query.Query.{Query}
 use Rattle.broad_index.specs.Found.{query_meets}
 use Rattle.slot_lists.specs.Rising.{rises_by}
+pub use Rattle.slot_lists.specs.Meeting.{both_meet}
 
 abbrev pub same_pair : Pair → Pair → Bool
 same_pair p q = p.a == q.a && p.b == q.b
@@ -23,12 +24,6 @@ has_slot slots k = list_any (λ x. k == x) slots
 -- each slot is below all later ones
 abbrev pub slots_rise : List ℕ → Bool
 slots_rise slots = rises_by nat_lt slots
-
--- two boxes that are there and meet
-abbrev pub both_meet : Option Bounds → Option Bounds → Bool
-both_meet None b = false
-both_meet (Some a) None = false
-both_meet (Some a) (Some b) = meets a b
 
 -- a < b, both present, and their boxes meet
 abbrev pub is_near : FinMap nat_cmp Bounds → Pair → Bool
