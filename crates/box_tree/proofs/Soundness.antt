@@ -8,8 +8,7 @@ use Rattle.std.proofs.lemmas.List.{get_or-set_same, get_or-set_other}
 use Rattle.fixed_box.specs.declared.TheConstants.{SLOTS}
 use Rattle.fixed_box.specs.Bounds.{Bounds}
 use Rattle.broad_index.specs.declared.pair.Pair.{Pair}
-use Rattle.broad_index.specs.Members.{has_pair, is_near, both_meet}
-use Rattle.broad_index.specs.Near.{near, rises}
+use Rattle.broad_index.specs.Members.{is_near, both_meet}
 use Rattle.broad_index.specs.Touched.{AreKept}
 use Rattle.tree_nodes.specs.Tree.{Tree}
 use Rattle.box_tree.specs.declared.tree_listing.TreeListing.{TreeListing}
@@ -66,15 +65,6 @@ module _ (bodies : List (Option Bounds)) (marks : List Bool) (kept : List Pair) 
 
     pub sound_taken : Removed → map_of bodies' ≡ remove (map_of bodies) slot → Sound bodies' (set marks slot true) kept
     sound_taken law e = sound_changed (remove (map_of bodies) slot) (law (map_of bodies) slot) e
-
-  -- and once the pairs were asked for
-  pub sound_renewed : rises (near (map_of bodies)) ≡ true → ((p : Pair) → has_pair (near (map_of bodies)) p ≡ is_near (map_of bodies) p)
-      → (ms : List Bool) (ps : List Pair) → ms ≡ untouched → ps ≡ near (map_of bodies) → Sound bodies ms ps
-  sound_renewed rise members ms ps em ep =
-      subst (λ xs. Sound bodies xs ps) (sym em) (subst (λ xs. Sound bodies untouched xs) (sym ep) (record {
-        kept_rise = rise;
-        kept_are = λ p _. members p;
-      }))
 
 no_pair : (bodies : FinMap nat_cmp Bounds) (p : Pair) → get bodies p.a ≡ None → false ≡ is_near bodies p
 no_pair bodies p e = sym (ap (λ o. nat_lt p.a p.b && both_meet o (get bodies p.b)) e ∙ and_no (nat_lt p.a p.b))

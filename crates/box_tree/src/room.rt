@@ -11,7 +11,6 @@ pub(crate) struct Room {
     pub(crate) slots: Vec<u32>,
     pub(crate) search: SearchRoom,
     pub(crate) found: TreeFindings,
-    pub(crate) staying: Vec<Pair>,
     pub(crate) near: Vec<Pair>,
 }
 
@@ -21,7 +20,6 @@ impl Room {
             slots: Vec::new(alloc),
             search: SearchRoom::new(alloc)?,
             found: TreeFindings::new(alloc),
-            staying: Vec::new(alloc),
             near: Vec::new(alloc),
         })
     }

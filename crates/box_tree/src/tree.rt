@@ -21,7 +21,7 @@ use crate::tree_boxes::TreeBoxes;
 use crate::tree_listing::TreeListing;
 use broad_index::{
     BroadPhase, FEWEST_SOUGHT, Pair, PairSeeker, Query, Seeker, holding_laws, join_pieces,
-    keeping_laws, member_laws, pays_threads, push_rising_slots, settle_pairs,
+    keeping_laws, pays_threads, push_rising_slots, settle_pairs,
 };
 use fixed_box::{FBox, NoMemory};
 use slot_lists::SlotMarks;
@@ -217,7 +217,6 @@ impl BroadPhase for BoxTree {
     }
 
     fn pairs(&mut self, out: &mut Vec<Pair>) -> Result<(), NoMemory> {
-        member_laws();
         let looked = search_touched(
             &self.boxes,
             &self.marks,
@@ -283,7 +282,6 @@ impl BroadPhase for BoxTree {
 
     fn merge(&mut self, found: Vec<(Vec<Pair>, u64)>, out: &mut Vec<Pair>) -> Result<(), NoMemory> {
         holding_laws();
-        member_laws();
         keeping_laws();
         self.boxes.kept_law();
         let counted = join_pieces(&found, self.looked, &mut self.room.found.pairs)?;
