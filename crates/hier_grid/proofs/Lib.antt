@@ -1,6 +1,6 @@
+mod AppendLemmas
 mod BucketLemmas
 mod CellLemmas
-mod CellRowLemmas
 mod CornerLemmas
 mod ColumnLemmas
 mod GridLemmas

@@ -1,18 +1,13 @@
 -- Slots in lists: what joining, filtering and visits of cells put into a list of slots.
 use Rattle.std.proofs.Common.{◌≡◌, ℕ, ◌<◌, Bool, true, false, cond, ◌&&◌, ◌||◌, ◌==◌, List, [], ◌∷◌, ◌++◌, refl, sym, ap}
 use Rattle.std.proofs.Common.{◌∙◌, arith, zero, suc, length, get_or}
-use Rattle.std.specs.Prelude.{ℤ, ◌≤ℤ◌, ◌<ℤ◌}
 use Rattle.std.specs.List.{filter}
 use Rattle.std.proofs.lemmas.Bool.Decides.{nat_tests}
 use Rattle.std.proofs.lemmas.List.Folds.{list_any-append}
-use Rattle.std.specs.Ordering.{nat_cmp}
-use Rattle.std.specs.FinMap.{FinMap}
 use Rattle.broad_index.specs.Members.{has_slot}
-use Rattle.cell_table.specs.declared.cell_key.CellKey.{CellKey}
-use Rattle.cell_table.specs.Cells.{has, VisitsRow}
-use Rattle.hier_grid.specs.Search.{HasMore, HasCell}
+use Rattle.cell_table.specs.Cells.{has}
 
-pub more_left : (old more : List ℕ) → HasMore old (old ++ more)
+pub more_left : (old more : List ℕ) (q : ℕ) → has_slot old q ≡ true → has_slot (old ++ more) q ≡ true
 more_left old more q h = list_any-append (λ x. q == x) old more ∙ ap (λ b. b || has_slot more q) h
 
 pub more_right : (old more : List ℕ) (q : ℕ) → has_slot more q ≡ true → has_slot (old ++ more) q ≡ true
@@ -68,11 +63,3 @@ all_among p slots h q = has_filtered p slots q ∙ elim (p q) as (λ b. (b ≡ t
 pub has_slot_is : (xs : List ℕ) (q : ℕ) → has xs q ≡ has_slot xs q
 has_slot_is [] q = refl
 has_slot_is (x ∷ xs) q = let t : (x == q) ≡ (q == x) = grind (arith, nat_tests) in ap (λ b. b || has xs q) t ∙ ap (λ b. (q == x) || b) (has_slot_is xs q)
-
-pub row_visited : (cells : FinMap nat_cmp CellKey) (key : CellKey) (end : ℤ) (old new : List ℕ) → VisitsRow cells key end old new
-    → (z : ℤ) → key.z ≤ℤ z → z <ℤ end → HasCell cells (record key { z = z }) new
-row_visited cells key end old new v z lo lt q h =
-    ap (λ l. has_slot l q) v.appended ∙ more_right old v.slots q (sym (has_slot_is v.slots q) ∙ v.members z q lo lt h)
-
-pub row_more : (cells : FinMap nat_cmp CellKey) (key : CellKey) (end : ℤ) (old new : List ℕ) → VisitsRow cells key end old new → HasMore old new
-row_more cells key end old new v q h = ap (λ l. has_slot l q) v.appended ∙ more_left old v.slots q h

@@ -1,5 +1,5 @@
 -- Definitions: the cell of a box, and the cells beside a box (Ericson, Real-Time Collision Detection, 2005, 7.2.1).
-use Rattle.std.specs.Prelude.{◌≡◌, ◌⊎◌, ℕ, ℤ, pos, ◌-ℤ◌, ◌≤ℤ◌, ◌<ℤ◌, List, [], ◌∷◌}
+use Rattle.std.specs.Prelude.{◌≡◌, ◌⊎◌, ℕ, ℤ, pos, ◌-ℤ◌, ◌≤ℤ◌, ◌<ℤ◌}
 use Rattle.std.specs.Int.{int_div_euclid}
 use Rattle.fixed_box.specs.Bounds.{Bounds, cell_side, level_of}
 use Rattle.fixed_box.specs.declared.point.Point.{Point}
@@ -56,11 +56,6 @@ pub record IsInRow (row : CellRow) (k : CellKey) : Type 0 where
   pub low : row.key.z ≤ℤ k.z
   pub high : k.z <ℤ row.end
   pub column : k ≡ record row.key { z = k.z }
-
--- a cell is in one of some rows
-abbrev pub IsInRows : List CellRow → CellKey → Type 0
-IsInRows [] k = ⊥
-IsInRows (row ∷ rows) k = IsInRow row k ⊎ IsInRows rows k
 
 -- a cell at the x of one corner is in a plane of cells: from that corner on, and before another, on y and z
 pub record IsInPlane (from end : CellKey) (k : CellKey) : Type 0 where

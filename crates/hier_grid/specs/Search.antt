@@ -1,5 +1,5 @@
 -- Definitions: what searches find.
-use Rattle.std.specs.Prelude.{◌≡◌, ◌⊎◌, ℕ, ◌<◌, ◌≤◌, Bool, true, not, ◌&&◌, ◌||◌, ◌==◌, nat_lt, List, Some}
+use Rattle.std.specs.Prelude.{◌≡◌, ◌⊎◌, ℕ, ◌<◌, ◌≤◌, Bool, true, not, ◌&&◌, ◌||◌, ◌==◌, nat_lt, List, ◌++◌, length, take, Some}
 use Rattle.std.specs.Ordering.{nat_cmp}
 use Rattle.std.specs.FinMap.{FinMap, get}
 use Rattle.fixed_box.specs.Bounds.{Bounds, meets, level_of}
@@ -11,35 +11,23 @@ use Rattle.broad_index.specs.Touched.{ordered}
 use Rattle.cell_table.specs.declared.TheConstants.{LEVELS}
 use Rattle.cell_table.specs.declared.cell_key.CellKey.{CellKey}
 use Rattle.hier_grid.specs.declared.cell_block.CellBlock.{CellBlock}
-use Rattle.hier_grid.specs.declared.cell_row.CellRow.{CellRow}
 use Rattle.hier_grid.specs.declared.slot_box.SlotBox.{SlotBox}
-use Rattle.hier_grid.specs.declared.nearby.Nearby.{Nearby}
-use Rattle.hier_grid.specs.Cells.{cell_of, cell_on, IsAfter, IsInBlock, IsInRows}
+use Rattle.hier_grid.specs.Cells.{cell_of, cell_on, IsAfter, IsInBlock}
 use Rattle.hier_grid.specs.Grid.{IsSized}
 
--- what was in a list is still in it
-abbrev pub HasMore : List ℕ → List ℕ → Type 0
-HasMore old new = (q : ℕ) → has_slot old q ≡ true → has_slot new q ≡ true
+-- what was in a list is still its beginning
+abbrev pub Stays : List ℕ → List ℕ → Type 0
+Stays old new = take (length old) new ≡ old
 
--- the slots of a cell are in a list
-abbrev pub HasCell : FinMap nat_cmp CellKey → CellKey → List ℕ → Type 0
-HasCell cells key slots = (q : ℕ) → get cells q ≡ Some key → has_slot slots q ≡ true
+-- Slots stand behind what was in a list, and all that are sought are among them.
+pub record Appends (Has : List ℕ → Type 0) (old new : List ℕ) : Type 0 where
+  pub slots : List ℕ
+  pub appended : new ≡ old ++ slots
+  pub has : Has slots
 
--- what was in rows of cells still is
-abbrev pub HasRows : List CellRow → List CellRow → Type 0
-HasRows old new = (k : CellKey) → IsInRows old k → IsInRows new k
-
--- a slot is near: it is in a list, or its box lies in a row of cells
-abbrev pub IsNearby : Nearby → ℕ → Bounds → Type 0
-IsNearby near q b = (has_slot near.slots.items q ≡ true) ⊎ IsInRows near.rows.items (cell_of b)
-
--- what was near still is
-abbrev pub StaysNearby : Nearby → Nearby → Type 0
-StaysNearby old new = (q : ℕ) (b : Bounds) → IsNearby old q b → IsNearby new q b
-
--- what is near is in a list
-abbrev pub HasNearby : FinMap nat_cmp Bounds → Nearby → List ℕ → Type 0
-HasNearby bodies near slots = (q : ℕ) (b : Bounds) → get bodies q ≡ Some b → IsNearby near q b → has_slot slots q ≡ true
+-- the slots of some cells are in a list
+abbrev pub HasCells : FinMap nat_cmp CellKey → (CellKey → Type 0) → List ℕ → Type 0
+HasCells cells IsThere slots = (q : ℕ) (k : CellKey) → get cells q ≡ Some k → IsThere k → has_slot slots q ≡ true
 
 -- the slots of a level whose boxes meet a region are in a list
 abbrev pub HasMet : FinMap nat_cmp Bounds → ℕ → Bounds → List ℕ → Type 0
@@ -51,28 +39,20 @@ abbrev pub HasMetIn : FinMap nat_cmp Bounds → ℕ → ℕ → Bounds → List 
 HasMetIn bodies first end region slots =
     (q : ℕ) (b : Bounds) → get bodies q ≡ Some b → first ≤ level_of b → level_of b < end → meets region b ≡ true → has_slot slots q ≡ true
 
--- the slots of a level whose boxes meet a region are near
-abbrev pub NearsLevel : FinMap nat_cmp Bounds → ℕ → Bounds → Nearby → Type 0
-NearsLevel bodies level region near = (q : ℕ) (b : Bounds) → get bodies q ≡ Some b → level_of b ≡ level → meets region b ≡ true → IsNearby near q b
-
--- the same of the levels from one on and below an end
-abbrev pub NearsIn : FinMap nat_cmp Bounds → ℕ → ℕ → Bounds → Nearby → Type 0
-NearsIn bodies first end region near =
-    (q : ℕ) (b : Bounds) → get bodies q ≡ Some b → first ≤ level_of b → level_of b < end → meets region b ≡ true → IsNearby near q b
-
--- the slots of a level whose boxes meet a body, and lie in cells after that of its lower corner, are near
-abbrev pub NearsAfter : FinMap nat_cmp Bounds → ℕ → Bounds → Nearby → Type 0
-NearsAfter bodies level body near =
+-- the slots of a level whose boxes meet a body, and lie in cells after that of its lower corner, are in a list
+abbrev pub HasMetAfter : FinMap nat_cmp Bounds → ℕ → Bounds → List ℕ → Type 0
+HasMetAfter bodies level body slots =
     (q : ℕ) (b : Bounds) → get bodies q ≡ Some b → level_of b ≡ level → IsAfter (cell_of b) (cell_on level body.lo) → meets body b ≡ true
-    → IsNearby near q b
+    → has_slot slots q ≡ true
 
 -- a box that all boxes meet which meet a query
 abbrev pub IsRegionOf : FinMap nat_cmp Bounds → Query → Bounds → Type 0
 IsRegionOf bodies query region = (q : ℕ) (b : Bounds) → get bodies q ≡ Some b → query_meets query b ≡ true → meets region b ≡ true
 
--- the boxes in a block's cells that meet a query lie in rows of cells
-abbrev pub HasCrossed : CellBlock → Query → List CellRow → Type 0
-HasCrossed block query rows = (b : Bounds) → IsSized b → IsInBlock block (cell_of b) → query_meets query b ≡ true → IsInRows rows (cell_of b)
+-- the slots in a block's cells whose boxes meet a query are in a list
+abbrev pub HasCrossed : FinMap nat_cmp CellKey → CellBlock → Query → List ℕ → Type 0
+HasCrossed cells block query slots =
+    (q : ℕ) (b : Bounds) → get cells q ≡ Some (cell_of b) → IsSized b → IsInBlock block (cell_of b) → query_meets query b ≡ true → has_slot slots q ≡ true
 
 -- the slots of a level whose boxes meet a query are in a list
 abbrev pub HasHits : FinMap nat_cmp Bounds → ℕ → Query → List ℕ → Type 0

@@ -1,55 +1,55 @@
-//! The rows of cells that a line crosses, by halving a block of cells.
+//! The slots in the cells that a line crosses, by halving a block of cells.
 
-ghost use Rattle.std.specs.Prelude.{◌≡◌, ◌<◌, ◌≤◌, true, false, IfOk, OnOk};
+ghost use Rattle.std.specs.Prelude.{◌≡◌, ◌<◌, ◌≤◌, true, false, IfOk};
 ghost use Rattle.fixed_box.specs.Bounds.{Bounds};
 ghost use Rattle.broad_index.specs.Found.{query_meets};
 ghost use Rattle.hier_grid.specs.Cells.{cell_of, IsInBlock};
 ghost use Rattle.hier_grid.specs.Grid.{IsSized};
-ghost use Rattle.hier_grid.specs.Search.{HasCrossed, HasRows};
+ghost use Rattle.hier_grid.specs.Search.{Appends, HasCrossed, Stays};
 
 use crate::cell_block::CellBlock;
-use crate::cell_row::CellRow;
 use crate::line_path::LinePath;
-use crate::near_cells::push_cells;
-use cell_table::LEVELS;
+use crate::near_cells::visit_block;
+use cell_table::{CellTable, LEVELS};
 use fixed_box::NoMemory;
 use prepared_query::{BoxTest, enclosing_law};
 
-/// Appends rows of a block's cells, and among them those of all boxes that meet a line: the block is cut in two, and each
-/// part again, down to a few cells, and a part that the line misses is passed by. It makes at most so many steps, and answers
+/// Appends slots, and among them all in a block's cells whose boxes meet a line: the block is cut in two, and each part
+/// again, down to a few cells, and a part that the line misses is passed by. It makes at most so many steps, and answers
 /// false where that isn't enough.
 pub(crate) fn push_crossed<T: BoxTest>(
+    table: &CellTable,
     block: &CellBlock,
     path: &LinePath,
     test: &T,
     steps: &mut u32,
-    rows: &mut Vec<CellRow>,
+    out: &mut Vec<u32>,
 ) -> Result<bool, NoMemory>
     requires { block.now.from.level < LEVELS }
     ensures less { steps.new ≤ steps.old }
-    ensures more { OnOk result (HasRows rows.old.items rows.new.items) }
-    ensures found { IfOk result (λ whole. whole ≡ true → HasCrossed block.now (T.asks test.now) rows.new.items) }
+    ensures stays { Stays out.old.items out.new.items }
+    ensures found { IfOk result (λ whole. whole ≡ true → Appends (HasCrossed table.now block.now (T.asks test.now)) out.old.items out.new.items) }
 {
     if *steps == 0 {
         return Ok(false);
     }
     *steps -= 1;
     let Some(cut) = path.cut(block) else {
-        push_cells(block, rows)?;
+        visit_block(table, block, out)?;
         return Ok(true);
     };
     let (first, rest) = block.parts(&cut);
     // where the line misses the one part of a block that it meets, it meets the other
     if !may_meet(&first, test) {
-        return push_crossed(&rest, path, test, steps, rows);
+        return push_crossed(table, &rest, path, test, steps, out);
     }
-    if !push_crossed(&first, path, test, steps, rows)? {
+    if !push_crossed(table, &first, path, test, steps, out)? {
         return Ok(false);
     }
     if !may_meet(&rest, test) {
         return Ok(true);
     }
-    push_crossed(&rest, path, test, steps, rows)
+    push_crossed(table, &rest, path, test, steps, out)
 }
 
 // Whether a box of a block's cells may meet a query.

@@ -49,10 +49,11 @@ const LISTED_FROM: u32 = 1_024;
 /// that comes or moves, and shrinks only where no box is left. A level through which the line would take more steps than there are sixteenths of
 /// its boxes is scanned.
 ///
-/// Changes take no memory, and a time that doesn't grow with the number of boxes; `new` and every search take some.
+/// Changes take no memory, and a time that doesn't grow with the number of boxes; `new` takes some, and so does a search for
+/// pairs. A query takes none but what the caller's list grows by: its candidates, more than its hits, stand behind what is
+/// there until they are tested. So no query takes memory where the list is kept and has grown once.
 #[derive(Drop)]
 pub struct HierGrid {
-    alloc: Global,
     kept: GridBoxes,
     listing: GridListing,
     slots: Vec<u32>,
@@ -82,7 +83,6 @@ impl HierGrid {
         ensures { IfOk result (λ grid. IsFresh grid false 0) }
     {
         Ok(HierGrid {
-            alloc,
             kept: GridBoxes::new(alloc)?,
             listing: GridListing::new(alloc),
             slots: Vec::new(alloc),
@@ -113,7 +113,7 @@ impl Seeker for HierGrid {
     /// Answers the number of comparisons of two exact boxes.
     fn seek(&self, slot: u32, out: &mut Vec<u32>) -> Result<u32, NoMemory> {
         match self.kept.boxes().box_of(slot) {
-            Some(body) => push_reach(&self.kept, self.alloc, &SlotBox { slot, body }, out),
+            Some(body) => push_reach(&self.kept, &SlotBox { slot, body }, out),
             None => Ok(0),
         }
     }
@@ -206,7 +206,7 @@ impl BroadPhase for HierGrid {
     }
 
     fn hits(&self, query: &Query, out: &mut Vec<u32>) -> Result<(), NoMemory> {
-        push_hits(&self.kept, self.alloc, query, out)
+        push_hits(&self.kept, query, out)
     }
 
     fn box_of(&self, slot: u32) -> Option<FBox> {

@@ -1,11 +1,11 @@
 //! Boxes under slots in the cells of their levels, and the candidates near a region.
 
-ghost use Rattle.std.specs.Prelude.{◌≡◌, ℕ, ◌<◌, ◌≤◌, true, false, Some, IsTrue, IfOk, OnOk};
+ghost use Rattle.std.specs.Prelude.{◌≡◌, ℕ, ◌<◌, ◌≤◌, true, false, Some, IsTrue, IfOk, OnOk, OnErr};
 ghost use Rattle.std.specs.FinMap as map;
 ghost use Rattle.fixed_box.specs.Bounds.{Bounds, meets};
 ghost use Rattle.hier_grid.specs.Grid.{AreKeyed, IsSized, is_held, meets_part};
-ghost use Rattle.hier_grid.specs.Search.{HasHits, HasHitsBelow, HasMet, HasMetIn, HasMore, HasNearby};
-ghost use Rattle.hier_grid.specs.Search.{IsBare, IsEnd, IsRegionOf, NearsAfter, NearsIn, NearsLevel, StaysNearby};
+ghost use Rattle.hier_grid.specs.Search.{Appends, HasHits, HasHitsBelow, HasMet, HasMetAfter, HasMetIn, Stays};
+ghost use Rattle.hier_grid.specs.Search.{IsBare, IsEnd, IsRegionOf};
 ghost use Rattle.fixed_box.specs.Space.{space};
 
 use crate::cell::cell_of;
@@ -13,8 +13,7 @@ use crate::crossed_cells::push_crossed;
 use crate::hull::{grown, part_in};
 use crate::leveled_boxes::LeveledBoxes;
 use crate::line_path::LinePath;
-use crate::near_cells::{block_beside, count_beside, push_after, push_beside, visit_rows};
-use crate::nearby::Nearby;
+use crate::near_cells::{block_beside, cells_after, count_beside, visit_block, visit_later};
 use cell_table::{CellKey, CellTable, LEVELS};
 use fixed_box::{FBox, NoMemory, SLOTS};
 use prepared_query::BoxTest;
@@ -141,32 +140,32 @@ impl GridBoxes {
         self.hull = hull_left(self.boxes.boxes(), &self.hull);
     }
 
-    /// Lists slots and rows of cells, and among them all boxes of a level that meet a box of it and lie in cells after its
-    /// cell. Where the level has few boxes those in cells before it are among them too.
+    /// Appends slots, and among them all of a level whose boxes meet a box of it and lie in cells after its cell. Where the
+    /// level has few boxes those in cells before it are among them too.
     pub(crate) fn push_after(
         &self,
         level: u8,
         body: &FBox,
-        near: &mut Nearby,
+        looked: &mut u64,
+        slots: &mut Vec<u32>,
     ) -> Result<(), NoMemory>
         requires { level < LEVELS }
-        ensures { OnOk result (NearsAfter self.now level body.now near.new) }
+        ensures { OnOk result (Appends (HasMetAfter self.now level body.now) slots.old.items slots.new.items) }
     {
         if self.has_few_beside(level, body) {
-            self.scan(level, body, near)
+            self.scan(level, body, looked, slots)
         } else {
-            self.push_after_cell(level, body, near)
+            self.push_after_cell(level, body, slots)
         }
     }
 
-    // Lists the rows of cells of a level beside a region after the cell of its lower corner.
-    fn push_after_cell(&self, level: u8, body: &FBox, near: &mut Nearby) -> Result<(), NoMemory>
+    // The same by the cells of the level beside the box after the cell of its lower corner.
+    fn push_after_cell(&self, level: u8, body: &FBox, slots: &mut Vec<u32>) -> Result<(), NoMemory>
         requires { level < LEVELS }
-        ensures { OnOk result (NearsAfter self.now level body.now near.new) }
+        ensures { OnOk result (Appends (HasMetAfter self.now level body.now) slots.old.items slots.new.items) }
     {
         self.sized_law();
-        push_after(level, body, &mut near.rows)?;
-        Ok(())
+        visit_later(&self.cells, &cells_after(level, body), slots)
     }
 
     /// A level above those of all boxes.
@@ -184,27 +183,32 @@ impl GridBoxes {
     }
 
     /// Appends slots, and among them all whose boxes meet a region.
-    pub(crate) fn push_candidates(&self, region: &FBox, near: &mut Nearby) -> Result<(), NoMemory>
-        ensures { OnOk result (HasMetIn self.now 0 LEVELS region.now near.new.slots.items) }
+    pub(crate) fn push_candidates(
+        &self,
+        region: &FBox,
+        looked: &mut u64,
+        slots: &mut Vec<u32>,
+    ) -> Result<(), NoMemory>
+        ensures ok { OnOk result (Appends (HasMetIn self.now 0 LEVELS region.now) slots.old.items slots.new.items) }
+        ensures err { OnErr result (Stays slots.old.items slots.new.items) }
     {
-        self.push_from(0, self.levels_end(), region, near)?;
-        self.push_rows(near)?;
-        Ok(())
+        self.push_from(0, self.levels_end(), region, looked, slots)
     }
 
-    /// Appends slots, and among them all whose boxes meet a line that has a region. `near` has no rows that count.
+    /// Appends slots, and among them all whose boxes meet a line that has a region.
     pub(crate) fn push_crossed<T: BoxTest>(
         &self,
         region: &FBox,
         path: &LinePath,
         test: &T,
-        near: &mut Nearby,
+        slots: &mut Vec<u32>,
     ) -> Result<(), NoMemory>
         requires { IsRegionOf self.now (T.asks test.now) region.now }
-        ensures { OnOk result (HasHitsBelow self.now LEVELS (T.asks test.now) near.new.slots.items) }
+        ensures ok { OnOk result (Appends (HasHitsBelow self.now LEVELS (T.asks test.now)) slots.old.items slots.new.items) }
+        ensures err { OnErr result (Stays slots.old.items slots.new.items) }
     {
         match self.part_of(region) {
-            Some(part) => self.push_crossed_in(&part, path, test, near),
+            Some(part) => self.push_crossed_in(&part, path, test, slots),
             None => Ok(()),
         }
     }
@@ -226,13 +230,14 @@ impl GridBoxes {
         region: &FBox,
         path: &LinePath,
         test: &T,
-        near: &mut Nearby,
+        slots: &mut Vec<u32>,
     ) -> Result<(), NoMemory>
         requires { IsRegionOf self.now (T.asks test.now) region.now }
-        ensures { OnOk result (HasHitsBelow self.now LEVELS (T.asks test.now) near.new.slots.items) }
+        ensures ok { OnOk result (Appends (HasHitsBelow self.now LEVELS (T.asks test.now)) slots.old.items slots.new.items) }
+        ensures err { OnErr result (Stays slots.old.items slots.new.items) }
     {
         'levels: for level in 0..self.levels_end() {
-            self.push_crossed_at(level, region, path, test, near)?;
+            self.push_crossed_at(level, region, path, test, slots)?;
         }
         Ok(())
     }
@@ -244,34 +249,34 @@ impl GridBoxes {
         region: &FBox,
         path: &LinePath,
         test: &T,
-        near: &mut Nearby,
+        slots: &mut Vec<u32>,
     ) -> Result<(), NoMemory>
         requires level { level < LEVELS }
         requires region { IsRegionOf self.now (T.asks test.now) region.now }
-        ensures more { OnOk result (HasMore near.old.slots.items near.new.slots.items) }
-        ensures found { OnOk result (HasHits self.now level (T.asks test.now) near.new.slots.items) }
+        ensures ok { OnOk result (Appends (HasHits self.now level (T.asks test.now)) slots.old.items slots.new.items) }
+        ensures err { OnErr result (Stays slots.old.items slots.new.items) }
     {
-        if !self.has_some(level) || self.follow(level, region, path, test, near)? {
+        if !self.has_some(level) || self.follow(level, region, path, test, slots)? {
             return Ok(());
         }
-        self.boxes
-            .scan(level, region, &mut near.places, &mut near.slots)
+        self.boxes.scan(level, region, slots)
     }
 
     // Appends slots of a level, and among them all whose boxes meet a line, where that is expected to cost less than a scan, and
-    // takes at most twice as many steps along the line as expected. Else it answers false.
+    // takes at most twice as many steps along the line as expected. Else it answers false, and `slots` is as before.
     fn follow<T: BoxTest>(
         &self,
         level: u8,
         region: &FBox,
         path: &LinePath,
         test: &T,
-        near: &mut Nearby,
+        slots: &mut Vec<u32>,
     ) -> Result<bool, NoMemory>
         requires level { level < LEVELS }
         requires region { IsRegionOf self.now (T.asks test.now) region.now }
-        ensures more { OnOk result (HasMore near.old.slots.items near.new.slots.items) }
-        ensures found { IfOk result (λ whole. whole ≡ true → HasHits self.now level (T.asks test.now) near.new.slots.items) }
+        ensures whole { IfOk result (λ whole. whole ≡ true → Appends (HasHits self.now level (T.asks test.now)) slots.old.items slots.new.items) }
+        ensures less { IfOk result (λ whole. whole ≡ false → slots.new.items ≡ slots.old.items) }
+        ensures err { OnErr result (Stays slots.old.items slots.new.items) }
     {
         self.sized_law();
         let block = block_beside(level, region);
@@ -279,55 +284,53 @@ impl GridBoxes {
         if expected > self.cells.level_len(level) / BOXES_PER_STEP {
             return Ok(false);
         }
-        near.rows.clear();
+        let before = slots.len();
         let mut steps = expected.saturating_mul(2);
-        let whole = push_crossed(&block, path, test, &mut steps, &mut near.rows)?;
-        if whole {
-            visit_rows(&self.cells, &near.rows, &mut near.slots)?;
+        let whole = push_crossed(&self.cells, &block, path, test, &mut steps, slots)?;
+        if !whole {
+            slots.truncate(before);
         }
         Ok(whole)
     }
 
-    /// Appends the slots in the rows of cells that are near, and others that share their buckets.
-    pub(crate) fn push_rows(&self, near: &mut Nearby) -> Result<(), NoMemory>
-        ensures { OnOk result (HasNearby self.now near.old near.new.slots.items) }
-    {
-        visit_rows(&self.cells, &near.rows, &mut near.slots)?;
-        Ok(())
-    }
-
-    /// Lists slots and rows of cells, and among them all boxes that meet a region and have a level from one on and below an
-    /// end.
+    /// Appends slots, and among them all whose boxes meet a region and have a level from one on and below an end.
     pub(crate) fn push_from(
         &self,
         first: u8,
         end: u8,
         region: &FBox,
-        near: &mut Nearby,
+        looked: &mut u64,
+        slots: &mut Vec<u32>,
     ) -> Result<(), NoMemory>
         requires { end ≤ LEVELS }
-        ensures more { OnOk result (StaysNearby near.old near.new) }
-        ensures found { OnOk result (NearsIn self.now first end region.now near.new) }
+        ensures ok { OnOk result (Appends (HasMetIn self.now first end region.now) slots.old.items slots.new.items) }
+        ensures err { OnErr result (Stays slots.old.items slots.new.items) }
     {
         'levels: for level in first..end {
-            self.push_near(level, region, near)?;
+            self.push_near(level, region, looked, slots)?;
         }
         Ok(())
     }
 
-    // Lists slots or rows of cells, and among them all boxes of a level that meet a region.
-    fn push_near(&self, level: u8, region: &FBox, near: &mut Nearby) -> Result<(), NoMemory>
+    // Appends slots, and among them all of a level whose boxes meet a region.
+    fn push_near(
+        &self,
+        level: u8,
+        region: &FBox,
+        looked: &mut u64,
+        slots: &mut Vec<u32>,
+    ) -> Result<(), NoMemory>
         requires { level < LEVELS }
-        ensures more { OnOk result (StaysNearby near.old near.new) }
-        ensures found { OnOk result (NearsLevel self.now level region.now near.new) }
+        ensures ok { OnOk result (Appends (HasMet self.now level region.now) slots.old.items slots.new.items) }
+        ensures err { OnErr result (Stays slots.old.items slots.new.items) }
     {
         if !self.has_some(level) {
             return Ok(());
         }
         if self.has_few(level, region) {
-            self.scan(level, region, near)
+            self.scan(level, region, looked, slots)
         } else {
-            self.push_from_cells(level, region, near)
+            self.push_from_cells(level, region, slots)
         }
     }
 
@@ -355,29 +358,34 @@ impl GridBoxes {
     }
 
     /// Appends the slots of a level whose boxes meet a region. Each box of the level is compared, and counted.
-    pub(crate) fn scan(&self, level: u8, region: &FBox, near: &mut Nearby) -> Result<(), NoMemory>
+    pub(crate) fn scan(
+        &self,
+        level: u8,
+        region: &FBox,
+        looked: &mut u64,
+        slots: &mut Vec<u32>,
+    ) -> Result<(), NoMemory>
         requires { level < LEVELS }
-        ensures more { OnOk result (StaysNearby near.old near.new) }
-        ensures met { OnOk result (HasMet self.now level region.now near.new.slots.items) }
-        ensures found { OnOk result (NearsLevel self.now level region.now near.new) }
+        ensures ok { OnOk result (Appends (HasMet self.now level region.now) slots.old.items slots.new.items) }
+        ensures err { OnErr result (Stays slots.old.items slots.new.items) }
     {
-        near.looked = near
-            .looked
-            .saturating_add(u64::from(self.cells.level_len(level)));
-        self.boxes
-            .scan(level, region, &mut near.places, &mut near.slots)?;
-        Ok(())
+        *looked = looked.saturating_add(u64::from(self.cells.level_len(level)));
+        self.boxes.scan(level, region, slots)
     }
 
-    // Lists the rows of cells of a level beside a region.
-    fn push_from_cells(&self, level: u8, region: &FBox, near: &mut Nearby) -> Result<(), NoMemory>
+    // Appends the slots in the cells of a level beside a region.
+    fn push_from_cells(
+        &self,
+        level: u8,
+        region: &FBox,
+        slots: &mut Vec<u32>,
+    ) -> Result<(), NoMemory>
         requires { level < LEVELS }
-        ensures more { OnOk result (StaysNearby near.old near.new) }
-        ensures found { OnOk result (NearsLevel self.now level region.now near.new) }
+        ensures ok { OnOk result (Appends (HasMet self.now level region.now) slots.old.items slots.new.items) }
+        ensures err { OnErr result (Stays slots.old.items slots.new.items) }
     {
         self.sized_law();
-        push_beside(level, region, &mut near.rows)?;
-        Ok(())
+        visit_block(&self.cells, &block_beside(level, region), slots)
     }
 }
 

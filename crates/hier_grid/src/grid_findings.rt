@@ -4,7 +4,6 @@ ghost use Rattle.std.specs.Prelude.{◌≡◌, [], true, OnOk};
 ghost use Rattle.broad_index.specs.Members.{has_slot};
 ghost use Rattle.hier_grid.specs.Search.{Finds};
 
-use crate::nearby::Nearby;
 use crate::partners::push_pairs;
 use crate::slot_box::SlotBox;
 use broad_index::Pair;
@@ -12,11 +11,13 @@ use fixed_box::NoMemory;
 use slot_lists::SlotBoxes;
 use std::alloc::Global;
 
-/// The pairs that were found, in any order, and what may lie near the slot that is searched for.
+/// The pairs that were found, in any order, the slots that may lie near the one that is searched for, and how many boxes
+/// were compared.
 #[derive(Drop)]
 pub(crate) struct GridFindings {
     pub(crate) pairs: Vec<Pair>,
-    pub(crate) near: Nearby,
+    pub(crate) slots: Vec<u32>,
+    pub(crate) looked: u64,
 }
 
 impl GridFindings {
@@ -24,7 +25,8 @@ impl GridFindings {
     pub(crate) fn new(alloc: Global) -> GridFindings {
         GridFindings {
             pairs: Vec::new(alloc),
-            near: Nearby::new(alloc),
+            slots: Vec::new(alloc),
+            looked: 0,
         }
     }
 
@@ -33,7 +35,7 @@ impl GridFindings {
         ensures { self.new.pairs.items ≡ [] }
     {
         self.pairs.clear();
-        self.near.looked = 0;
+        self.looked = 0;
     }
 
     /// Finds the pairs of a slot with its partners among the slots that are near. Each of them is compared, and counted.
@@ -44,12 +46,11 @@ impl GridFindings {
         own: &SlotBox,
         any: bool,
     ) -> Result<(), NoMemory>
-        ensures { OnOk result (Finds boxes.now own.now any (λ q _. has_slot self.old.near.slots.items q ≡ true)
+        ensures { OnOk result (Finds boxes.now own.now any (λ q _. has_slot self.old.slots.items q ≡ true)
             self.old.pairs.items self.new.pairs.items) }
     {
-        let near = &mut self.near;
-        near.looked = near.looked.saturating_add(near.slots.len() as u64);
-        push_pairs(boxes, own, any, &near.slots, &mut self.pairs)?;
+        self.looked = self.looked.saturating_add(self.slots.len() as u64);
+        push_pairs(boxes, own, any, &self.slots, &mut self.pairs)?;
         Ok(())
     }
 }

@@ -1,39 +1,32 @@
 //! A query asked of a grid: levels are scanned, or the cells beside it are followed.
 
-ghost use Rattle.std.specs.Prelude.{◌≡◌, ◌++◌, Some, OnOk, OnErr, filter};
+ghost use Rattle.std.specs.Prelude.{◌≡◌, ◌≤◌, ◌++◌, Some, OnOk, OnErr, drop, take, vec_len};
 ghost use Rattle.std.specs.FinMap as map;
 ghost use Rattle.broad_index.specs.Found.{found};
 ghost use Rattle.broad_index.specs.Members.{is_found};
 ghost use Rattle.broad_index.specs.Reach.{reach};
-ghost use Rattle.hier_grid.specs.Search.{HasHitsBelow, IsRegionOf};
+ghost use Rattle.hier_grid.specs.Search.{HasHitsBelow, HasMetIn, IsRegionOf};
 
 use crate::grid_boxes::GridBoxes;
 use crate::line_path::LinePath;
-use crate::nearby::Nearby;
-use crate::partners::push_partners;
+use crate::partners::is_partner;
 use crate::slot_box::SlotBox;
-use broad_index::{Query, push_rising_slots};
+use broad_index::{Query, settle_slots_from};
 use cell_table::LEVELS;
 use fixed_box::{FBox, NoMemory};
 use prepared_query::{BoxTest, LineTest};
-use slot_lists::{SlotBoxes, push_filtered};
-use std::alloc::Global;
+use slot_lists::{SlotBoxes, keep_passing};
 
 /// Appends the present slots whose boxes meet a query, rising. After an `Err` `out` is as before.
-pub(crate) fn push_hits(
-    kept: &GridBoxes,
-    alloc: Global,
-    query: &Query,
-    out: &mut Vec<u32>,
-) -> Result<(), NoMemory>
+pub(crate) fn push_hits(kept: &GridBoxes, query: &Query, out: &mut Vec<u32>) -> Result<(), NoMemory>
     ensures ok { OnOk result (out.new.items ≡ out.old.items ++ found kept.now query.now) }
     ensures err { OnErr result (out.new.items ≡ out.old.items) }
 {
     kept.space_law();
     let region = query.region();
     match query {
-        Query::Region(body) => push_near(kept, alloc, body, body, out),
-        Query::Spot(_) => push_near(kept, alloc, &region, query, out),
+        Query::Region(body) => push_near(kept, body, body, out),
+        Query::Spot(_) => push_near(kept, &region, query, out),
         Query::Along(_) | Query::Between(_) => push_line(kept, &region, query, out),
     }
 }
@@ -41,7 +34,6 @@ pub(crate) fn push_hits(
 // The same for a query that is tested against the boxes near its region.
 fn push_near<T: BoxTest>(
     kept: &GridBoxes,
-    alloc: Global,
     region: &FBox,
     test: &T,
     out: &mut Vec<u32>,
@@ -50,9 +42,13 @@ fn push_near<T: BoxTest>(
     ensures ok { OnOk result (out.new.items ≡ out.old.items ++ found kept.now (T.asks test.now)) }
     ensures err { OnErr result (out.new.items ≡ out.old.items) }
 {
-    let mut near = Nearby::new(alloc);
-    kept.push_candidates(region, &mut near)?;
-    push_found(kept, &near.slots, test, out)
+    let before = out.len();
+    if let Err(e) = kept.push_candidates(region, &mut 0, out) {
+        out.truncate(before);
+        return Err(e);
+    }
+    keep_found(kept, before, test, out);
+    Ok(())
 }
 
 // The same for a line, which is prepared if its numbers fit 32 bits.
@@ -85,38 +81,25 @@ fn push_crossed<T: BoxTest>(
     ensures ok { OnOk result (out.new.items ≡ out.old.items ++ found kept.now (T.asks test.now)) }
     ensures err { OnErr result (out.new.items ≡ out.old.items) }
 {
-    let mut near = Nearby::new(*out.allocator());
-    kept.push_crossed(region, path, test, &mut near)?;
-    push_found(kept, &near.slots, test, out)
+    let before = out.len();
+    if let Err(e) = kept.push_crossed(region, path, test, out) {
+        out.truncate(before);
+        return Err(e);
+    }
+    keep_found(kept, before, test, out);
+    Ok(())
 }
 
-// Appends those of some slots whose boxes meet a query, rising, where all that do are among them.
-fn push_found<T: BoxTest>(
-    kept: &GridBoxes,
-    slots: &[u32],
-    test: &T,
-    out: &mut Vec<u32>,
-) -> Result<(), NoMemory>
-    requires { HasHitsBelow kept.now LEVELS (T.asks test.now) slots.now }
-    ensures ok { OnOk result (out.new.items ≡ out.old.items ++ found kept.now (T.asks test.now)) }
-    ensures err { OnErr result (out.new.items ≡ out.old.items) }
+// Keeps those slots from one place of a list on whose boxes meet a query, rising, where all that do are among them. It takes no
+// memory.
+fn keep_found<T: BoxTest>(kept: &GridBoxes, from: usize, test: &T, slots: &mut Vec<u32>)
+    requires within { from ≤ vec_len slots.old }
+    requires among { HasHitsBelow kept.now LEVELS (T.asks test.now) (drop from slots.old.items) }
+    ensures { slots.new.items ≡ take from slots.old.items ++ found kept.now (T.asks test.now) }
 {
-    let mut hits = Vec::new(*out.allocator());
-    push_met(kept.boxes(), slots, test, &mut hits)?;
-    push_rising_slots(&mut hits, out)
-}
-
-// Appends those of some slots whose boxes meet a query. After an `Err` `out` is as before.
-fn push_met<T: BoxTest>(
-    boxes: &SlotBoxes,
-    slots: &[u32],
-    test: &T,
-    out: &mut Vec<u32>,
-) -> Result<(), NoMemory>
-    ensures ok { OnOk result (out.new.items ≡ out.old.items ++ filter (is_found boxes.now (T.asks test.now)) slots.now) }
-    ensures err { OnErr result (out.new.items ≡ out.old.items) }
-{
-    push_filtered(slots, out, |slot| is_found(boxes, *slot, test))
+    let boxes = kept.boxes();
+    keep_passing(from, slots, |slot| is_found(boxes, *slot, test));
+    settle_slots_from(from, slots);
 }
 
 // Whether a slot has a box that meets a query.
@@ -133,7 +116,6 @@ fn is_found<T: BoxTest>(boxes: &SlotBoxes, slot: u32, test: &T) -> bool
 /// compared. After an `Err` `out` is as before.
 pub(crate) fn push_reach(
     kept: &GridBoxes,
-    alloc: Global,
     own: &SlotBox,
     out: &mut Vec<u32>,
 ) -> Result<u32, NoMemory>
@@ -141,11 +123,26 @@ pub(crate) fn push_reach(
     ensures ok { OnOk result (out.new.items ≡ out.old.items ++ reach kept.now own.now.slot) }
     ensures err { OnErr result (out.new.items ≡ out.old.items) }
 {
-    let mut near = Nearby::new(alloc);
-    kept.push_candidates(&own.body, &mut near)?;
-    let mut partners = Vec::new(alloc);
-    push_partners(kept.boxes(), own, &near.slots, &mut partners)?;
-    push_rising_slots(&mut partners, out)?;
-    let looked = near.looked.saturating_add(near.slots.len() as u64);
+    let before = out.len();
+    let mut looked = 0;
+    if let Err(e) = kept.push_candidates(&own.body, &mut looked, out) {
+        out.truncate(before);
+        return Err(e);
+    }
+    let looked = looked.saturating_add((out.len() - before) as u64);
+    keep_reached(kept, own, before, out);
     Ok(u32::try_from(looked).unwrap_or(u32::MAX))
+}
+
+// Keeps those slots from one place of a list on that are a slot's partners, rising, where all that are stand among them. It takes
+// no memory.
+fn keep_reached(kept: &GridBoxes, own: &SlotBox, from: usize, slots: &mut Vec<u32>)
+    requires within { from ≤ vec_len slots.old }
+    requires own { map.get kept.now own.now.slot ≡ Some own.now.body }
+    requires among { HasMetIn kept.now 0 LEVELS own.now.body (drop from slots.old.items) }
+    ensures { slots.new.items ≡ take from slots.old.items ++ reach kept.now own.now.slot }
+{
+    let boxes = kept.boxes();
+    keep_passing(from, slots, |other| is_partner(boxes, own, true, *other));
+    settle_slots_from(from, slots);
 }

@@ -1,15 +1,13 @@
 //! The boxes of one level in columns for vector lanes, beside their slots.
 
-ghost use Rattle.std.specs.Prelude.{◌≡◌, ℕ, ◌+◌, ◌-◌, ◌<◌, ◌≤◌, ◌^◌, [], ◌∷◌, ◌++◌, true, IfOk, OnOk, OnErr};
-ghost use Rattle.std.specs.Prelude.{length, map, slice_index, slice_index_or, slice_set, swap_remove};
+ghost use Rattle.std.specs.Prelude.{◌≡◌, ◌+◌, ◌-◌, ◌<◌, ◌≤◌, ◌^◌, [], ◌∷◌, ◌++◌, IfOk, OnOk, OnErr};
+ghost use Rattle.std.specs.Prelude.{drop, length, map, slice_index, slice_set, swap_remove, take, vec_len};
 ghost use Rattle.fixed_box.specs.Bounds.{meets};
-ghost use Rattle.broad_index.specs.Members.{has_slot};
+ghost use Rattle.lane_boxes.specs.Places.{places};
 ghost use Rattle.hier_grid.specs.Leveled.{blank};
-ghost use Rattle.hier_grid.specs.Search.{HasMore};
 
 use fixed_box::{FBox, NoMemory, SLOTS};
 use lane_boxes::Columns;
-use slot_lists::push_mapped;
 use std::alloc::Global;
 use std::marker::Model;
 
@@ -91,31 +89,30 @@ impl LevelColumns {
         moved
     }
 
-    /// Appends the slots whose boxes meet a region. `places` is room for the scan.
-    pub(crate) fn push_met(
-        &self,
-        region: &FBox,
-        places: &mut Vec<u32>,
-        out: &mut Vec<u32>,
-    ) -> Result<(), NoMemory>
+    /// Appends the slots whose boxes meet a region. After an `Err` `out` is as before.
+    pub(crate) fn push_met(&self, region: &FBox, out: &mut Vec<u32>) -> Result<(), NoMemory>
         requires { length self.now.boxes < 2 ^ 32 }
-        ensures more { OnOk result (HasMore out.old.items out.new.items) }
-        ensures found { OnOk result ((place : ℕ) → place < length self.now.boxes → meets region.now (slice_index_or self.now.boxes place blank) ≡ true
-            → has_slot out.new.items (slice_index self.now.slots place) ≡ true) }
+        ensures ok { OnOk result (out.new.items ≡ out.old.items ++ map (slice_index self.now.slots) (places (meets region.now) 0 self.now.boxes)) }
+        ensures err { OnErr result (out.new.items ≡ out.old.items) }
     {
-        places.clear();
-        self.columns.scan(region, places)?;
-        push_slots(&self.slots, places, out)?;
+        let before = out.len();
+        // the places first, and then the slots in their stead
+        self.columns.scan(region, out)?;
+        put_slots(&self.slots, before, out);
         Ok(())
     }
 }
 
-// Appends the slots at some places. After an `Err` `out` is as before.
-fn push_slots(slots: &[u32], places: &[u32], out: &mut Vec<u32>) -> Result<(), NoMemory>
-    ensures ok { OnOk result (out.new.items ≡ out.old.items ++ map (slice_index slots.now) places.now) }
-    ensures err { OnErr result (out.new.items ≡ out.old.items) }
+// Puts slots in place of their places, from one item of a list on. It takes no memory.
+fn put_slots(slots: &[u32], from: usize, out: &mut Vec<u32>)
+    requires { from ≤ vec_len out.old }
+    ensures { out.new.items ≡ take from out.old.items ++ map (slice_index slots.now) (drop from out.old.items) }
 {
-    push_mapped(places, out, |place| slot_at(slots, *place))
+    let mut at = from;
+    'items: while at < out.len() {
+        out[at] = slot_at(slots, out[at]);
+        at += 1;
+    }
 }
 
 // The slot at a place, and 0 at none.

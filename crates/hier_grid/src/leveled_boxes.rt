@@ -1,10 +1,10 @@
 //! All boxes by slot, and once more in the columns of their levels.
 
-ghost use Rattle.std.specs.Prelude.{◌≡◌, ℕ, ◌<◌, ◌≤◌, [], true, false, Some, IfOk, IfSome, OnOk, length};
+ghost use Rattle.std.specs.Prelude.{◌≡◌, ℕ, ◌<◌, ◌≤◌, [], true, false, Some, IfOk, IfSome, OnOk, OnErr, length};
 ghost use Rattle.std.specs.FinMap as map;
 ghost use Rattle.fixed_box.specs.Bounds.{Bounds, level_of};
 ghost use Rattle.hier_grid.specs.Leveled.{columns_at};
-ghost use Rattle.hier_grid.specs.Search.{HasMet, HasMore};
+ghost use Rattle.hier_grid.specs.Search.{Appends, HasMet};
 
 use crate::level_columns::LevelColumns;
 use cell_table::LEVELS;
@@ -127,20 +127,13 @@ impl LeveledBoxes {
         self.boxes.take(slot);
     }
 
-    /// Appends the slots of a level whose boxes meet a region, by a scan of the level.
-    pub(crate) fn scan(
-        &self,
-        level: u8,
-        region: &FBox,
-        places: &mut Vec<u32>,
-        out: &mut Vec<u32>,
-    ) -> Result<(), NoMemory>
+    /// Appends the slots of a level whose boxes meet a region, by a scan of the level. After an `Err` `out` is as before.
+    pub(crate) fn scan(&self, level: u8, region: &FBox, out: &mut Vec<u32>) -> Result<(), NoMemory>
         requires { level < LEVELS }
-        ensures more { OnOk result (HasMore out.old.items out.new.items) }
-        ensures found { OnOk result (HasMet self.now level region.now out.new.items) }
+        ensures ok { OnOk result (Appends (HasMet self.now level region.now) out.old.items out.new.items) }
+        ensures err { OnErr result (out.new.items ≡ out.old.items) }
     {
-        self.levels[level as usize].push_met(region, places, out)?;
-        Ok(())
+        self.levels[level as usize].push_met(region, out)
     }
 }
 

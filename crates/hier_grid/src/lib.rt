@@ -22,7 +22,6 @@ mod line_path;
 mod list_search;
 mod merged_cells;
 mod near_cells;
-mod nearby;
 mod pair_search;
 mod partners;
 mod slot_box;

@@ -62,7 +62,7 @@ impl ListSearch<'_> {
             self.find_standing(own, found)?;
             rest = more;
         }
-        Ok(found.near.looked)
+        Ok(found.looked)
     }
 
     /// Finds the pairs of a slot with those partners that it is to find by the cells of their boxes, wherever these stand. So
@@ -130,7 +130,7 @@ impl ListSearch<'_> {
             found.old.pairs.items found.new.pairs.items) }
     {
         self.kept.sized_law();
-        let looked = &mut found.near.looked;
+        let looked = &mut found.looked;
         let pairs = &mut found.pairs;
         let cell = row_of(&cell_in(level, &own.body));
         self.boxes.find_in_row(own, false, &cell, looked, pairs)?;
@@ -178,8 +178,9 @@ impl ListSearch<'_> {
         requires { level < LEVELS }
         ensures { OnOk result (Finds self.now.bodies own.now true (λ _ b. level_of b ≡ level) found.old.pairs.items found.new.pairs.items) }
     {
-        found.near.clear();
-        self.kept.scan(level, &own.body, &mut found.near)?;
+        found.slots.clear();
+        self.kept
+            .scan(level, &own.body, &mut found.looked, &mut found.slots)?;
         found.find_among(self.kept.boxes(), own, true)?;
         Ok(())
     }
@@ -198,7 +199,7 @@ impl ListSearch<'_> {
         self.kept.sized_law();
         let block = block_beside(level, &own.body);
         self.boxes
-            .find_in_block(own, &block, &mut found.near.looked, &mut found.pairs)?;
+            .find_in_block(own, &block, &mut found.looked, &mut found.pairs)?;
         Ok(())
     }
 }

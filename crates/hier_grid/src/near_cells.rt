@@ -1,9 +1,9 @@
-//! The neighbour cells of a region on one level, as rows along z.
+//! The neighbour cells of a region on one level, and the slots in them.
 
-ghost use Rattle.std.specs.Prelude.{◌≡◌, ℤ, pos, ◌+ℤ◌, ◌-ℤ◌, ◌<◌, ◌≤ℤ◌, ◌<ℤ◌, OnOk};
+ghost use Rattle.std.specs.Prelude.{◌≡◌, pos, ◌+ℤ◌, ◌-ℤ◌, ◌<◌, ◌≤ℤ◌, ◌<ℤ◌, OnOk, OnErr};
 ghost use Rattle.cell_table.specs.declared.cell_key.CellKey as key;
-ghost use Rattle.hier_grid.specs.Cells.{cell_at, cell_on, IsAfter, IsAmong, IsBeside, IsInBlock, IsInRow, IsInRows};
-ghost use Rattle.hier_grid.specs.Search.{HasCell, HasMore, HasRows};
+ghost use Rattle.hier_grid.specs.Cells.{cell_at, cell_on, IsAfter, IsAmong, IsBeside, IsInBlock, IsInPlane, IsInRow};
+ghost use Rattle.hier_grid.specs.Search.{Appends, HasCells, Stays};
 
 use crate::cell::cell_at;
 use crate::cell_block::CellBlock;
@@ -11,32 +11,6 @@ use crate::cell_row::CellRow;
 use crate::later_cells::LaterCells;
 use cell_table::{CellKey, CellTable, LEVELS};
 use fixed_box::{FBox, Fix, NoMemory};
-
-/// Appends the rows of cells of a level beside a region: from the cell before that of its lower corner, since a box
-/// reaches at most into the next cell, to that of its upper corner.
-pub(crate) fn push_beside(level: u8, region: &FBox, rows: &mut Vec<CellRow>) -> Result<(), NoMemory>
-    requires { level < LEVELS }
-    ensures more { OnOk result (HasRows rows.old.items rows.new.items) }
-    ensures found { OnOk result ((k : key.CellKey) → k.level ≡ level → IsBeside level region.now k → IsInRows rows.new.items k) }
-{
-    push_cells(&block_beside(level, region), rows)?;
-    Ok(())
-}
-
-/// Appends the rows of those cells beside a region that come after the cell of its lower corner in the order of x, y
-/// and z: about half of them.
-pub(crate) fn push_after(level: u8, region: &FBox, rows: &mut Vec<CellRow>) -> Result<(), NoMemory>
-    requires { level < LEVELS }
-    ensures more { OnOk result (HasRows rows.old.items rows.new.items) }
-    ensures found { OnOk result ((k : key.CellKey) → k.level ≡ level → IsBeside level region.now k
-        → IsAfter k (cell_on level region.now.lo) → IsInRows rows.new.items k) }
-{
-    let cells = cells_after(level, region);
-    push_row(&cells.row, &cells.end, rows)?;
-    push_plane(&cells.plane, &cells.end, rows)?;
-    push_block(&cells.block, &cells.end, rows)?;
-    Ok(())
-}
 
 /// Those cells beside a region that come after the cell of its lower corner in the order of x, y and z.
 #[inline(always)]
@@ -71,81 +45,66 @@ pub(crate) fn block_beside(level: u8, region: &FBox) -> CellBlock
     }
 }
 
-/// Appends the rows of a block of cells.
-pub(crate) fn push_cells(block: &CellBlock, rows: &mut Vec<CellRow>) -> Result<(), NoMemory>
-    ensures more { OnOk result (HasRows rows.old.items rows.new.items) }
-    ensures found { OnOk result ((k : key.CellKey) → IsInBlock block.now k → IsInRows rows.new.items k) }
-{
-    push_block(&block.from, &block.end, rows)?;
-    Ok(())
-}
-
-// Appends the rows of the cells from one corner on, below another.
-fn push_block(from: &CellKey, end: &CellKey, rows: &mut Vec<CellRow>) -> Result<(), NoMemory>
-    ensures more { OnOk result (HasRows rows.old.items rows.new.items) }
-    ensures found { OnOk result ((x y z : ℤ) → from.now.x ≤ℤ x → x <ℤ end.now.x → from.now.y ≤ℤ y → y <ℤ end.now.y
-        → from.now.z ≤ℤ z → z <ℤ end.now.z → IsInRows rows.new.items (record from.now { x = x; y = y; z = z })) }
-{
-    'block: for x in from.x..end.x {
-        push_plane(&with_x(from, x), end, rows)?;
-    }
-    Ok(())
-}
-
-// The same at one x.
-fn push_plane(from: &CellKey, end: &CellKey, rows: &mut Vec<CellRow>) -> Result<(), NoMemory>
-    ensures more { OnOk result (HasRows rows.old.items rows.new.items) }
-    ensures found { OnOk result ((y z : ℤ) → from.now.y ≤ℤ y → y <ℤ end.now.y → from.now.z ≤ℤ z → z <ℤ end.now.z
-        → IsInRows rows.new.items (record from.now { y = y; z = z })) }
-{
-    'plane: for y in from.y..end.y {
-        push_row(&with_y(from, y), end, rows)?;
-    }
-    Ok(())
-}
-
-// The same at one x and y. A row of no cell is left out.
-fn push_row(from: &CellKey, end: &CellKey, rows: &mut Vec<CellRow>) -> Result<(), NoMemory>
-    ensures more { OnOk result (HasRows rows.old.items rows.new.items) }
-    ensures found { OnOk result ((z : ℤ) → from.now.z ≤ℤ z → z <ℤ end.now.z → IsInRows rows.new.items (record from.now { z = z })) }
-{
-    if from.z < end.z {
-        rows.push(CellRow {
-            key: *from,
-            end: end.z,
-        })?;
-    }
-    Ok(())
-}
-
-/// Appends the slots in the cells of some rows, and others that share their buckets.
-pub(crate) fn visit_rows(
-    cells: &CellTable,
-    rows: &[CellRow],
+/// Appends the slots in those cells that come later, and others that share their buckets.
+pub(crate) fn visit_later(
+    table: &CellTable,
+    cells: &LaterCells,
     out: &mut Vec<u32>,
 ) -> Result<(), NoMemory>
-    ensures more { OnOk result (HasMore out.old.items out.new.items) }
-    ensures found { OnOk result ((k : key.CellKey) → IsInRows rows.now k → HasCell cells.now k out.new.items) }
+    ensures ok { OnOk result (Appends (HasCells table.now (IsAmong cells.now)) out.old.items out.new.items) }
+    ensures err { OnErr result (Stays out.old.items out.new.items) }
 {
-    let mut rest = rows;
-    'rows: while let [row, more @ ..] = rest {
-        visit_row(cells, row, out)?;
-        rest = more;
+    let block = CellBlock {
+        from: cells.block,
+        end: cells.end,
+    };
+    let row = row_at(&cells.row, cells.row.y, &cells.end);
+    visit_row(table, &row, out)?;
+    visit_plane(table, &cells.plane, &cells.end, out)?;
+    visit_block(table, &block, out)
+}
+
+/// Appends the slots in a block of cells, and others that share their buckets.
+pub(crate) fn visit_block(
+    table: &CellTable,
+    block: &CellBlock,
+    out: &mut Vec<u32>,
+) -> Result<(), NoMemory>
+    ensures ok { OnOk result (Appends (HasCells table.now (IsInBlock block.now)) out.old.items out.new.items) }
+    ensures err { OnErr result (Stays out.old.items out.new.items) }
+{
+    'block: for x in block.from.x..block.end.x {
+        visit_plane(table, &with_x(&block.from, x), &block.end, out)?;
     }
     Ok(())
 }
 
-/// The same of one row.
+// The same of the cells at one x, from one corner on and below another.
+fn visit_plane(
+    table: &CellTable,
+    from: &CellKey,
+    end: &CellKey,
+    out: &mut Vec<u32>,
+) -> Result<(), NoMemory>
+    ensures ok { OnOk result (Appends (HasCells table.now (IsInPlane from.now end.now)) out.old.items out.new.items) }
+    ensures err { OnErr result (Stays out.old.items out.new.items) }
+{
+    'plane: for y in from.y..end.y {
+        visit_row(table, &row_at(from, y, end), out)?;
+    }
+    Ok(())
+}
+
+/// Appends the slots in a row of cells, and others that share their buckets. After an `Err` `out` is as before.
 pub(crate) fn visit_row(
-    cells: &CellTable,
+    table: &CellTable,
     row: &CellRow,
     out: &mut Vec<u32>,
 ) -> Result<(), NoMemory>
-    ensures more { OnOk result (HasMore out.old.items out.new.items) }
-    ensures found { OnOk result ((k : key.CellKey) → IsInRow row.now k → HasCell cells.now k out.new.items) }
+    ensures ok { OnOk result (Appends (HasCells table.now (IsInRow row.now)) out.old.items out.new.items) }
+    ensures err { OnErr result (out.new.items ≡ out.old.items) }
 {
-    cells.visit_row(&row.key, row.end, out)?;
-    Ok(())
+    table.visit_row(&row.key, row.end, out)
 }
 
 #[inline(always)]

@@ -4,7 +4,7 @@ ghost use Rattle.std.specs.Prelude.{◌≡◌, ◌<◌, true, false, OnOk};
 ghost use Rattle.fixed_box.specs.Bounds.{level_of};
 ghost use Rattle.hier_grid.specs.Buckets.{IsListing};
 ghost use Rattle.hier_grid.specs.Cells.{cell_of, IsInRow};
-ghost use Rattle.hier_grid.specs.Search.{IsDue, IsNearby, IsOther, Finds, FindsAll, FindsRun, FindsSlot};
+ghost use Rattle.hier_grid.specs.Search.{IsDue, IsOther, Finds, FindsAll, FindsRun, FindsSlot};
 
 use crate::cell::cell_of;
 use crate::cell_row::{CellRow, row_of};
@@ -92,7 +92,7 @@ impl PairSearch<'_> {
             self.find_for(*slot, found)?;
             rest = more;
         }
-        Ok(found.near.looked)
+        Ok(found.looked)
     }
 
     // Finds the pairs of a slot with its partners, if it is present.
@@ -136,9 +136,8 @@ impl PairSearch<'_> {
         ensures { OnOk result (Finds self.now own.now false (λ _ b. IsInRow row.now (cell_of b))
             found.old.pairs.items found.new.pairs.items) }
     {
-        let near = &mut found.near;
-        near.slots.clear();
-        visit_row(self.kept.cells(), row, &mut near.slots)?;
+        found.slots.clear();
+        visit_row(self.kept.cells(), row, &mut found.slots)?;
         found.find_among(self.kept.boxes(), own, false)?;
         Ok(())
     }
@@ -154,20 +153,12 @@ impl PairSearch<'_> {
         requires level { level ≡ level_of own.now.body }
         ensures { OnOk result (Finds self.now own.now true (λ _ b. IsOther cell_of own.now.body b) found.old.pairs.items found.new.pairs.items) }
     {
-        let near = &mut found.near;
+        let looked = &mut found.looked;
+        let near = &mut found.slots;
         near.clear();
-        self.kept.push_after(level, &own.body, near)?;
-        self.kept.push_from(level + 1, self.end, &own.body, near)?;
-        self.find_near(own, found)?;
-        Ok(())
-    }
-
-    // Finds the pairs of a slot with its partners among what is near. The slots in rows of cells are compared with the others
-    // that are near.
-    fn find_near(&self, own: &SlotBox, found: &mut GridFindings) -> Result<(), NoMemory>
-        ensures { OnOk result (Finds self.now own.now true (IsNearby found.old.near) found.old.pairs.items found.new.pairs.items) }
-    {
-        self.kept.push_rows(&mut found.near)?;
+        self.kept.push_after(level, &own.body, looked, near)?;
+        self.kept
+            .push_from(level + 1, self.end, &own.body, looked, near)?;
         found.find_among(self.kept.boxes(), own, true)?;
         Ok(())
     }

@@ -7,20 +7,7 @@ ghost use Rattle.hier_grid.specs.Search.{is_partner, meets_at};
 use crate::slot_box::SlotBox;
 use broad_index::Pair;
 use fixed_box::{FBox, NoMemory};
-use slot_lists::{SlotBoxes, push_filter_mapped, push_filtered};
-
-/// Appends a slot's partners among others. After an `Err` `out` is as before.
-pub(crate) fn push_partners(
-    boxes: &SlotBoxes,
-    own: &SlotBox,
-    slots: &[u32],
-    out: &mut Vec<u32>,
-) -> Result<(), NoMemory>
-    ensures ok { OnOk result (out.new.items ≡ out.old.items ++ filter (is_partner boxes.now own.now.slot own.now.body true) slots.now) }
-    ensures err { OnErr result (out.new.items ≡ out.old.items) }
-{
-    push_filtered(slots, out, |other| is_partner(boxes, own, true, *other))
-}
+use slot_lists::{SlotBoxes, push_filter_mapped};
 
 /// Appends a slot's pairs with its partners among others, either any or those with higher slots alone. After an `Err` `out` is
 /// as before.
@@ -51,9 +38,9 @@ fn pair_with(boxes: &SlotBoxes, own: &SlotBox, any: bool, other: u32) -> Option<
     }
 }
 
-// Whether another slot is a partner. No branch is taken on which slots may be partners, since that is past telling
-// beforehand.
-fn is_partner(boxes: &SlotBoxes, own: &SlotBox, any: bool, other: u32) -> bool
+/// Whether another slot is a partner. No branch is taken on which slots may be partners, since that is past telling
+/// beforehand.
+pub(crate) fn is_partner(boxes: &SlotBoxes, own: &SlotBox, any: bool, other: u32) -> bool
     ensures { result ≡ is_partner boxes.now own.now.slot own.now.body any other }
 {
     is_sought(own.slot, any, other) & meets_at(boxes, &own.body, other)

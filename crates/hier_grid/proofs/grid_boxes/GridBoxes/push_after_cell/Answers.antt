@@ -1,9 +1,13 @@
--- All cells beside the body that come after its cell are in the rows.
-use Rattle.std.proofs.Common.{inr}
+-- All cells beside the body that come after its cell are visited.
+use Rattle.std.proofs.Common.{option_map, ap, ◌∙◌}
+use Rattle.std.proofs.lemmas.Result.{on_ok_weaker}
+use Rattle.std.specs.FinMap.{get}
 use Rattle.hier_grid.specs.Cells.{cell_of}
+use Rattle.hier_grid.proofs.AppendLemmas.{among}
 use Rattle.hier_grid.proofs.GridLemmas.{met_beside}
 use Rattle.hier_grid.proofs.grid_boxes.GridBoxes.push_after_cell.Goals as goal
 
 pub returns : goal.returns
-returns c q b e l after m =
-    inr (c.in_ok-push_after.ensures.found (cell_of b) l (met_beside c.args.level c.args.body.now b (c.sized_law.ensures q b e) l m) after)
+returns c = on_ok_weaker c.visit_later.result (among _ _ _ _ (λ xs has q b e l after m.
+    has q (cell_of b) (c.self.invariant.keyed q ∙ ap (option_map cell_of) (ap (λ m. get m q) c.self.view_is ∙ e))
+    (c.cells_after.ensures (cell_of b) l (met_beside c.args.level c.args.body.now b (c.sized_law.ensures q b e) l m) after))) c.visit_later.ensures.ok

@@ -1,18 +1,26 @@
 -- A box of this level, or of a lower one.
-use Rattle.std.proofs.Common.{◌≡◌, true, inl, inr, arith}
+use Rattle.std.proofs.Common.{◌≡◌, true, ◌++◌, refl, inl, inr, arith}
 use Rattle.fixed_box.specs.Bounds.{level_of}
 use Rattle.broad_index.specs.Members.{has_slot}
 use Rattle.fixed_box.proofs.Numbers.{nat_next}
+use Rattle.hier_grid.proofs.AppendLemmas.{among, anyway, begins, both, none, stays_on}
+use Rattle.hier_grid.proofs.SlotLemmas.{more_left, more_right}
 use Rattle.hier_grid.proofs.grid_boxes.GridBoxes.push_crossed_in.Goals as goal
 
 pub levels-init : goal.levels-init
-levels-init g c q b e below m = absurd (omega arith)
+levels-init g c = none _ _ _ refl (λ q b e below m. absurd (omega arith))
 
 pub levels-preserved : goal.levels-preserved
-levels-preserved g c q b e below m = elim (nat_next (level_of b) c.levels.level below) as (λ _. has_slot c.push_crossed_at.new.near.slots.items q ≡ true) [
-  | inl lower ↦ c.in_ok-push_crossed_at.ensures.more q (c.levels.invariant q b e lower m)
-  | inr at ↦ c.in_ok-push_crossed_at.ensures.found q b e at m
-]
+levels-preserved g c =
+    both _ _ _ _ _ _ (λ xs ys before here q b e below m. elim (nat_next (level_of b) c.levels.level below) as (λ _. has_slot (xs ++ ys) q ≡ true) [
+      | inl lower ↦ more_left xs ys q (before q b e lower m)
+      | inr at ↦ more_right xs ys q (here q b e at m)
+    ]) c.levels.invariant c.in_ok-push_crossed_at.ensures.ok
 
-pub returns : goal.returns
-returns g c q b e below m = c.levels.invariant q b e (omega (arith, c.levels_end-level-end.ensures.above q b e)) m
+pub returns-clause-ok : goal.returns-clause-ok
+returns-clause-ok g c =
+    among _ _ _ _ (λ xs all q b e below m. all q b e (omega (arith, c.levels_end-level-end.ensures.above q b e)) m) c.levels.invariant
+
+pub returns-in_err-push_crossed_at-clause-err : goal.returns-in_err-push_crossed_at-clause-err
+returns-in_err-push_crossed_at-clause-err g c =
+    anyway _ (stays_on _ _ _ (begins _ _ _ c.levels.invariant) c.in_err-push_crossed_at.ensures.err)

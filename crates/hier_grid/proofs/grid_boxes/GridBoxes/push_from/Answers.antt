@@ -1,24 +1,24 @@
 -- A box of this level, or of a lower one.
-use Rattle.std.proofs.Common.{inl, inr, arith}
+use Rattle.std.proofs.Common.{◌≡◌, true, ◌++◌, refl, inl, inr, arith}
 use Rattle.fixed_box.specs.Bounds.{level_of}
-use Rattle.hier_grid.specs.Search.{IsNearby}
 use Rattle.fixed_box.proofs.Numbers.{nat_next}
+use Rattle.broad_index.specs.Members.{has_slot}
+use Rattle.hier_grid.proofs.AppendLemmas.{among, anyway, begins, both, none, stays_on}
+use Rattle.hier_grid.proofs.SlotLemmas.{more_left, more_right}
 use Rattle.hier_grid.proofs.grid_boxes.GridBoxes.push_from.Goals as goal
 
 pub levels-init : goal.levels-init
-levels-init c = record {
-  more = λ q b h. h;
-  found = λ q b e from below m. absurd (omega arith);
-}
+levels-init c = none _ _ _ refl (λ q b e from below m. absurd (omega arith))
 
 pub levels-preserved : goal.levels-preserved
-levels-preserved c = record {
-  more = λ q b h. c.in_ok-push_near.ensures.more q b (c.levels.invariant.more q b h);
-  found = λ q b e from below m. elim (nat_next (level_of b) c.levels.level below) as (λ _. IsNearby c.push_near.new.near q b) [
-    | inl lower ↦ c.in_ok-push_near.ensures.more q b (c.levels.invariant.found q b e from lower m)
-    | inr at ↦ c.in_ok-push_near.ensures.found q b e at m
-  ];
-}
+levels-preserved c =
+    both _ _ _ _ _ _ (λ xs ys before here q b e from below m. elim (nat_next (level_of b) c.levels.level below) as (λ _. has_slot (xs ++ ys) q ≡ true) [
+      | inl lower ↦ more_left xs ys q (before q b e from lower m)
+      | inr at ↦ more_right xs ys q (here q b e at m)
+    ]) c.levels.invariant c.in_ok-push_near.ensures.ok
 
-pub returns-clause-found : goal.returns-clause-found
-returns-clause-found c q b e from below m = c.levels.invariant.found q b e from (omega (arith, c.levels-test.false)) m
+pub returns-clause-ok : goal.returns-clause-ok
+returns-clause-ok c = among _ _ _ _ (λ xs all q b e from below m. all q b e from (omega (arith, c.levels-test.false)) m) c.levels.invariant
+
+pub returns-in_err-push_near-clause-err : goal.returns-in_err-push_near-clause-err
+returns-in_err-push_near-clause-err c = anyway _ (stays_on _ _ _ (begins _ _ _ c.levels.invariant) c.in_err-push_near.ensures.err)

@@ -1,10 +1,13 @@
 -- Each box of the level stands at a place of the columns.
-use Rattle.std.proofs.Common.{◌≡◌, ◌<◌, Some, sym, ap, ◌∙◌, subst, arith, length, get_or, slice_index}
+use Rattle.std.proofs.Common.{◌≡◌, ◌+◌, ◌<◌, Some, true, sym, ap, ◌∙◌, ◌++◌, subst, arith, length, get_or, map, slice_index}
 use Rattle.std.specs.FinMap.{get}
 use Rattle.std.proofs.lemmas.List.{get_or_read}
+use Rattle.std.proofs.lemmas.Result.{on_ok_weaker}
 use Rattle.fixed_box.specs.Bounds.{meets}
+use Rattle.lane_boxes.specs.Places.{places}
 use Rattle.broad_index.specs.Members.{has_slot}
 use Rattle.hier_grid.specs.Leveled.{blank, no_columns, columns_at}
+use Rattle.hier_grid.proofs.ColumnLemmas.{place_in, image_in}
 use Rattle.hier_grid.proofs.LeveledLemmas.{columns_few, place_within}
 use Rattle.hier_grid.proofs.leveled_boxes.LeveledBoxes.scan.Goals as goal
 
@@ -17,16 +20,28 @@ push_met-requires c =
     let len = ap (λ r. length r.boxes) columns in
     omega (arith, few, len)
 
-pub returns-clause-found : goal.returns-clause-found
-returns-clause-found c q b e l m =
+pub returns-clause-ok : goal.returns-clause-ok
+returns-clause-ok c =
     let s = c.self.inside in
     let levels = s.levels.items in
-    let has : get s.boxes q ≡ Some b = ap (λ m. get m q) c.self.view_is ∙ e in
-    let st = c.self.invariant.held q b has in
-    let place = get_or s.places.items q 0 in
-    let columns = get_or_read levels c.args.level c.index.result.now (omega (arith, c.self.invariant.levels_len, c.requires)) c.index.ensures no_columns
-    ∙ ap (columns_at levels) (sym l) in
-    let found = c.in_ok-push_met.ensures.found place
-    (subst (λ r. place < length r.boxes) (sym columns) (place_within s.boxes s.places.items levels q b c.self.invariant has))
-    (ap (λ r. meets c.args.region.now (get_or r.boxes place blank)) columns ∙ ap (meets c.args.region.now) st.body_is ∙ m) in
-    ap (has_slot c.push_met.new.out.items) (sym (ap (λ r. slice_index r.slots place) columns ∙ st.slot_is)) ∙ found
+    let region = c.args.region.now in
+    let own = c.index.result.now in
+    let at = places (meets region) 0 own.boxes in
+    let f = slice_index own.slots in
+    let old = c.args.out.now.items in
+    let new = c.push_met.new.out.items in
+    on_ok_weaker c.push_met.result (λ (is : new ≡ old ++ map f at). record {
+      slots = map f at;
+      appended = is;
+      has = λ q b e l m.
+          let has : get s.boxes q ≡ Some b = ap (λ m. get m q) c.self.view_is ∙ e in
+          let st = c.self.invariant.held q b has in
+          let place = get_or s.places.items q 0 in
+          let columns = get_or_read levels c.args.level own (omega (arith, c.self.invariant.levels_len, c.requires)) c.index.ensures no_columns
+          ∙ ap (columns_at levels) (sym l) in
+          let there : has_slot at place ≡ true = (let n : place ≡ 0 + place = omega arith in ap (has_slot at) n
+          ∙ place_in (meets region) 0 place own.boxes
+          (subst (λ r. place < length r.boxes) (sym columns) (place_within s.boxes s.places.items levels q b c.self.invariant has))
+          (ap (λ r. meets region (get_or r.boxes place blank)) columns ∙ ap (meets region) st.body_is ∙ m)) in
+          ap (has_slot (map f at)) (sym (ap (λ r. slice_index r.slots place) columns ∙ st.slot_is)) ∙ image_in f at place there;
+    }) c.push_met.ensures.ok

@@ -1,24 +1,34 @@
 -- All boxes of later cells and higher levels that meet the body are near.
-use Rattle.std.proofs.Common.{sym, ap, ◌∙◌, subst, inl, inr, arith}
+use Rattle.std.proofs.Common.{◌≡◌, ℕ, true, Some, sym, ap, ◌∙◌, ◌++◌, subst, inl, inr, arith}
 use Rattle.std.specs.FinMap.{get}
+use Rattle.fixed_box.specs.Bounds.{Bounds, meets}
+use Rattle.broad_index.specs.Members.{has_slot}
 use Rattle.hier_grid.specs.Cells.{cell_of, cell_on, IsAfter}
-use Rattle.hier_grid.specs.Search.{IsNearby}
+use Rattle.hier_grid.specs.Search.{Finds, IsOther}
+use Rattle.hier_grid.proofs.AppendLemmas.{both, from_none}
+use Rattle.hier_grid.proofs.SlotLemmas.{more_left, more_right}
 use Rattle.hier_grid.proofs.pair_search.PairSearch.find_others.Goals as goal
 
 pub returns : goal.returns
 returns c =
+    let kept = c.args.self.now in
     let own = c.args.own.now in
     let level = c.requires.level in
-    let search_of = c.in_ok-find_near.ensures in
+    let old = c.args.found.now.pairs.items in
+    let new = c.find_among.new.self.pairs.items in
+    let slots = c.push_from.new.slots.items in
+    let among : Finds kept own true (λ q _. has_slot slots q ≡ true) old new =
+    subst (λ m. Finds m own true (λ q _. has_slot slots q ≡ true) old new) (c.boxes.ensures ∙ c.self.view_is) c.in_ok-find_among.ensures in
+    let has = from_none
+    (λ xs. (q : ℕ) (b : Bounds) → get c.self.inside.kept.now q ≡ Some b → IsOther cell_of own.body b → meets own.body b ≡ true → has_slot xs q ≡ true)
+    _ slots c.clear.ensures.items
+    (both _ _ _ _ _ _ (λ xs ys after above q b e o m. elim o as (λ _. has_slot (xs ++ ys) q ≡ true) [
+      | inl higher ↦ more_right xs ys q (above q b e (omega (arith, level, higher)) (c.self.invariant.1.above q b e) m)
+      | inr later ↦ more_left xs ys q (after q b e (later.0 ∙ sym level)
+          (subst (λ n. IsAfter (cell_of b) (cell_on n own.body.lo)) (sym level) later.1) m)
+    ]) c.in_ok-push_after.ensures c.in_ok-push_from.ensures.ok) in
     record {
-      sound = search_of.sound;
-      more = search_of.more;
-      found = λ q b here o m other any.
-          let e = ap (λ bodies. get bodies q) c.self.view_is ∙ here in
-          let near : IsNearby c.push_from.new.near q b = elim o as (λ _. IsNearby c.push_from.new.near q b) [
-            | inl above ↦ c.in_ok-push_from.ensures.found q b e (omega (arith, level, above)) (c.self.invariant.1.above q b e) m
-            | inr later ↦ c.in_ok-push_from.ensures.more q b (c.in_ok-push_after.ensures q b e (later.0 ∙ sym level)
-                (subst (λ n. IsAfter (cell_of b) (cell_on n own.body.lo)) (sym level) later.1) m)
-          ] in
-          search_of.found q b here near m other any;
+      sound = among.sound;
+      more = among.more;
+      found = λ q b here o m other any. among.found q b here (has q b (ap (λ bodies. get bodies q) c.self.view_is ∙ here) o m) m other any;
     }

@@ -2,8 +2,9 @@
 use Rattle.std.proofs.Common.{◌≡◌, true, false, option_map, ap, ◌∙◌, subst}
 use Rattle.std.specs.FinMap.{get}
 use Rattle.broad_index.specs.Members.{has_slot}
-use Rattle.hier_grid.specs.Cells.{cell_of}
-use Rattle.hier_grid.specs.Search.{Finds}
+use Rattle.hier_grid.specs.Cells.{cell_of, IsInRow}
+use Rattle.hier_grid.specs.Search.{Finds, HasCells}
+use Rattle.hier_grid.proofs.AppendLemmas.{from_none}
 use Rattle.hier_grid.proofs.pair_search.PairSearch.find_own.Goals as goal
 
 pub returns : goal.returns
@@ -15,9 +16,10 @@ returns c =
     let slots = c.visit_row.new.out.items in
     let among : Finds kept own false (λ q _. has_slot slots q ≡ true) old new =
     subst (λ m. Finds m own false (λ q _. has_slot slots q ≡ true) old new) (c.boxes.ensures ∙ c.self.view_is) c.in_ok-find_among.ensures in
+    let has : HasCells c.cells.result.now (IsInRow c.args.row.now) slots = from_none _ _ slots c.clear.ensures.items c.in_ok-visit_row.ensures.ok in
     record {
       sound = among.sound;
       more = among.more;
-      found = λ q b e there m other due. among.found q b e (c.in_ok-visit_row.ensures.found (cell_of b) there q
-          (c.cells.ensures q ∙ ap (option_map cell_of) (ap (λ bodies. get bodies q) c.self.view_is ∙ e))) m other due;
+      found = λ q b e there m other due. among.found q b e (has q (cell_of b)
+          (c.cells.ensures q ∙ ap (option_map cell_of) (ap (λ bodies. get bodies q) c.self.view_is ∙ e)) there) m other due;
     }
