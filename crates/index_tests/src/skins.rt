@@ -1,14 +1,17 @@
-//! Boxes in skins over a list and over a tree: what moves within its skin, leaves it and goes is found by its exact box.
+//! Boxes in skins over each structure: what moves within its skin, leaves it and goes is found by its exact box, beside boxes
+//! that stay.
 
 ghost use Rattle.std.specs.Prelude.{◌<◌};
 
 use box_tree::BoxTree;
 use broad_index::{BroadPhase, Pair, PlainIndex, Query};
 use fixed_box::{FBox, NoMemory, Point, SLOTS};
+use hier_grid::HierGrid;
 use skin_index::Skinned;
 use std::alloc::Global;
 use std::process::Abort;
 use std::test::Fail;
+use sweep_prune::Sap;
 
 // Sides long enough that a skin is wider than a step.
 const SIDE: i32 = 65_536;
@@ -61,22 +64,31 @@ fn counts<B: BroadPhase>(alloc: Global, index: &mut B) -> Result<(usize, usize),
     Ok((pairs.len(), slots.len()))
 }
 
-// The boxes of two slots, of which the second stands at each of these places in turn, have so many pairs and hits there.
+// Two boxes that meet, far from all others.
+fn put_still<B: BroadPhase>(index: &mut B) -> Result<(), Fail> {
+    put(index, 4, cube_at(-90 * SIDE).ok_or("a cube")?)?;
+    put(index, 9, cube_at(-90 * SIDE).ok_or("a cube")?)?;
+    Ok(())
+}
+
+// The boxes of two slots, of which the second stands at each of these places in turn, have so many pairs and hits there, beside
+// a pair that stays. All pairs of skins are asked for at the first place, and mended at those where it left its skin.
 fn follow<B: BroadPhase>(
     alloc: Global,
     index: &mut B,
     steps: &[(i32, bool)],
 ) -> Result<bool, Fail> {
+    put_still(index)?;
     put(index, 3, cube_at(0).ok_or("a cube")?)?;
     for (x, meets) in steps {
         put(index, 5, cube_at(*x).ok_or("a cube")?)?;
-        let wanted = if *meets { (1, 2) } else { (0, 1) };
+        let wanted = if *meets { (2, 2) } else { (1, 1) };
         if counts(alloc, index)? != wanted {
             return Ok(false);
         }
     }
     take(index, 5);
-    Ok(counts(alloc, index)? == (0, 1) && index.len() == 1)
+    Ok(counts(alloc, index)? == (1, 1) && index.len() == 3)
 }
 
 // Within its skin, out of it, back, and far off: it touches the first cube at its end, and a raw step further it doesn't.
@@ -103,6 +115,24 @@ fn boxes_in_skins_over_a_list_are_found(rt: HostRuntime) -> Result<(), Fail> {
 #[test]
 fn boxes_in_skins_over_a_tree_are_found(rt: HostRuntime) -> Result<(), Fail> {
     let mut index = Skinned::new(rt.alloc(), BoxTree::new(rt.alloc())?)?;
+    let done = follow(rt.alloc(), &mut index, &STEPS);
+    drop(index);
+    assert!(rt; done?);
+    Ok(())
+}
+
+#[test]
+fn boxes_in_skins_over_a_grid_are_found(rt: HostRuntime) -> Result<(), Fail> {
+    let mut index = Skinned::new(rt.alloc(), HierGrid::new(rt.alloc())?)?;
+    let done = follow(rt.alloc(), &mut index, &STEPS);
+    drop(index);
+    assert!(rt; done?);
+    Ok(())
+}
+
+#[test]
+fn boxes_in_skins_over_a_sweep_are_found(rt: HostRuntime) -> Result<(), Fail> {
+    let mut index = Skinned::new(rt.alloc(), Sap::new(rt.alloc())?)?;
     let done = follow(rt.alloc(), &mut index, &STEPS);
     drop(index);
     assert!(rt; done?);

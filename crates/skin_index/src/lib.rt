@@ -1,7 +1,11 @@
 //! A broad phase over another one, which hears of a box only when it leaves its skin, an enlarged box around it.
 #![tactic(auto)]
 
-mod filtering;
+mod exact;
+mod laned_boxes;
+mod lanes;
+mod marked_skins;
+mod mending;
 mod skin;
 mod skinned;
 

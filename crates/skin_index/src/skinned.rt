@@ -1,16 +1,18 @@
-//! The broad phase of boxes in skins: changes, the kept pairs of the skins, and queries.
+//! The broad phase of boxes in skins: changes, and pairs and queries of the skins that the exact boxes decide.
 
 ghost use Rattle.std.specs.Prelude.{◌≡◌, ◌&&◌, false, IfOk, refl};
 ghost use Rattle.std.proofs.Common.{ap};
 ghost use Rattle.broad_index.specs.Fresh.{IsFresh};
 ghost use Rattle.skin_index.specs.Skins.{is_inside};
 
-use crate::filtering::{keep_found, keep_meeting};
+use crate::exact::{keep_found, push_meeting};
+use crate::laned_boxes::LanedBoxes;
+use crate::marked_skins::MarkedSkins;
+use crate::mending::{MendingRoom, mend, push_others};
 use crate::skin::skin_of;
-use broad_index::{BroadPhase, NoSeeker, Pair, Query, member_laws};
+use broad_index::{BroadPhase, NoSeeker, Pair, Query, keeping_laws, member_laws};
 use fixed_box::{FBox, NoMemory, box_laws};
 use prepared_query::enclosing_law;
-use slot_lists::SlotBoxes;
 use std::alloc::Global;
 use std::marker::Model;
 
@@ -18,9 +20,11 @@ use std::marker::Model;
 /// moves within its skin is stored, and the index hears nothing of it. Molecular dynamics calls the pairs of the skins a
 /// neighbour list (Verlet, 1967), and physics engines a skin an enlarged AABB, its width a margin.
 ///
-/// The pairs of the skins are kept. `pairs` asks the index for them anew only if a box came, went or left its skin since, and
-/// tests the boxes of each: so a frame in which no box leaves its skin costs a look at each pair of skins, whatever the index.
-/// A query asks the index, and tests the boxes that it finds. A box is kept twice, here and in the index, in 24 bytes a slot.
+/// The pairs of the skins are kept, and slots that came, went or left their skins since are marked. `pairs` tests the boxes
+/// of each kept pair: so a frame in which no box leaves its skin costs a look at each, whatever the index. For each marked slot
+/// it first asks the index what its skin meets, one query by region, and mends the kept pairs by that in one pass. If more than
+/// an eighth of the boxes are marked, and more than 16, it asks for all pairs anew. A query asks the index, and tests the boxes
+/// that it finds. A box is kept here, in 61 bytes a slot, half of which are numbers that are compared at once, and its skin in the index.
 ///
 /// It is for boxes that move by little in a tick, as bodies at rest or near it do. If most boxes jump, the index alone is
 /// faster. How wide skins are is for speed alone, and no clause speaks of it.
@@ -28,12 +32,13 @@ use std::marker::Model;
 /// An engine owns it where it would own the index: `BoxWorld<Skinned<BoxTree>>`. It searches on the caller's thread.
 #[derive(Drop)]
 pub struct Skinned<B: BroadPhase + Drop> {
-    bodies: SlotBoxes,
+    bodies: LanedBoxes,
     // It has the skins.
     index: B,
-    // The pairs of the skins, where they aren't stale.
+    // The pairs of the skins, right but for those of marked skins.
     near: Vec<Pair>,
-    stale: bool,
+    marked: MarkedSkins,
+    room: MendingRoom,
     spent: bool,
 }
 
@@ -47,7 +52,7 @@ impl<B: BroadPhase + Drop> Model for Skinned<B> {
 
     ghost view = { λ s. record { bodies = s.bodies; spent = s.spent } };
 
-    ghost invariant = { λ s. IsSkinned s.bodies (B.bodies s.index) (B.spent s.index) s.spent s.stale s.near.items };
+    ghost invariant = { λ s. IsSkinned s.bodies (B.bodies s.index) (B.spent s.index) s.spent s.marked s.near.items };
 }
 
 impl<B: BroadPhase + Drop> Skinned<B> {
@@ -57,10 +62,11 @@ impl<B: BroadPhase + Drop> Skinned<B> {
         ensures { IfOk result (λ index. IsFresh index.bodies index.spent 0) }
     {
         Ok(Skinned {
-            bodies: SlotBoxes::new(alloc)?,
+            bodies: LanedBoxes::new(alloc)?,
             index,
             near: Vec::new(alloc),
-            stale: true,
+            marked: MarkedSkins::new(alloc)?,
+            room: MendingRoom::new(alloc),
             spent: false,
         })
     }
@@ -93,9 +99,10 @@ impl<B: BroadPhase + Drop> BroadPhase for Skinned<B> {
         if self.spent {
             return Err(NoMemory);
         }
+        keeping_laws();
         // what an index counts of skins is told to nobody, and never comes to its end
         self.index.clear_exchanges();
-        self.stale = true;
+        self.marked.mark(slot);
         match self.index.add(slot, skin_of(&None, &body)) {
             Ok(()) => {
                 self.bodies.put(slot, body);
@@ -116,9 +123,10 @@ impl<B: BroadPhase + Drop> BroadPhase for Skinned<B> {
             self.bodies.set(slot, body);
             return Ok(());
         }
-        self.index.clear_exchanges();
-        self.stale = true;
+        keeping_laws();
         let before = self.bodies.box_of(slot);
+        self.index.clear_exchanges();
+        self.marked.mark(slot);
         match self.index.shift(slot, skin_of(&before, &body)) {
             Ok(()) => {
                 self.bodies.set(slot, body);
@@ -135,7 +143,8 @@ impl<B: BroadPhase + Drop> BroadPhase for Skinned<B> {
         if self.spent {
             return;
         }
-        self.stale = true;
+        keeping_laws();
+        self.marked.mark(slot);
         self.index.leave(slot);
         self.bodies.take(slot);
     }
@@ -146,15 +155,26 @@ impl<B: BroadPhase + Drop> BroadPhase for Skinned<B> {
         if self.spent {
             return Err(NoMemory);
         }
-        if self.stale {
+        if self.marked.are_few(self.index.len()) {
+            let (index, room) = (&self.index, &mut self.room);
+            room.found.clear();
+            let mut rest = self.marked.slots.as_slice();
+            'slots: while let [slot, more @ ..] = rest {
+                if let Some(skin) = index.box_of(*slot) {
+                    room.met.clear();
+                    index.hits(&Query::Region(skin), &mut room.met)?;
+                    push_others(*slot, &mut room.met, &mut room.found)?;
+                }
+                rest = more;
+            }
+            mend(&mut self.near, &self.marked, room)?;
+        } else {
+            self.marked.mark_all();
             self.near.clear();
             self.index.pairs(&mut self.near)?;
-            self.stale = false;
         }
-        let before = out.len();
-        out.extend_from_slice(&self.near)?;
-        keep_meeting(&self.bodies, before, out);
-        Ok(())
+        self.marked.clear();
+        push_meeting(&self.bodies, &self.near, out)
     }
 
     fn hits(&self, query: &Query, out: &mut Vec<u32>) -> Result<(), NoMemory> {

@@ -1,10 +1,10 @@
 -- The box lies in its skin, the old one or a new one.
 use Rattle.std.proofs.Common.{◌≡◌, ◌&&◌, true, sym, ap, ◌∙◌, subst}
-use Rattle.std.proofs.lemmas.Bool.{true≢false}
 use Rattle.std.specs.FinMap.{contains_key, insert}
 use Rattle.fixed_box.proofs.Bools.{and_false}
 use Rattle.skin_index.specs.Skins.{is_inside, AreSkins}
-use Rattle.skin_index.proofs.Skins.{skins_moved, skins_put}
+use Rattle.skin_index.proofs.KeptPairs.{skinned_put}
+use Rattle.skin_index.proofs.Skins.{skins_moved}
 use Rattle.skin_index.proofs.skinned.SkinnedBroadPhase.shift.Goals as goal
 
 pub invariant_of-self : goal.invariant_of-self
@@ -21,18 +21,13 @@ invariant_of-self g c =
       same_spent = c.self.invariant.same_spent;
       held = λ sound. subst (λ m. AreSkins m skins) (sym c.set.ensures)
           (skins_moved s.bodies skins (c.self.invariant.held sound) c.args.slot c.args.body there within);
-      near_is = c.self.invariant.near_is;
+      pairs_kept = c.self.invariant.pairs_kept;
     }
 
 pub invariant_of-self-in-Ok : goal.invariant_of-self-in-Ok
 invariant_of-self-in-Ok g c =
     let s = c.self.inside in
     let old = g.B.BroadPhase.bodies s.index in
-    let before = ap (λ m. insert m c.args.slot c.skin_of.result) c.clear_exchanges.ensures.bodies in
-    record {
-      same_spent = c.in-Ok.ensures.sound ∙ sym c.if-self.false;
-      held = λ sound. subst (λ m. AreSkins c.set-in-Ok.new.self m) (sym (c.in-Ok.ensures.ok ∙ before))
-          (subst (λ m. AreSkins m (insert old c.args.slot c.skin_of.result)) (sym c.set-in-Ok.ensures)
-          (skins_put s.bodies old (c.self.invariant.held sound) c.args.slot c.args.body c.skin_of.result c.skin_of.ensures));
-      near_is = λ sound fresh. absurd (true≢false fresh);
-    }
+    skinned_put s.bodies old (g.B.BroadPhase.spent s.index) s.spent s.marked s.near.items c.self.invariant c.if-self.false (c.keeping_laws.ensures.inserted old)
+    c.args.slot c.args.body c.skin_of.result c.skin_of.ensures c.mark.new.self c.mark.ensures.were_few c.mark.ensures.are c.mark.ensures.marks
+    _ _ _ c.set-in-Ok.ensures (c.in-Ok.ensures.ok ∙ ap (λ m. insert m c.args.slot c.skin_of.result) c.clear_exchanges.ensures.bodies) c.in-Ok.ensures.sound
