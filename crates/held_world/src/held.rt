@@ -175,10 +175,12 @@ impl HeldWorld {
         ensures structure { structure_of self.new.world ≡ structure_of self.old.world }
         ensures found { self.new.found ≡ self.old.found }
     {
-        if self.world.is_spent() {
-            return Err(NO_MEMORY);
-        }
-        let body = body_of(body).ok_or(INVERTED)?;
+        let Some(body) = body_of(body) else {
+            if self.world.is_spent() {
+                return Err(NO_MEMORY);
+            }
+            return Err(INVERTED);
+        };
         self.world.add(body, masks, group).map_err(status_of)
     }
 
@@ -188,10 +190,10 @@ impl HeldWorld {
         ensures structure { structure_of self.new.world ≡ structure_of self.old.world }
         ensures found { self.new.found ≡ self.old.found }
     {
-        if self.world.is_spent() {
-            return Err(NO_MEMORY);
-        }
         let Some(body) = body_of(body) else {
+            if self.world.is_spent() {
+                return Err(NO_MEMORY);
+            }
             return Err(INVERTED);
         };
         match self.world.shift(handle_of(handle), body) {
