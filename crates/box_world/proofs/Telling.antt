@@ -1,5 +1,5 @@
 -- What is told of a frame, from its pairs and what changed.
-use Rattle.std.proofs.Common.{◌≡◌, Bool, true, false, cond, List, [], Option, None, Some, is_some, refl, ap, sym, ◌∙◌}
+use Rattle.std.proofs.Common.{◌≡◌, Bool, true, false, cond, List, [], Option, None, Some, is_some, refl, ap, ◌∙◌}
 use Rattle.std.specs.Cmp.{second_so}
 use Rattle.pair_events.specs.declared.hpair.HPair.{HPair}
 use Rattle.pair_events.specs.PairEvents.{events, missing, told_of, rises, is_in_order}

@@ -15,7 +15,7 @@ use Rattle.world_marks.specs.Marks.{Mark, IsReturn, or_kept}
 use Rattle.world_marks.specs.Undone.{undone}
 use Rattle.box_world.specs.declared.parts.Parts.{Parts}
 use Rattle.box_world.specs.declared.since.Since.{Since}
-use Rattle.box_world.specs.declared.since.Since.TheVariants.{Changed, Moved, Same}
+use Rattle.box_world.specs.declared.since.Since.TheVariants.{Changed, Current, Same}
 use Rattle.box_world.specs.declared.refusal.Refusal.{Refusal}
 use Rattle.box_world.specs.declared.refusal.Refusal.TheVariants.{Stale, Full, Exhausted, NoMemory}
 use Rattle.box_world.specs.World.{World, Timeline}
@@ -54,11 +54,11 @@ abbrev pub state_in : {B : Type 0} → (B → ℕ) → Bool → Parts B → Stat
 state_in exchanges spent p =
     record { time = timeline_in exchanges p; told = told_in p; began = p.began.items; over = p.over.items; spent = spent }
 
--- what still holds after a box moved
-abbrev pub after_move : Since → Since
-after_move Changed = Changed
-after_move Moved = Moved
-after_move Same = Moved
+-- what still holds after a box moved or came
+abbrev pub still_current : Since → Since
+still_current Changed = Changed
+still_current Current = Current
+still_current Same = Current
 
 -- With other last pairs, where a mark kept some; those of the frame that was told of are kept then.
 abbrev pub restored : {B : Type 0} → Bool → List HPair → Parts B → Parts B
@@ -71,7 +71,7 @@ restored keeps last p = record p {
 -- boxes as they stand.
 abbrev pub StillHolds : Since → List Live → List HPair → Type 0
 StillHolds Changed entries last = Unit {0}
-StillHolds Moved entries last = AreCurrent entries last
+StillHolds Current entries last = AreCurrent entries last
 StillHolds Same entries last = last ≡ pairs_of entries
 
 -- What was told is as it was.

@@ -119,12 +119,13 @@ impl<B: BroadPhase + Drop> Parts<B> {
     {
         undo_laws();
         undone_laws();
+        current_laws();
         exchange_law();
         self.index.add(handle.slot, body)?;
         let Ok(_) = self.table.give(body, masks, group) else {
             unreachable!()
         };
-        self.since = Since::Changed;
+        self.since = self.since.still_current();
         self.marks.note(Undo::Given { handle });
         Ok(())
     }
@@ -156,7 +157,7 @@ impl<B: BroadPhase + Drop> Parts<B> {
         let Ok(()) = self.table.set_box(handle, body) else {
             unreachable!()
         };
-        self.since = self.since.after_move();
+        self.since = self.since.still_current();
         if let Some(live) = before {
             self.marks.note(Undo::Moved {
                 handle,

@@ -172,9 +172,9 @@ impl<B: BroadPhase + Drop> BoxWorld<B> {
     /// how many pairs there are; `pairs` has them, and `began`, `over` and `events` tell what became of each. `Exhausted` comes where `MOST_FRAMES_COUNTED` frames have ended. After
     /// any `Err` all is as before.
     ///
-    /// It searches on the caller's thread, and takes a step for each pair of both frames. Where boxes only moved since the last frame,
-    /// boxes are looked up for pairs alone that weren't there; nothing is written of a pair that stays. The list of pairs is a new one,
-    /// since it is kept as the last.
+    /// It searches on the caller's thread, and takes a step for each pair of both frames. Where boxes only moved and came since the last
+    /// frame, boxes are looked up for pairs alone that weren't there; nothing is written of a pair that stays. The list of pairs is a new
+    /// one, since it is kept as the last.
     ///
     /// Where no box came, moved, got other masks or went since the last frame, and nobody went back, nothing is searched, nothing began and
     /// nothing is over: such a frame costs the same however many boxes and pairs there are.

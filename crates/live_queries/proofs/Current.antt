@@ -1,13 +1,12 @@
 -- Pairs of boxes that are live and may pair.
-use Rattle.std.proofs.Common.{◌≡◌, ◌==◌, ℕ, true, false, cond, List, [], ◌∷◌, Option, Some, None, option_map, refl, ap, sym, subst, ◌∙◌, ◌++◌, ◌≤◌, length, take, min, arith}
-use Rattle.std.proofs.lemmas.List.{length-take, take-append-le}
+use Rattle.std.proofs.Common.{◌≡◌, ◌==◌, ℕ, true, false, cond, List, [], ◌∷◌, Option, Some, None, is_some, nat_lt, option_map, refl, ap, sym, subst, ◌∙◌}
 use Rattle.std.specs.List.{filter_map, cons_option}
-use Rattle.std.proofs.lemmas.Bool.{eqb-true}
+use Rattle.std.proofs.lemmas.Bool.{eqb-true, false≢true}
 use Rattle.fixed_box.specs.Bounds.{Bounds}
 use Rattle.live_table.specs.declared.handle.Handle.{Handle}
 use Rattle.live_table.specs.declared.live.Live.{Live}
 use Rattle.live_table.specs.Bodies.{slots_with_bodies}
-use Rattle.live_table.specs.Entries.{slot_of, has, live_at, with_body}
+use Rattle.live_table.specs.Entries.{slot_of, has, live_at, entered, with_body}
 use Rattle.live_table.specs.Pairing.{may}
 use Rattle.live_table.specs.Table.{Table, IsTable}
 use Rattle.broad_index.specs.declared.pair.Pair.{Pair}
@@ -27,7 +26,7 @@ at_slot s (x ∷ xs) e h =
     ] refl h
 
 -- the pair of two slots has them
-touching_slots : (es : List Live) (p : Pair) (h : HPair) → touching es p ≡ Some h → slots_in h ≡ p
+pub touching_slots : (es : List Live) (p : Pair) (h : HPair) → touching es p ≡ Some h → slots_in h ≡ p
 touching_slots es p h is =
     elim (live_at p.a es) as (λ o. live_at p.a es ≡ o → pair_of o (live_at p.b es) ≡ Some h → slots_in h ≡ p) [
       | None ↦ λ _ none. absurd (cc)
@@ -98,9 +97,40 @@ pub moved_current : (es : List Live) (ps : List HPair) (h : Handle) (body : Boun
 moved_current es [] h body are = tt
 moved_current es (p ∷ ps) h body are = (moved_touching es h body (slots_in p) ∙ are.0, moved_current es ps h body are.1)
 
--- what was there stays before one more
-pub kept_on : (n : ℕ) (old out : List HPair) (x : HPair) → length old ≡ n → take n out ≡ old → take n (out ++ x ∷ []) ≡ old
-kept_on n old out x len kept =
-    let short : length old ≡ min n (length out) = ap length (sym kept) ∙ length-take n out in
-    let fits : n ≤ length out = omega (arith, short, len) in
-    take-append-le n out (x ∷ []) fits ∙ kept
+-- a box that came is found under its own slot alone
+entered_at : (s : ℕ) (live : Live) (es : List Live) → (slot_of live == s) ≡ false → live_at s (entered live es) ≡ live_at s es
+entered_at s live [] other = ap (λ t. cond t (Some live) None) other
+entered_at s live (e ∷ es) other =
+    elim (nat_lt (slot_of e) (slot_of live)) as (λ t. live_at s (cond t (e ∷ entered live es) (live ∷ e ∷ es)) ≡ live_at s (e ∷ es)) [
+      | true ↦ ap (λ o. cond (slot_of e == s) (Some e) o) (entered_at s live es other)
+      | false ↦ ap (λ t. cond t (Some live) (live_at s (e ∷ es))) other
+    ]
+
+-- a slot that a live box has isn't one that none has
+other_slot : (s : ℕ) (live : Live) (es : List Live) → live_at (slot_of live) es ≡ None → is_some (live_at s es) ≡ true → (slot_of live == s) ≡ false
+other_slot s live es none some = elim (slot_of live == s) as (λ t. (slot_of live == s) ≡ t → t ≡ false) [
+  | false ↦ λ _. refl
+  | true ↦ λ same.
+      let is : slot_of live ≡ s = eqb-true (slot_of live) s same in
+      absurd (false≢true (sym (ap is_some (ap (λ k. live_at k es) (sym is) ∙ none)) ∙ some))
+] refl
+
+-- both boxes of a pair are live
+first_live : (o q : Option Live) (p : HPair) → pair_of o q ≡ Some p → is_some o ≡ true
+first_live None q p h = absurd (cc)
+first_live (Some a) q p h = refl
+
+second_live : (o q : Option Live) (p : HPair) → pair_of o q ≡ Some p → is_some q ≡ true
+second_live None q p h = absurd (cc)
+second_live (Some a) None p h = absurd (cc)
+second_live (Some a) (Some b) p h = refl
+
+pub entered_current : (es : List Live) (ps : List HPair) (live : Live) → live_at (slot_of live) es ≡ None → AreCurrent es ps → AreCurrent (entered live es) ps
+entered_current es [] live none are = tt
+entered_current es (p ∷ ps) live none are =
+    let a = first_live (live_at p.a.slot es) (live_at p.b.slot es) p are.0 in
+    let b = second_live (live_at p.a.slot es) (live_at p.b.slot es) p are.0 in (
+      ap (λ o. pair_of o (live_at p.b.slot (entered live es))) (entered_at p.a.slot live es (other_slot p.a.slot live es none a))
+          ∙ ap (pair_of (live_at p.a.slot es)) (entered_at p.b.slot live es (other_slot p.b.slot live es none b)) ∙ are.0,
+      entered_current es ps live none are.1,
+    )

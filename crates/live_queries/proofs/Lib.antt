@@ -5,6 +5,7 @@ pub mod Current
 pub mod FoundSlots
 pub mod HitOf
 pub mod InOrder
+pub mod Merged
 pub mod MetOnWay
 pub mod NearestHandles
 pub mod PairMembers

@@ -1,6 +1,6 @@
 //! What is known of the pairs and of the ordered queries of a table, for proofs.
 
-ghost use Rattle.std.specs.Prelude.{◌≡◌, ◌↔◌, ◌*◌, ◌≤◌, ℕ, true, ◌&&◌, List, Option, map, filter, length};
+ghost use Rattle.std.specs.Prelude.{◌≡◌, ◌↔◌, ◌*◌, ◌≤◌, ℕ, true, ◌&&◌, List, Option, None, map, filter, length};
 ghost use Rattle.std.specs.List.{Contains};
 ghost use Rattle.std.specs.List.Sorted.{IsPermutation, IsSorted};
 ghost use Rattle.fixed_box.specs.declared.TheConstants.{SLOTS};
@@ -18,7 +18,7 @@ ghost use Rattle.broad_index.specs.declared.query.Query.TheVariants.{Along};
 ghost use Rattle.pair_events.specs.declared.hpair.HPair.{HPair};
 ghost use Rattle.pair_events.specs.PairEvents.{is_in_order};
 ghost use Rattle.live_table.specs.declared.handle.Handle.{Handle};
-ghost use Rattle.live_table.specs.Entries.{with_body};
+ghost use Rattle.live_table.specs.Entries.{slot_of, live_at, entered, with_body};
 ghost use Rattle.live_queries.specs.InHandles.{AreCurrent};
 ghost use Rattle.live_queries.specs.PairLaw.{IsPairOf};
 ghost use Rattle.live_queries.specs.Pairs.{pairs_of, hits_of, is_asked_for};
@@ -39,10 +39,12 @@ pub fn pairs_law()
 {}
 
 /// Laws of pairs whose boxes are live and may pair, for proofs, with nothing to run: the pairs of a table are such, and such pairs stay so
-/// while boxes only move.
+/// while boxes only move and come.
 pub fn current_laws()
     ensures pairs { (t : Table) → IsTable t → AreCurrent t.entries (pairs_of t.entries) }
     ensures moved { (es : List Live) (pairs : List HPair) (handle : Handle) (body : Bounds) → AreCurrent es pairs → AreCurrent (with_body handle body es) pairs }
+    ensures entered { (es : List Live) (pairs : List HPair) (live : Live) → live_at (slot_of live) es ≡ None → AreCurrent es pairs
+        → AreCurrent (entered live es) pairs }
 {}
 
 /// Laws of the queries in an order of their own, for proofs, with nothing to run. A ray by entry has the handles of the ray

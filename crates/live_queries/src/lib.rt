@@ -16,4 +16,4 @@ pub use hits::push_hits;
 pub use laws::{current_laws, pairs_law, queries_law};
 pub use met::{push_cast, push_entered};
 pub use nearest::{NearQuery, push_nearest};
-pub use pairs::{push_pairs, push_pairs_after};
+pub use pairs::{push_pairs, push_pairs_and_changes};

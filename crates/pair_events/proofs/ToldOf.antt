@@ -1,5 +1,5 @@
 -- What is told of a frame, from what began and what is over.
-use Rattle.std.proofs.Common.{◌≡◌, Bool, true, false, cond, not, ◌&&◌, ◌||◌, List, [], ◌∷◌, ◌++◌, map, filter, refl, sym, ap, ◌∙◌, arith}
+use Rattle.std.proofs.Common.{◌≡◌, Bool, true, false, cond, not, ◌||◌, List, [], ◌∷◌, ◌++◌, map, filter, refl, ap, ◌∙◌, arith}
 use Rattle.std.proofs.lemmas.Bool.Decides.{nat_tests}
 use Rattle.pair_events.specs.declared.hpair.HPair.{HPair}
 use Rattle.pair_events.specs.declared.told.Told.{Told}
@@ -7,20 +7,14 @@ use Rattle.pair_events.specs.declared.told.Event.{Event}
 use Rattle.pair_events.specs.declared.told.Event.TheVariants.{Begin, Stay, Over}
 use Rattle.pair_events.specs.PairEvents.{events, ended, has, kept_or_begun, same_pair}
 use Rattle.pair_events.specs.PairEvents.{missing, changes, told_of, precedes, rises, is_change}
-use Rattle.pair_events.proofs.Missing.{apart_after, later_after}
+use Rattle.pair_events.specs.MissingLaws.{apart_after, later_after}
 use Rattle.slot_lists.specs.RisingLaws.{later_rise}
-use Rattle.std.proofs.Common.{length, suc, ◌+◌}
+use Rattle.std.proofs.Common.{length, ◌+◌}
 use Rattle.std.proofs.lemmas.List.{length-map}
-use Rattle.std.proofs.Common.{◌==◌}
-use Rattle.std.specs.List.{list_all, list_any}
+use Rattle.std.specs.List.{list_all}
 use Rattle.std.specs.Cmp.{first_so, second_so}
 use Rattle.std.specs.Cmp.Derive.{both_true}
 use Rattle.slot_lists.specs.RisingLaws.{all_weaker}
-use Rattle.live_table.specs.declared.handle.Handle.{Handle}
-use Rattle.std.proofs.lemmas.Bool.{eqb-true, eq-eqb, and_parts, and_from, cases_Bool}
-use Rattle.pair_events.specs.PairEvents.{same_handle}
-use Rattle.fixed_box.proofs.Bools.{and_false}
-use Rattle.std.proofs.Common.{inl, inr}
 
 self_same : (p : HPair) → same_pair p p ≡ true
 self_same p = grind (arith, nat_tests)

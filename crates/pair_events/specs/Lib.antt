@@ -1,1 +1,2 @@
+pub mod MissingLaws
 pub mod PairEvents

@@ -44,9 +44,10 @@ impl PairTable {
         }
     }
 
-    /// The pairs of the last frame.
+    /// The pairs of the last frame, which rise as those of `turn` do.
     pub fn last(&self) -> &[HPair]
-        ensures { result.now ≡ self.now }
+        ensures value { result.now ≡ self.now }
+        ensures order { is_in_order self.now ≡ true }
     {
         &self.last
     }
@@ -108,11 +109,14 @@ impl PairTable {
         Ok(mem::replace(&mut self.last, now))
     }
 
-    /// Makes these the pairs of the last frame. Nothing is told of what that changes. They rise as those of `turn` do.
-    pub fn set_last(&mut self, last: Vec<HPair>)
+    /// Makes these the pairs of the last frame, and answers the former ones. Nothing is told of what that changes. They rise as those
+    /// of `turn` do.
+    pub fn set_last(&mut self, last: Vec<HPair>) -> Vec<HPair>
         requires { is_in_order last.items ≡ true }
-        ensures { self.new ≡ last.items }
+        ensures former { result.items ≡ self.old }
+        ensures order { is_in_order result.items ≡ true }
+        ensures kept { self.new ≡ last.items }
     {
-        self.last = last;
+        mem::replace(&mut self.last, last)
     }
 }

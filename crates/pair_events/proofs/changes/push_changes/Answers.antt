@@ -1,9 +1,9 @@
 -- Of two first pairs the lower one is alone, and where they have the same slots both go.
-use Rattle.std.proofs.Common.{◌≡◌, true, false, List, [], ◌∷◌, ◌++◌, refl, sym, ap, ◌∙◌}
+use Rattle.std.proofs.Common.{◌≡◌, true, false, ◌∷◌, ◌++◌, sym, ap, ◌∙◌}
 use Rattle.slot_lists.specs.RisingLaws.{later_rise}
 use Rattle.pair_events.specs.PairEvents.{precedes, rises, same_pair}
 use Rattle.pair_events.specs.PairEvents.{missing}
-use Rattle.pair_events.proofs.Missing.{rest_missing, none_missing, lone, passed, stayed, renewed, pushed, same_level, same_turned}
+use Rattle.pair_events.specs.MissingLaws.{rest_missing, none_missing, lone, passed, stayed, renewed, pushed, same_level, same_turned}
 use Rattle.pair_events.proofs.changes.push_changes.Goals.{in-Some+in_default-split_first, in_default}
 use Rattle.pair_events.proofs.changes.push_changes.Goals as goal
 

@@ -4,14 +4,15 @@ use Rattle.std.specs.FinMap.{contains_key, entries, insert}
 use Rattle.fixed_box.specs.declared.TheConstants.{SLOTS}
 use Rattle.live_table.specs.Bodies.{slots_with_bodies, bodies_of}
 use Rattle.live_table.specs.Entries.{entry_at}
-use Rattle.live_table.specs.Table.{IsLeastFree, least_free, after_give, after_ungive}
+use Rattle.live_table.specs.Table.{IsLeastFree, least_free, next_handle, after_give, after_ungive}
 use Rattle.broad_index.specs.Exchanges.{passed_from_above}
 use Rattle.world_marks.specs.declared.undo.Undo.TheVariants.{Given}
 use Rattle.world_marks.specs.Marks.{noted, with_newest}
-use Rattle.box_world.specs.Parts.{world_in, worlds_back}
+use Rattle.box_world.specs.Parts.{world_in, worlds_back, StillHolds, still_current}
 use Rattle.box_world.specs.World.{added, counted, exchanges_of_add}
 use Rattle.box_world.proofs.Counted.{counted_on, still_fits}
 use Rattle.box_world.proofs.Marked.{changed_worlds, changed_returns, same_world, same_time}
+use Rattle.box_world.proofs.StillHolding.{still_holds_with}
 use Rattle.box_world.proofs.parts.Parts.add.Goals as goal
 
 pub add-requires-clause-absent : goal.add-requires-clause-absent
@@ -61,6 +62,9 @@ returns-clause-added g c =
             c.note.new.self.marks marks can back kept.returns;
         counted = still_fits (old.earlier + exchanges c.add.new.self) (old.earlier + exchanges old.index) (counted counts (exchanges_of_add w body)) total
             c.requires.countable (c.exchange_law.ensures.added counts w body kept.table);
-        since = tt;
+        since = subst (λ s. StillHolds s c.give.new.self.entries old.pair_table) (sym c.still_current-self.ensures)
+            (subst (λ s. StillHolds (still_current old.since) s.entries old.pair_table) (sym given.given)
+            (still_holds_with c.current_laws.ensures.pairs c.current_laws.ensures.entered old.since t old.pair_table
+            (record { handle = next_handle t; body = body; masks = c.args.masks; group = c.args.group }) kept.table least.free kept.since));
       };
     }

@@ -1,5 +1,5 @@
 -- The former pairs are kept in the newest mark, where that has none.
-use Rattle.std.proofs.Common.{◌≡◌, ◌++◌, refl, ap, ◌∙◌, subst, true, reverse}
+use Rattle.std.proofs.Common.{◌≡◌, refl, ap, ◌∙◌, subst, true, reverse}
 use Rattle.pair_events.specs.PairEvents.{is_in_order, missing}
 use Rattle.live_queries.specs.Pairs.{pairs_of}
 use Rattle.world_marks.specs.Marks.{keeping, with_newest}
@@ -17,21 +17,17 @@ returns-clause-told g c =
     let turned = c.in_ok-former.ensures in
     let marks : c.keep.new.self.marks ≡ with_newest (keeping old.pair_table) old.marks.marks = c.keep.ensures.kept
     ∙ ap (λ last. with_newest (keeping last) old.marks.marks) turned.former in
-    let these : c.push_now.new.now.items ≡ pairs = c.in_ok-push_now.ensures.ok
-    ∙ ap (λ xs. xs ++ pairs) c.in_ok-now.ensures.items in
-    let last : c.turn_changes.new.self ≡ pairs = turned.kept ∙ these in
+    let last : c.turn_pairs.new.pair_table ≡ pairs = turned.last in
     let ordered : is_in_order old.pair_table ≡ true = subst (λ last. is_in_order last ≡ true) turned.former turned.order in
-    let began : c.swap.new.x.items ≡ missing pairs old.pair_table = ap (λ v. v.items) c.swap.ensures.x_after ∙ turned.began
-    ∙ ap (λ ps. missing ps old.pair_table) these in
-    let over : c.swap-2.new.x.items ≡ missing old.pair_table pairs = ap (λ v. v.items) c.swap-2.ensures.x_after ∙ turned.over
-    ∙ ap (missing old.pair_table) these in
+    let began : c.swap.new.x.items ≡ missing pairs old.pair_table = ap (λ v. v.items) c.swap.ensures.x_after ∙ turned.began in
+    let over : c.swap-2.new.x.items ≡ missing old.pair_table pairs = ap (λ v. v.items) c.swap-2.ensures.x_after ∙ turned.over in
     record {
-      time = same_time (record w { last = c.turn_changes.new.self }) (record w { last = pairs })
-          (worlds_back (record w { last = c.turn_changes.new.self }) (reverse c.keep.new.self.marks)) (worlds_back w (reverse old.marks.marks))
-          (same_world old.table old.table c.turn_changes.new.self pairs old.frames old.frames w.exchanges w.exchanges refl last refl refl)
-          (framed_worlds w c.turn_changes.new.self old.frames w.exchanges old.marks.marks c.keep.new.self.marks marks);
+      time = same_time (record w { last = c.turn_pairs.new.pair_table }) (record w { last = pairs })
+          (worlds_back (record w { last = c.turn_pairs.new.pair_table }) (reverse c.keep.new.self.marks)) (worlds_back w (reverse old.marks.marks))
+          (same_world old.table old.table c.turn_pairs.new.pair_table pairs old.frames old.frames w.exchanges w.exchanges refl last refl refl)
+          (framed_worlds w c.turn_pairs.new.pair_table old.frames w.exchanges old.marks.marks c.keep.new.self.marks marks);
       tells = record {
-        told = told_changes c.change_laws.ensures.told old.pair_table pairs c.turn_changes.new.self c.swap.new.x.items c.swap-2.new.x.items
+        told = told_changes c.change_laws.ensures.told old.pair_table pairs c.turn_pairs.new.pair_table c.swap.new.x.items c.swap-2.new.x.items
             (c.pairs_law.ensures.order old.table kept.table) last began over;
         began = began;
         over = over;

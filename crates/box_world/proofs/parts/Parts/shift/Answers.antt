@@ -5,7 +5,7 @@ use Rattle.live_table.specs.Entries.{entry_at}
 use Rattle.live_table.specs.Table.{after_set_box}
 use Rattle.world_marks.specs.declared.undo.Undo.TheVariants.{Moved}
 use Rattle.world_marks.specs.Marks.{noted, with_newest}
-use Rattle.box_world.specs.Parts.{world_in, worlds_back, IsToNote, StillHolds, after_move}
+use Rattle.box_world.specs.Parts.{world_in, worlds_back, IsToNote, StillHolds, still_current}
 use Rattle.box_world.specs.World.{moved, counted, exchanges_of_move}
 use Rattle.box_world.proofs.Counted.{counted_on, still_fits, move_passes}
 use Rattle.box_world.proofs.Marked.{changed_worlds, changed_returns, unmarked_worlds, unmarked_returns, same_world, same_time}
@@ -62,8 +62,8 @@ returns-in-Some-clause-moved g c =
             old.marks.marks c.note.new.self.marks marks can back kept.returns;
         counted = still_fits (old.earlier + exchanges c.shift.new.self) (old.earlier + exchanges old.index) (counted counts number) total
             c.requires.countable (c.exchange_law.ensures.moved counts w handle body kept.table);
-        since = subst (λ s. StillHolds s c.set_box.new.self.entries old.pair_table) (sym c.after_move-self.ensures)
-            (subst (λ s. StillHolds (after_move old.since) s.entries old.pair_table) (sym table)
+        since = subst (λ s. StillHolds s c.set_box.new.self.entries old.pair_table) (sym c.still_current-self.ensures)
+            (subst (λ s. StillHolds (still_current old.since) s.entries old.pair_table) (sym table)
             (still_holds c.current_laws.ensures.pairs c.current_laws.ensures.moved old.since t old.pair_table handle body kept.table kept.since));
       };
     }
@@ -103,8 +103,8 @@ returns-in_default-before-clause-moved g c =
         returns = unmarked_returns c.set_box.new.self old.marks.marks old.marks.marks none refl;
         counted = still_fits (old.earlier + exchanges c.shift.new.self) (old.earlier + exchanges old.index) (counted counts number) total
             c.requires.countable (c.exchange_law.ensures.moved counts w handle body kept.table);
-        since = subst (λ s. StillHolds s c.set_box.new.self.entries old.pair_table) (sym c.after_move-self.ensures)
-            (subst (λ s. StillHolds (after_move old.since) s.entries old.pair_table) (sym table)
+        since = subst (λ s. StillHolds s c.set_box.new.self.entries old.pair_table) (sym c.still_current-self.ensures)
+            (subst (λ s. StillHolds (still_current old.since) s.entries old.pair_table) (sym table)
             (still_holds c.current_laws.ensures.pairs c.current_laws.ensures.moved old.since t old.pair_table handle body kept.table kept.since));
       };
     }

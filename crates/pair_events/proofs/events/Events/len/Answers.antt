@@ -1,5 +1,5 @@
 -- Each pair of the frame is told once, and each that is over.
-use Rattle.std.proofs.Common.{◌≡◌, length, sym, ap, ◌∙◌}
+use Rattle.std.proofs.Common.{length, sym, ap, ◌∙◌}
 use Rattle.pair_events.proofs.ToldOf.{length_told}
 use Rattle.pair_events.proofs.events.Events.len.Goals as goal
 

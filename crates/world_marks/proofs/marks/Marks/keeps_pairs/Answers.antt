@@ -1,5 +1,5 @@
 -- The newest mark is the last one.
-use Rattle.std.proofs.Common.{ap, sym, ◌∙◌}
+use Rattle.std.proofs.Common.{ap, ◌∙◌}
 use Rattle.world_marks.proofs.Newest.{newest_keeps, none_newest, some_newest}
 use Rattle.world_marks.proofs.marks.Marks.keeps_pairs.Goals as goal
 

@@ -1,5 +1,5 @@
--- What one of two rising lists has and the other hasn't, one step of a merge at a time.
-use Rattle.std.proofs.Common.{◌≡◌, true, false, cond, not, List, length, [], ◌∷◌, ◌++◌, filter, refl, sym, ap, ◌∙◌, append_assoc, arith}
+-- Serves proofs alone: what one of two rising lists has and the other hasn't, one step of a merge at a time.
+use Rattle.std.proofs.Common.{◌≡◌, true, false, cond, not, List, length, [], ◌∷◌, ◌++◌, refl, sym, ap, ◌∙◌, append_assoc, arith}
 use Rattle.std.specs.List.{list_all}
 use Rattle.std.specs.Cmp.{first_so, second_so}
 use Rattle.std.specs.Cmp.Derive.{both_true}
@@ -32,7 +32,7 @@ same_turned p q = elim (same_pair p q) as (λ t. same_pair p q ≡ t → t ≡ s
   | false ↦ λ h. let back : same_pair q p ≡ false = grind (arith, nat_tests) in sym back
 ] refl
 
-all_after : (p q : HPair) (ps : List HPair) → precedes p q ≡ true → list_all (precedes q) ps ≡ true → list_all (precedes p) ps ≡ true
+pub all_after : (p q : HPair) (ps : List HPair) → precedes p q ≡ true → list_all (precedes q) ps ≡ true → list_all (precedes p) ps ≡ true
 all_after p q ps h = all_weaker (precedes q) (precedes p) (λ r k. precedes_trans p q r h k) ps
 
 all_level : (p q : HPair) (ps : List HPair) → precedes p q ≡ false → precedes q p ≡ false → list_all (precedes q) ps ≡ true → list_all (precedes p) ps ≡ true
@@ -45,7 +45,7 @@ none_after p (q ∷ ps) h =
     rw no (none_after p ps (second_so (precedes p q) (list_all (precedes p) ps) h))
 
 -- a pair before all of a list is none of theirs
-not_of_theirs : (p : HPair) (ps others : List HPair) → list_all (precedes p) ps ≡ true → missing ps (p ∷ others) ≡ missing ps others
+pub not_of_theirs : (p : HPair) (ps others : List HPair) → list_all (precedes p) ps ≡ true → missing ps (p ∷ others) ≡ missing ps others
 not_of_theirs p [] others h = refl
 not_of_theirs p (q ∷ ps) others h =
     let no : same_pair q p ≡ false = apart_before q p (first_so (precedes p q) (list_all (precedes p) ps) h) in
@@ -77,6 +77,17 @@ pub renewed : (p : HPair) (ps : List HPair) (q : HPair) (qs : List HPair) → pr
 renewed p ps q qs h k differs r s =
     let none : has qs p ≡ false = none_after p qs (all_level p q qs h k (later_after q qs s)) in
     rw (differs, none) (ap (λ l. p ∷ l) (not_of_theirs q ps qs (all_level q p ps k h (later_after p ps r))))
+
+itself : (p : HPair) → same_pair p p ≡ true
+itself p = grind (arith, nat_tests)
+
+-- the same pair is the first of both
+pub both_first : (p : HPair) (ps others : List HPair) → list_all (precedes p) ps ≡ true → missing (p ∷ ps) (p ∷ others) ≡ missing ps others
+both_first p ps others h = rw (itself p) (not_of_theirs p ps others h)
+
+-- a pair before all of the others is none of theirs
+pub first_alone : (p : HPair) (ps others : List HPair) → list_all (precedes p) others ≡ true → missing (p ∷ ps) others ≡ p ∷ missing ps others
+first_alone p ps others h = front p ps others (none_after p others h)
 
 -- what was pushed, and what follows it
 pub pushed : (now before : List HPair) (x : HPair) (rest all : List HPair) → now ≡ before ++ x ∷ [] → all ≡ x ∷ rest → now ++ rest ≡ before ++ all
