@@ -1,4 +1,4 @@
-// Times a frame in process: each structure of the library, and Bullet's dynamic tree and Embree where it is built with them, over the
+// Times a frame in process: each structure of the library, and Bullet's dynamic tree, Embree and CGAL where it is built with them, over the
 // same moving boxes and the same questions. Text is nowhere. All answers are compared by a sum before any time is told.
 //
 // A frame is what an engine does that keeps something for each pair: it tells what moved, has the pairs found, and hears which began and
@@ -6,9 +6,8 @@
 // that its pair cache calls for each pair that comes or goes. No list of all pairs is read in that time. Bullet's pairs are those of
 // enlarged boxes, and some have parted already: which of them meet is found for the sum alone, outside of the time.
 //
-// Embree keeps no pairs. Its tree over all boxes is refitted, or built anew, where a box moved, and is collided with itself, on one
-// thread; each pair that it tells is tested exactly. Then the pairs are sorted and compared with the last list, which tells what began
-// and what is over. "pairs alone" are the same without that sorting and comparing, which is then done outside of the time.
+// Embree and CGAL keep no pairs. Embree's tree over all boxes is refitted, or built anew, where a box moved, and is collided with itself,
+// on one thread; CGAL intersects all boxes anew. Each pair that they tell is tested exactly.
 //
 //     in_process BOXES FRAMES ROUNDS [LOAD..]
 //     in_process SCENE ROUNDS                   a scene of `add`, `move` and `frame` alone, as bench/physics.cpp writes them
@@ -29,6 +28,10 @@
 #endif
 #ifdef WITH_EMBREE
 #include <embree3/rtcore.h>
+#endif
+#ifdef WITH_CGAL
+#include <CGAL/Box_intersection_d/Box_d.h>
+#include <CGAL/box_intersection_d.h>
 #endif
 
 namespace {
@@ -316,19 +319,53 @@ struct Bullet final : Engine {
 };
 #endif
 
-#ifdef WITH_EMBREE
-// The boxes as one geometry of the user's, whose primitives are the slots, in single precision. Coordinates are rounded to the nearest
-// float, which turns no two of them round, so that boxes that meet are among the pairs.
-struct Embree final : Engine {
-    RTCDevice device = rtcNewDevice("threads=1,user_threads=1");
-    RTCScene scene = rtcNewScene(device);
-    RTCGeometry geometry = rtcNewGeometry(device, RTC_GEOMETRY_TYPE_USER);
+// A peer that keeps no pairs: it finds all of them anew where a box moved, tests each exactly, and then sorts and compares them with the
+// last ones, which tells what began and what is over. "pairs alone" leave that out of the time.
+struct Searcher : Engine {
     bool hears_in_time, is_changed = true;
     std::vector<pw_box> bodies;
     std::vector<uint32_t> pairs, last, began, over; // a pair is the lower slot and 13 bits of the higher one
     uint64_t sum = 0;
 
-    Embree(RTCBuildQuality quality, bool hears_in_time) : hears_in_time(hears_in_time) {
+    explicit Searcher(bool hears_in_time) : hears_in_time(hears_in_time) {}
+    virtual void search() = 0;
+    void add(const std::vector<pw_box> &boxes) override { bodies = boxes; }
+    void move(const std::vector<Move> &moves) override {
+        for (const Move &m : moves) bodies[m.slot] = m.body;
+        is_changed |= !moves.empty();
+    }
+    void update() override {
+        began.clear(), over.clear();
+        if (!is_changed) return;
+        pairs.clear();
+        search();
+        if (hears_in_time) hear();
+    }
+    void hear() {
+        std::sort(pairs.begin(), pairs.end());
+        std::set_difference(pairs.begin(), pairs.end(), last.begin(), last.end(), std::back_inserter(began));
+        std::set_difference(last.begin(), last.end(), pairs.begin(), pairs.end(), std::back_inserter(over));
+        std::swap(pairs, last);
+    }
+    uint64_t pairs_sum() override {
+        if (is_changed && !hears_in_time) hear();
+        is_changed = false;
+        for (uint32_t pair : began) sum += pair_key(pair >> 13, pair & 8191);
+        for (uint32_t pair : over) sum -= pair_key(pair >> 13, pair & 8191);
+        return sum;
+    }
+    uint64_t ask(const pw_query &) override { return 0; }
+};
+
+#ifdef WITH_EMBREE
+// The boxes as one geometry of the user's, whose primitives are the slots, in single precision. Coordinates are rounded to the nearest
+// float, which turns no two of them round, so that boxes that meet are among the pairs.
+struct Embree final : Searcher {
+    RTCDevice device = rtcNewDevice("threads=1,user_threads=1");
+    RTCScene scene = rtcNewScene(device);
+    RTCGeometry geometry = rtcNewGeometry(device, RTC_GEOMETRY_TYPE_USER);
+
+    Embree(RTCBuildQuality quality, bool hears_in_time) : Searcher(hears_in_time) {
         rtcSetSceneFlags(scene, RTC_SCENE_FLAG_DYNAMIC);
         rtcSetSceneBuildQuality(scene, RTC_BUILD_QUALITY_LOW);
         rtcSetGeometryBuildQuality(geometry, quality);
@@ -351,42 +388,53 @@ struct Embree final : Engine {
         }
     }
     void add(const std::vector<pw_box> &boxes) override {
-        bodies = boxes;
+        Searcher::add(boxes);
         rtcSetGeometryUserPrimitiveCount(geometry, unsigned(boxes.size()));
         rtcAttachGeometry(scene, geometry);
     }
-    void move(const std::vector<Move> &moves) override {
-        for (const Move &m : moves) bodies[m.slot] = m.body;
-        is_changed |= !moves.empty();
-    }
-    void update() override {
-        began.clear(), over.clear();
-        if (!is_changed) return;
-        pairs.clear();
+    void search() override {
         rtcCommitGeometry(geometry);
         rtcCommitScene(scene);
         rtcCollide(scene, scene, collided, this);
-        if (hears_in_time) hear();
     }
-    void hear() {
-        std::sort(pairs.begin(), pairs.end());
-        std::set_difference(pairs.begin(), pairs.end(), last.begin(), last.end(), std::back_inserter(began));
-        std::set_difference(last.begin(), last.end(), pairs.begin(), pairs.end(), std::back_inserter(over));
-        std::swap(pairs, last);
-    }
-    uint64_t pairs_sum() override {
-        if (is_changed && !hears_in_time) hear();
-        is_changed = false;
-        for (uint32_t pair : began) sum += pair_key(pair >> 13, pair & 8191);
-        for (uint32_t pair : over) sum -= pair_key(pair >> 13, pair & 8191);
-        return sum;
-    }
-    uint64_t ask(const pw_query &) override { return 0; }
 };
 
 template <RTCBuildQuality quality, bool hears_in_time> std::unique_ptr<Engine> embree() {
     return std::make_unique<Embree>(quality, hears_in_time);
 }
+#endif
+
+#ifdef WITH_CGAL
+// CGAL's intersection of boxes, by segment trees and scans, in whole numbers and so exact. It sorts the boxes anew each time.
+struct Cgal final : Searcher {
+    struct Body {
+        int32_t lo[3], hi[3];
+        uint32_t slot;
+    };
+    struct Sides {
+        using Box_parameter = const Body &;
+        using NT = int32_t;
+        using ID = uint32_t;
+        static int dimension() { return 3; }
+        static ID id(const Body &body) { return body.slot; }
+        static NT min_coord(const Body &body, int axis) { return body.lo[axis]; }
+        static NT max_coord(const Body &body, int axis) { return body.hi[axis]; }
+    };
+    std::vector<Body> boxes;
+
+    explicit Cgal(bool hears_in_time) : Searcher(hears_in_time) {}
+    void search() override {
+        boxes.clear();
+        for (uint32_t slot = 0; slot < bodies.size(); slot++) {
+            const pw_box &b = bodies[slot];
+            boxes.push_back({{b.lo.x, b.lo.y, b.lo.z}, {b.hi.x, b.hi.y, b.hi.z}, slot});
+        }
+        CGAL::box_self_intersection_d(
+            boxes.begin(), boxes.end(),
+            [this](const Body &a, const Body &b) { pairs.push_back(std::min(a.slot, b.slot) << 13 | std::max(a.slot, b.slot)); }, Sides(), 500,
+            CGAL::Box_intersection_d::CLOSED);
+    }
+};
 #endif
 
 struct Named {
@@ -414,6 +462,10 @@ const Named engines[] = {
     {"  pairs alone", embree<RTC_BUILD_QUALITY_REFIT, false>, Named::never},
     {"embree, built anew", embree<RTC_BUILD_QUALITY_LOW, true>, Named::never},
     {"  pairs alone", embree<RTC_BUILD_QUALITY_LOW, false>, Named::never},
+#endif
+#ifdef WITH_CGAL
+    {"cgal", [] { return std::unique_ptr<Engine>(new Cgal(true)); }, Named::never},
+    {"  pairs alone", [] { return std::unique_ptr<Engine>(new Cgal(false)); }, Named::never},
 #endif
 };
 
