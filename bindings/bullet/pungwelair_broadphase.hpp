@@ -1,41 +1,33 @@
 // Bullet's btBroadphaseInterface over a world of this library: for a btCollisionWorld or btDiscreteDynamicsWorld in place of
 // btDbvtBroadphase. Bullet's pair cache is fed by the changes of each update alone: a pair that began comes in, one that is over goes out.
 //
-// Bullet's boxes are moved by an origin, scaled, rounded outward to 1/65,536 and cut to -32,768 .. 32,767, by steps that never turn
-// two numbers round: so boxes that meet always have boxes here that meet. A plane or a terrain without end may stand in the world.
-// What lies beyond the range is kept at its rim: it loses no pair, but all boxes beyond one side meet there, so choose origin and scale
-// such that the bodies stand inside (a world in centimetres with a scale of 0.01 reaches 327 km).
+// Bullet's boxes are moved by an origin, scaled, rounded outward to 1/65,536 and cut to -32,768 .. 32,767, so that boxes which meet
+// always have boxes here that meet. A plane or a terrain without end may stand in the world. What lies beyond the range is kept at its rim:
+// it loses no pair, but all boxes beyond one side meet there, so choose origin and scale such that the bodies stand inside (a world in
+// centimetres with a scale of 0.01 reaches 327 km), and a ray that leaves the range while boxes stand at the rim tests each box.
 //
-// Groups and masks are Bullet's, as they stand in each proxy, and a filter callback of the pair cache decides in place of them. At
-// most 8,192 proxies live at once. What can't be kept is told to `Options::refused`, and createProxy gives a null proxy for it, which all
-// calls here take.
+// Groups and masks are Bullet's, as they stand in each proxy, and a filter callback of the pair cache, or a cache of the user's, decides in
+// place of them. What is written there, or taken out of the cache, is seen by the next calculateOverlappingPairs: a pair that may no longer
+// goes out, and one that meets and may comes in. At most 8,192 proxies live at once. What can't be kept is told to `Options::refused`, and
+// createProxy gives a null proxy for it, which all calls here take.
 #ifndef PUNGWELAIR_BROADPHASE_HPP
 #define PUNGWELAIR_BROADPHASE_HPP
 
-#include "pungwelair.hpp"
+#include "bullet_coordinates.hpp"
 #include <BulletCollision/BroadphaseCollision/btBroadphaseInterface.h>
 #include <BulletCollision/BroadphaseCollision/btOverlappingPairCache.h>
 #include <BulletCollision/CollisionDispatch/btCollisionObject.h>
 #include <LinearMath/btAabbUtil2.h>
 #include <algorithm>
-#include <cmath>
 #include <cstring>
 #include <functional>
 #include <memory>
+#include <type_traits>
+#include <unordered_set>
 #include <utility>
 #include <vector>
 
 namespace pungwelair {
-
-// The whole numbers beside a number of raw units within the range, as pw_box_around_double takes them for a lower and an upper side.
-inline int32_t raw_floor(double raw) {
-    int32_t whole = int32_t(raw);
-    return whole - (whole > raw);
-}
-inline int32_t raw_ceiling(double raw) {
-    int32_t whole = int32_t(raw);
-    return whole + (whole < raw);
-}
 
 class BulletBroadphase : public btBroadphaseInterface {
 public:
@@ -43,8 +35,6 @@ public:
         // A place of Bullet's world is (place - origin) * scale here, with a scale above 0.
         btVector3 origin{0, 0, 0};
         double scale = 1;
-        // Two proxies that are each in one of these groups never pair, whatever their masks say. None is, if the user doesn't say so.
-        int fixed_groups = 0;
         // Whether client objects are btCollisionObjects, as those of a btCollisionWorld are: then ghost objects have their pairs at once.
         bool has_collision_objects = true;
         // A pair cache of the user's, which outlives this, or null for one of its own.
@@ -56,56 +46,58 @@ public:
     // Over skins if no structure is named: most bodies of a simulation move by little in each step.
     explicit BulletBroadphase(Structure structure = Structure::skin) : BulletBroadphase(structure, Options()) {}
     explicit BulletBroadphase(Options options) : BulletBroadphase(Structure::skin, std::move(options)) {}
-    BulletBroadphase(Structure structure, Options options)
-        : structure(structure), options(std::move(options)), own(this->options.cache ? nullptr : new btHashedOverlappingPairCache),
-          cache(own ? own.get() : this->options.cache) {
-        renew();
+    BulletBroadphase(Structure structure, Options given)
+        : structure(structure), options(std::move(given)), coordinates(options.origin, options.scale),
+          own(options.cache ? nullptr : new btHashedOverlappingPairCache), cache(own ? own.get() : options.cache), is_open(!own) {
+        if (!renew()) refuse(Status::no_memory);
     }
 
     btBroadphaseProxy* createProxy(const btVector3& low, const btVector3& high, int, void* object, int group, int mask,
                                    btDispatcher*) override {
-        flush();
         auto made = std::make_unique<Proxy>(low, high, object, group, mask);
         Proxy* proxy = made.get();
+        put_right(*proxy);
         proxy->m_uniqueId = ++last_id;
-        Status status = put(*proxy);
-        if (status == Status::no_memory && is_spent() && renew()) status = put(*proxy);
+        Status status = flush() ? put(*proxy) : Status::no_memory;
+        if (is_lost && renew()) status = put(*proxy);
         if (status != Status::ok) return refuse(status, object), nullptr;
         proxy->place = proxies.size();
-        proxies.push_back(std::move(made));
-        if (is_ghost(*proxy)) pair_at_once(*proxy);
+        proxies.push_back({std::move(made), filter_of(*proxy)});
+        pair_with_ghosts(*proxy);
+        if (!is_ghost(object)) return proxy;
+        ghosts.push_back(proxy);
+        pair_at_once(*proxy);
         return proxy;
     }
 
     void destroyProxy(btBroadphaseProxy* given, btDispatcher* dispatcher) override {
         if (!given) return;
-        flush();
         auto& proxy = *static_cast<Proxy*>(given);
-        // Where the flush came to nothing.
-        if (proxy.waits) waiting.erase(std::find(waiting.begin(), waiting.end(), &proxy));
+        // A flush that comes to nothing leaves it among those that wait.
+        if (!flush() || proxy.waits) waiting.erase(std::remove(waiting.begin(), waiting.end(), &proxy), waiting.end());
+        ghosts.erase(std::remove(ghosts.begin(), ghosts.end(), &proxy), ghosts.end());
         if (by_slot[proxy.handle.slot] == &proxy) by_slot[proxy.handle.slot] = nullptr;
-        // Without a mark the library wants no memory for it, and a closed world has no box.
+        // Without a mark the library wants no memory for it, and a world that is lost is opened anew without it.
         static_cast<void>(world.remove(proxy.handle));
         bool was_settled = cache->getNumOverlappingPairs() == settled_pairs;
         cache->removeOverlappingPairsContainingProxy(given, dispatcher);
         if (was_settled) settled_pairs = cache->getNumOverlappingPairs();
-        beyond -= proxy.is_beyond;
+        at_rim -= proxy.is_at_rim;
         std::size_t place = proxy.place;
-        proxies.back()->place = place;
+        proxies.back().proxy->place = place;
         std::swap(proxies[place], proxies.back());
         proxies.pop_back();
         is_changed = true;
     }
 
-    // The box goes to the library with others, at the next question or update. One that stays where it was is no move.
+    // The box goes to the library with others, at the next question or update. One that stays where it was is no move, but of a ghost, to
+    // which others may have come.
     void setAabb(btBroadphaseProxy* given, const btVector3& low, const btVector3& high, btDispatcher*) override {
-        if (!given || (given->m_aabbMin == low && given->m_aabbMax == high)) return;
+        if (!given) return;
         auto& proxy = *static_cast<Proxy*>(given);
-        proxy.m_aabbMin = low;
-        proxy.m_aabbMax = high;
-        if (!proxy.waits) waiting.push_back(&proxy);
-        proxy.waits = true;
-        if (is_ghost(proxy)) pair_at_once(proxy);
+        if (!is_same_place(proxy.m_aabbMin, low)) return move(proxy, low, high);
+        if (!is_same_place(proxy.m_aabbMax, high)) return move(proxy, low, high);
+        if (!ghosts.empty() && proxy.is_ghost && (is_changed || !waiting.empty())) return move(proxy, low, high);
     }
 
     void getAabb(btBroadphaseProxy* proxy, btVector3& low, btVector3& high) const override {
@@ -115,15 +107,18 @@ public:
     }
 
     void calculateOverlappingPairs(btDispatcher* dispatcher) override {
-        if (!flush()) return;
+        if (!flush()) return refuse(Status::no_memory);
         heed_filters();
         bool is_dropped = cache->getNumOverlappingPairs() != settled_pairs;
         if (is_changed && !update(dispatcher)) return;
         drop_early_pairs(dispatcher);
+        // A world that was opened anew tells no pair that is over, and a cache that removes when it is sorted didn't when it was told.
+        if (is_stale || cache->hasDeferredRemoval())
+            drop_pairs(dispatcher, [this](Proxy& a, Proxy& b) { return !are_paired(a, b); });
+        if (is_refiltered) drop_pairs(dispatcher, [this](Proxy& a, Proxy& b) { return !cache->needsBroadphaseCollision(&a, &b); });
         // Pairs that the user took out come again while their boxes meet.
-        if (is_dropped) add_missing_pairs();
-        if (was_renewed || cache->hasDeferredRemoval()) drop_parted_pairs(dispatcher);
-        was_renewed = false;
+        if (is_dropped || is_refiltered) offer_all_pairs();
+        is_stale = is_refiltered = false;
         settled_pairs = cache->getNumOverlappingPairs();
     }
 
@@ -131,28 +126,25 @@ public:
     // rounded on the way. The callback is called in the order in which boxes are met, and may shorten the ray by `m_lambda_max`.
     void rayTest(const btVector3& from, const btVector3& to, btBroadphaseRayCallback& callback, const btVector3& low,
                  const btVector3& high) override {
-        Way way;
-        if (!flush() || !is_within(from, to, low, high, way)) return test_all(from, callback, low, high);
-        std::vector<bool> is_called(way.parts > 1 ? std::size_t(PW_SLOTS) : 0);
+        // A long way is cast by parts, and a box may be met by two of them.
+        std::unordered_set<int> called;
+        BulletCoordinates::Way way = coordinates.way(from, to, low, high);
+        auto each = [&](Proxy& proxy) {
+            if (!may_meet(from, to, low, high, proxy) || !is_reached(from, low, high, proxy, callback)) return;
+            if (way.parts > 1 && !called.insert(proxy.m_uniqueId).second) return;
+            callback.process(&proxy);
+        };
+        static_cast<void>(flush());
+        if (!way.is_whole || (at_rim > 0 && BulletCoordinates::is_cut(way))) return ask_all(each);
         for (int part = 0; part < way.parts; part++) {
-            pw_cast cast = cast_of(way, part, low, high);
-            ask([&](std::vector<pw_handle>& found) { return world.cast_hits(cast, found); },
-                [&](Proxy& proxy) {
-                    if (way.parts > 1 && is_called[proxy.handle.slot]) return;
-                    if (way.parts > 1) is_called[proxy.handle.slot] = true;
-                    if (is_reached(from, callback, proxy, low, high)) callback.process(&proxy);
-                });
+            pw_cast cast = coordinates.cast(way, part, low, high);
+            ask([&](std::vector<pw_handle>& found) { return world.cast_hits(cast, found); }, each);
         }
     }
 
     void aabbTest(const btVector3& low, const btVector3& high, btBroadphaseAabbCallback& callback) override {
         if (low.x() > high.x() || low.y() > high.y() || low.z() > high.z()) return;
-        if (!flush()) return;
-        pw_box box = fixed(low, high).box;
-        ask([&](std::vector<pw_handle>& found) { return world.hits({PW_REGION, ~0u, box.lo, box.hi}, found); },
-            [&](Proxy& proxy) {
-                if (TestAabbAgainstAabb2(low, high, proxy.m_aabbMin, proxy.m_aabbMax)) callback.process(&proxy);
-            });
+        find(low, high, [&](Proxy& proxy) { callback.process(&proxy); });
     }
 
     btOverlappingPairCache* getOverlappingPairCache() override { return cache; }
@@ -163,107 +155,89 @@ public:
         low.setValue(0, 0, 0);
         high.setValue(0, 0, 0);
         for (std::size_t k = 0; k < proxies.size(); k++) {
-            if (k == 0) low = proxies[k]->m_aabbMin, high = proxies[k]->m_aabbMax;
-            low.setMin(proxies[k]->m_aabbMin);
-            high.setMax(proxies[k]->m_aabbMax);
+            const Proxy& proxy = *proxies[k].proxy;
+            if (k == 0) low = proxy.m_aabbMin, high = proxy.m_aabbMax;
+            low.setMin(proxy.m_aabbMin);
+            high.setMax(proxy.m_aabbMax);
         }
     }
 
     void printStats() override {}
 
 private:
-    static constexpr double least = -32768, most = 32767, unit = 65536;
-    // Inverted, as no box is.
-    static constexpr pw_box nowhere{{1, 1, 1}, {0, 0, 0}};
-
     struct Proxy final : btBroadphaseProxy {
         using btBroadphaseProxy::btBroadphaseProxy;
         pw_handle handle{};
-        pw_masks told{};          // the masks that the library has
-        pw_box has = nowhere;     // the box that it has, or nowhere if that isn't known
+        pw_box has{};             // the box that the library has
+        pw_masks told{};          // and the masks
         std::size_t place = 0;    // in the list of all
         bool waits = false;       // a move of it waits
-        bool is_beyond = false;   // its box leaves the range
+        bool is_at_rim = false;   // its box leaves the range, or nearly so
+        bool is_ghost = false;
     };
 
-    // A box as the library takes it.
-    struct Fixed {
-        pw_box box;
-        bool is_beyond;           // it was cut to the range
+    // A proxy, with the filter that was found in it last. Users write there at any time, so each step looks at all of them.
+    struct Kept {
+        std::unique_ptr<Proxy> proxy;
+        uint64_t filter;
     };
 
-    // The way of a ray in units of the library, and the part of it that lies in the range.
-    struct Way {
-        double start[3], by[3], enter = 0, leave = 1;
-        int parts = 1;
-    };
+    using Handles = std::pair<pw_handle, pw_handle>;
 
     Structure structure;
     Options options;
+    BulletCoordinates coordinates;
     std::unique_ptr<btOverlappingPairCache> own;
     btOverlappingPairCache* cache;
+    btOverlapFilterCallback* filter = nullptr;
     World world;
-    std::vector<std::unique_ptr<Proxy>> proxies;
+    std::vector<Kept> proxies;
     std::vector<Proxy*> by_slot = std::vector<Proxy*>(PW_SLOTS);
-    std::vector<Proxy*> waiting;
+    std::vector<Proxy*> waiting, ghosts;
     std::vector<pw_handle> moved;
     std::vector<pw_box> moved_to;
     std::vector<pw_told> changes;
     std::vector<pw_pair> pairs;
-    // Pairs of ghosts that came in before an update told them.
-    std::vector<std::pair<pw_handle, pw_handle>> early;
+    // Pairs of ghosts that came in before an update told them, and pairs of the frame that the cache didn't take.
+    std::vector<Handles> early, turned_down;
     // A room for the answer of each question, since a callback may ask.
     std::vector<std::vector<pw_handle>> rooms;
-    std::size_t depth = 0, beyond = 0, pairs_of_frame = 0;
+    std::size_t depth = 0, at_rim = 0, pairs_of_frame = 0;
     int last_id = 0, settled_pairs = 0;
-    bool is_changed = true, was_renewed = false, is_open_to_all = false;
+    bool is_open;                // the cache's own filter decides, so masks are open in the library
+    bool is_lost = true;         // there is no world to ask, for want of memory
+    bool is_changed = true;      // since the last update
+    bool is_stale = false;       // the cache may have pairs that an earlier world told
+    bool is_refiltered = false;  // the cache may have pairs that its filter refuses now
 
     void refuse(Status status, void* object = nullptr) {
         if (options.refused) options.refused(status, object);
     }
 
-    // What pw_box_around_double gives of a box, cut to the range. It stands here since each box that moves in a step takes it.
-    Fixed fixed(const btVector3& low, const btVector3& high) const {
-        int32_t lo[3], hi[3];
-        bool is_beyond = false;
-        for (int axis = 0; axis < 3; axis++) {
-            double first = here(low, axis), last = here(high, axis);
-            if (!(least <= first && first <= last && last <= most)) is_beyond |= cut(first, last);
-            // The products are exact.
-            lo[axis] = raw_floor(first * unit);
-            hi[axis] = raw_ceiling(last * unit);
-        }
-        return {{{lo[0], lo[1], lo[2]}, {hi[0], hi[1], hi[2]}}, is_beyond};
+    // By their bits, since a NaN that stays is no move either, and without a branch for each number.
+    static bool is_same_place(const btVector3& a, const btVector3& b) {
+        return ((bits(a.x()) ^ bits(b.x())) | (bits(a.y()) ^ bits(b.y())) | (bits(a.z()) ^ bits(b.z()))) == 0;
     }
-    double here(const btVector3& place, int axis) const { return (double(place[axis]) - double(options.origin[axis])) * options.scale; }
-
-    // Cuts an interval to the range, and tells whether it left it. A NaN counts as the end of the range, and an inverted one is turned.
-    static bool cut(double& first, double& last) {
-        bool is_beyond = !(first >= least && last <= most);
-        first = first >= least ? std::min(first, most) : least;
-        last = last <= most ? std::max(last, least) : most;
-        if (first > last) std::swap(first, last);
-        return is_beyond;
+    static std::conditional_t<sizeof(btScalar) == 4, uint32_t, uint64_t> bits(btScalar number) {
+        std::conditional_t<sizeof(btScalar) == 4, uint32_t, uint64_t> bits;
+        std::memcpy(&bits, &number, sizeof bits);
+        return bits;
     }
-
     static bool are_same(const pw_box& a, const pw_box& b) { return std::memcmp(&a, &b, sizeof a) == 0; }
 
-    void note_range(Proxy& proxy, bool is_beyond) {
-        beyond += is_beyond;
-        beyond -= proxy.is_beyond;
-        proxy.is_beyond = is_beyond;
+    static void put_right(Proxy& proxy) {
+        btVector3 low = proxy.m_aabbMin;
+        proxy.m_aabbMin.setMin(proxy.m_aabbMax);
+        proxy.m_aabbMax.setMax(low);
     }
 
-    // One that is in no group pairs with nothing, and is found by questions all the same.
-    pw_masks masks_of(const Proxy& proxy) const {
-        if (is_open_to_all) return {1, ~0u};
-        if (proxy.m_collisionFilterGroup == 0) return {1, 0};
-        return {uint32_t(proxy.m_collisionFilterGroup), uint32_t(proxy.m_collisionFilterMask)};
+    static bool meet(const Proxy& a, const Proxy& b) {
+        return TestAabbAgainstAabb2(a.m_aabbMin, a.m_aabbMax, b.m_aabbMin, b.m_aabbMax);
     }
 
-    bool is_ghost(const Proxy& proxy) const {
-        auto* object = static_cast<btCollisionObject*>(proxy.m_clientObject);
-        return options.has_collision_objects && object && object->getInternalType() == btCollisionObject::CO_GHOST_OBJECT;
+    bool is_ghost(void* object) const {
+        return options.has_collision_objects && object &&
+               static_cast<btCollisionObject*>(object)->getInternalType() == btCollisionObject::CO_GHOST_OBJECT;
     }
 
     // The proxy of a handle, and none if it was destroyed since.
@@ -272,16 +246,41 @@ private:
         return proxy && proxy->handle.generation == handle.generation ? proxy : nullptr;
     }
 
+    // Group and mask by one load.
+    static uint64_t filter_of(const btBroadphaseProxy& proxy) {
+        return uint32_t(proxy.m_collisionFilterGroup) | uint64_t(uint32_t(proxy.m_collisionFilterMask)) << 32;
+    }
+    // One that is in no group pairs with nothing, and is found by questions all the same.
+    pw_masks masks_of(const Proxy& proxy) const {
+        if (is_open) return {1, ~0u};
+        if (proxy.m_collisionFilterGroup == 0) return {1, 0};
+        return {uint32_t(proxy.m_collisionFilterGroup), uint32_t(proxy.m_collisionFilterMask)};
+    }
+
+    void move(Proxy& proxy, const btVector3& low, const btVector3& high) {
+        proxy.m_aabbMin = low;
+        proxy.m_aabbMax = high;
+        put_right(proxy);
+        if (!proxy.waits) waiting.push_back(&proxy);
+        proxy.waits = true;
+        if (proxy.is_ghost) pair_at_once(proxy);
+    }
+
+    void take_place(Proxy& proxy, const BulletCoordinates::Placed& placed) {
+        proxy.has = placed.box;
+        at_rim += placed.is_at_rim;
+        at_rim -= proxy.is_at_rim;
+        proxy.is_at_rim = placed.is_at_rim;
+    }
+
     Status put(Proxy& proxy) {
-        Fixed now = fixed(proxy.m_aabbMin, proxy.m_aabbMax);
+        BulletCoordinates::Placed placed = coordinates.box_around(proxy.m_aabbMin, proxy.m_aabbMax);
         pw_masks masks = masks_of(proxy);
-        bool is_fixed = (proxy.m_collisionFilterGroup & options.fixed_groups) != 0;
-        Status status = world.add({&now.box, 1}, {masks, {0, is_fixed}}, {&proxy.handle, 1}).status;
-        if (status != Status::ok) return status;
+        Status status = world.add({&placed.box, 1}, {masks, {0, 0}}, {&proxy.handle, 1}).status;
+        if (status != Status::ok) return is_lost |= is_spent(), status;
         proxy.told = masks;
-        proxy.has = now.box;
         by_slot[proxy.handle.slot] = &proxy;
-        note_range(proxy, now.is_beyond);
+        take_place(proxy, placed);
         is_changed = true;
         return status;
     }
@@ -291,66 +290,81 @@ private:
         return !info || info->spent != 0;
     }
 
-    // Opens a world anew and adds all boxes as they stand, where memory ran out in a change of the one before.
+    // Opens a world anew and adds all boxes as they stand, where memory ran out in a change of the one before. Not within a question, whose
+    // handles are of the world that it asked.
     bool renew() {
+        if (depth > 0) return false;
         static_cast<void>(world.close());
         std::fill(by_slot.begin(), by_slot.end(), nullptr);
+        early.clear();
+        turned_down.clear();
+        is_stale = is_changed = true;
+        is_lost = world.open(structure) != Status::ok;
+        for (std::size_t k = 0; k < proxies.size() && !is_lost; k++) is_lost = put(*proxies[k].proxy) != Status::ok;
+        if (is_lost) return false;
+        for (Proxy* proxy : waiting) proxy->waits = false;
         waiting.clear();
-        is_changed = was_renewed = true;
-        Status status = world.open(structure);
-        for (auto& proxy : proxies) {
-            proxy->waits = false;
-            if (status == Status::ok) status = put(*proxy);
-        }
-        if (status == Status::ok) return true;
-        static_cast<void>(world.close());
-        refuse(status);
-        return false;
+        return true;
     }
 
     // Hands the moves on that wait. False if there is no world to ask, for want of memory.
     bool flush() {
-        if (!world.info() && !renew()) return false;
+        if (is_lost) return renew();
         if (waiting.empty()) return true;
         moved.clear();
         moved_to.clear();
         for (Proxy* proxy : waiting) {
-            Fixed now = fixed(proxy->m_aabbMin, proxy->m_aabbMax);
-            note_range(*proxy, now.is_beyond);
-            proxy->waits = false;
+            BulletCoordinates::Placed placed = coordinates.box_around(proxy->m_aabbMin, proxy->m_aabbMax);
             // A body that trembles at rest often has the same box here.
-            if (are_same(now.box, proxy->has)) continue;
-            proxy->has = now.box;
-            moved.push_back(proxy->handle);
-            moved_to.push_back(now.box);
+            if (!are_same(placed.box, proxy->has)) {
+                moved.push_back(proxy->handle);
+                moved_to.push_back(placed.box);
+            }
+            take_place(*proxy, placed);
+            proxy->waits = false;
         }
         Status status = moved.empty() ? Status::ok : world.move(moved, moved_to).status;
-        if (status == Status::no_memory && is_spent()) return renew();
         is_changed |= !moved.empty();
         if (status == Status::ok) waiting.clear();
         else wait_again(status);
-        return true;
+        return !is_lost || renew();
     }
 
-    // Moves that were refused wait for the next time, and which of them were done isn't known.
+    // Moves that were refused wait for the next time.
     void wait_again(Status status) {
         for (Proxy* proxy : waiting) {
             proxy->waits = true;
-            proxy->has = nowhere;
+            if (auto live = world.get(proxy->handle)) proxy->has = live->body;
         }
-        refuse(status);
+        is_lost = is_spent();
+        if (!is_lost) refuse(status);
     }
 
-    // Tells the library the masks that were written into proxies, or that a callback decides from now on.
+    // Sees what was written into proxies, and what filter the cache has.
     void heed_filters() {
-        is_open_to_all = cache->getOverlapFilterCallback() != nullptr;
-        for (auto& proxy : proxies) {
-            pw_masks masks = masks_of(*proxy);
-            if (masks.is == proxy->told.is && masks.sees == proxy->told.sees) continue;
-            Status status = world.mask(proxy->handle, masks);
-            if (status != Status::ok) refuse(status);
-            else proxy->told = masks, is_changed = true;
+        if (cache->getOverlapFilterCallback() != filter) heed_callback();
+        for (Kept& kept : proxies)
+            if (filter_of(*kept.proxy) != kept.filter) heed(kept);
+    }
+
+    void heed(Kept& kept) {
+        Proxy& proxy = *kept.proxy;
+        pw_masks masks = masks_of(proxy);
+        if (masks.is != proxy.told.is || masks.sees != proxy.told.sees) {
+            Status status = world.mask(proxy.handle, masks);
+            if (status != Status::ok) return refuse(status);
+            proxy.told = masks;
         }
+        kept.filter = filter_of(proxy);
+        is_changed = true;
+        is_refiltered |= is_open;
+    }
+
+    void heed_callback() {
+        filter = cache->getOverlapFilterCallback();
+        is_open = filter || !own;
+        is_changed = is_refiltered = true;
+        for (Kept& kept : proxies) heed(kept);
     }
 
     bool update(btDispatcher* dispatcher) {
@@ -360,11 +374,12 @@ private:
         pairs_of_frame = frame.pairs;
         changes.resize(frame.changes);
         static_cast<void>(world.changes(0, changes));
+        offer_again();
         for (const pw_told& told : changes) {
             Proxy *a = proxy_of(told.pair.a), *b = proxy_of(told.pair.b);
             // Bullet has taken the pairs of a destroyed proxy out already.
             if (!a || !b) continue;
-            if (told.event == PW_BEGIN) add_pair(*a, *b);
+            if (told.event == PW_BEGIN) offer(*a, *b);
             else cache->removeOverlappingPair(a, b, dispatcher);
         }
         return true;
@@ -372,139 +387,105 @@ private:
 
     bool add_pair(Proxy& a, Proxy& b) { return !cache->findPair(&a, &b) && cache->addOverlappingPair(&a, &b); }
 
-    void add_missing_pairs() {
-        pairs.resize(pairs_of_frame);
-        static_cast<void>(world.pairs(0, pairs));
-        for (const pw_pair& pair : pairs) {
-            Proxy *a = proxy_of(pair.a), *b = proxy_of(pair.b);
-            if (a && b) add_pair(*a, *b);
+    void offer(Proxy& a, Proxy& b) {
+        if (!cache->findPair(&a, &b) && !cache->addOverlappingPair(&a, &b)) turned_down.push_back({a.handle, b.handle});
+    }
+
+    // A filter of the user's may take later what it refused, so it is asked again when something has changed.
+    void offer_again() {
+        std::vector<Handles> asked;
+        asked.swap(turned_down);
+        for (const Handles& pair : asked) {
+            Proxy *a = proxy_of(pair.first), *b = proxy_of(pair.second);
+            if (a && b && are_paired(*a, *b)) offer(*a, *b);
         }
     }
 
-    // A ghost is asked for its pairs between two steps, so it has them at once.
-    void pair_at_once(Proxy& ghost) {
-        if (!flush()) return;
-        pw_box box = fixed(ghost.m_aabbMin, ghost.m_aabbMax).box;
+    void offer_all_pairs() {
+        pairs.resize(pairs_of_frame);
+        static_cast<void>(world.pairs(0, pairs));
+        turned_down.clear();
+        for (const pw_pair& pair : pairs) {
+            Proxy *a = proxy_of(pair.a), *b = proxy_of(pair.b);
+            if (a && b) offer(*a, *b);
+        }
+    }
+
+    // Calls for each proxy whose box meets a region.
+    template <class Each>
+    void find(const btVector3& low, const btVector3& high, Each&& each) {
+        static_cast<void>(flush());
+        pw_box box = coordinates.box_around(low, high).box;
         ask([&](std::vector<pw_handle>& found) { return world.hits({PW_REGION, ~0u, box.lo, box.hi}, found); },
-            [&](Proxy& other) {
-                bool meets = &other != &ghost && TestAabbAgainstAabb2(ghost.m_aabbMin, ghost.m_aabbMax, other.m_aabbMin, other.m_aabbMax);
-                if (!meets || !add_pair(ghost, other)) return;
-                early.push_back({ghost.handle, other.handle});
-                settled_pairs++;
+            [&](Proxy& proxy) {
+                if (TestAabbAgainstAabb2(low, high, proxy.m_aabbMin, proxy.m_aabbMax)) each(proxy);
             });
+    }
+
+    // A ghost is asked for its pairs between two steps, so it has them at once, also with a box that comes to where it stands.
+    void pair_at_once(Proxy& ghost) {
+        ghost.is_ghost = true;
+        find(ghost.m_aabbMin, ghost.m_aabbMax, [&](Proxy& other) {
+            if (&other != &ghost) pair_early(ghost, other);
+        });
+    }
+    void pair_with_ghosts(Proxy& other) {
+        for (Proxy* ghost : ghosts)
+            if (meet(*ghost, other)) pair_early(*ghost, other);
+    }
+    void pair_early(Proxy& ghost, Proxy& other) {
+        if (!add_pair(ghost, other)) return;
+        early.push_back({ghost.handle, other.handle});
+        settled_pairs++;
     }
 
     // What came early and the update didn't tell goes: the boxes have parted again, or may not pair any more.
     void drop_early_pairs(btDispatcher* dispatcher) {
-        for (const auto& pair : early) {
+        for (const Handles& pair : early) {
             Proxy *a = proxy_of(pair.first), *b = proxy_of(pair.second);
             if (a && b && !are_paired(*a, *b)) cache->removeOverlappingPair(a, b, dispatcher);
         }
         early.clear();
     }
-    // Whether the library has them as a pair, by their boxes as it has them.
+    // Whether the library has them as a pair.
     bool are_paired(const Proxy& a, const Proxy& b) const {
-        pw_box one = fixed(a.m_aabbMin, a.m_aabbMax).box, other = fixed(b.m_aabbMin, b.m_aabbMax).box;
-        bool meet = one.lo.x <= other.hi.x && other.lo.x <= one.hi.x && one.lo.y <= other.hi.y && other.lo.y <= one.hi.y &&
-                    one.lo.z <= other.hi.z && other.lo.z <= one.hi.z;
-        bool fixed = (a.m_collisionFilterGroup & options.fixed_groups) && (b.m_collisionFilterGroup & options.fixed_groups);
-        return meet && !fixed && (a.told.is & b.told.sees) && (b.told.is & a.told.sees);
+        const pw_box &one = a.has, &other = b.has;
+        return one.lo.x <= other.hi.x && other.lo.x <= one.hi.x && one.lo.y <= other.hi.y && other.lo.y <= one.hi.y &&
+               one.lo.z <= other.hi.z && other.lo.z <= one.hi.z && (a.told.is & b.told.sees) && (b.told.is & a.told.sees);
     }
 
-    // Of a cache that removes when it is sorted, and behind a world that was opened anew, which tells no pair that is over.
-    void drop_parted_pairs(btDispatcher* dispatcher) {
-        struct Parted : btOverlapCallback {
-            const BulletBroadphase& here;
-            explicit Parted(const BulletBroadphase& here) : here(here) {}
+    template <class Which>
+    void drop_pairs(btDispatcher* dispatcher, Which which) {
+        struct Dropped : btOverlapCallback {
+            Which which;
+            explicit Dropped(Which which) : which(which) {}
             bool processOverlap(btBroadphasePair& pair) override {
-                return !here.are_paired(*static_cast<Proxy*>(pair.m_pProxy0), *static_cast<Proxy*>(pair.m_pProxy1));
+                return which(*static_cast<Proxy*>(pair.m_pProxy0), *static_cast<Proxy*>(pair.m_pProxy1));
             }
-        } parted(*this);
-        cache->processAllOverlappingPairs(&parted, dispatcher);
+        } dropped(which);
+        cache->processAllOverlappingPairs(&dropped, dispatcher);
     }
 
-    // Asks into a room of this depth, and calls for each proxy found that is still there when its turn comes.
+    // Asks into a room of this depth, and calls for each proxy found that is still there when its turn comes. For want of memory it calls
+    // for all, so whom it calls for is tested there.
     template <class Question, class Each>
     void ask(Question&& question, Each&& each) {
-        if (rooms.size() <= depth) rooms.emplace_back(PW_SLOTS);
+        struct Deeper {
+            std::size_t& depth;
+            ~Deeper() { depth--; }
+        } deeper{depth};
         std::size_t room = depth++;
+        if (rooms.size() <= room) rooms.emplace_back(PW_SLOTS);
         Count count = question(rooms[room]);
-        if (count.status != Status::ok) refuse(count.status);
-        else
-            for (std::size_t k = 0; k < count.count; k++)
-                if (Proxy* proxy = proxy_of(rooms[room][k])) each(*proxy);
-        depth--;
+        if (count.status != Status::ok) return ask_all(each);
+        for (std::size_t k = 0; k < count.count; k++)
+            if (Proxy* proxy = proxy_of(rooms[room][k])) each(*proxy);
     }
-
-    // The way of a moved box, cut to where it can meet the range. False if it never does, or if it is cut and boxes lie beyond the range.
-    bool is_within(const btVector3& from, const btVector3& to, const btVector3& low, const btVector3& high, Way& way) const {
-        double longest = 0;
-        for (int axis = 0; axis < 3; axis++) {
-            way.start[axis] = here(from, axis);
-            way.by[axis] = here(to, axis) - way.start[axis];
-            // Some units inside the range, so that what is rounded outward stays in it.
-            double first = least + 8 - double(low[axis]) * options.scale, last = most - 8 - double(high[axis]) * options.scale;
-            if (!(first <= last)) return false;
-            if (way.by[axis] == 0) {
-                if (way.start[axis] < first || way.start[axis] > last) return false;
-                continue;
-            }
-            double one = (first - way.start[axis]) / way.by[axis], other = (last - way.start[axis]) / way.by[axis];
-            way.enter = std::max(way.enter, std::min(one, other));
-            way.leave = std::min(way.leave, std::max(one, other));
-        }
-        if (!(way.enter <= way.leave)) return false;
-        if ((way.enter > 0 || way.leave < 1) && (beyond > 0 || near_rim())) return false;
-        for (double by : way.by) longest = std::max(longest, std::abs(by) * (way.leave - way.enter));
-        way.parts = longest < most - 8 ? 1 : 3;
-        return true;
-    }
-    // A ray that was cut misses the last units of the range.
-    bool near_rim() const {
-        for (const auto& proxy : proxies)
-            for (int axis = 0; axis < 3; axis++)
-                if (here(proxy->m_aabbMin, axis) < least + 16 || here(proxy->m_aabbMax, axis) > most - 16) return true;
-        return false;
-    }
-
-    pw_cast cast_of(const Way& way, int part, const btVector3& low, const btVector3& high) const {
-        double enter = way.enter + (way.leave - way.enter) * part / way.parts;
-        double leave = way.enter + (way.leave - way.enter) * (part + 1) / way.parts;
-        int32_t lo[3], hi[3], by[3];
-        for (int axis = 0; axis < 3; axis++) {
-            double first = std::nearbyint((way.start[axis] + way.by[axis] * enter) * unit);
-            double last = std::nearbyint((way.start[axis] + way.by[axis] * leave) * unit);
-            lo[axis] = int32_t(first + std::floor(double(low[axis]) * options.scale * unit) - 3);
-            hi[axis] = int32_t(first + std::ceil(double(high[axis]) * options.scale * unit) + 3);
-            by[axis] = int32_t(last - first);
-        }
-        return {~0u, {{lo[0], lo[1], lo[2]}, {hi[0], hi[1], hi[2]}}, {by[0], by[1], by[2]}};
-    }
-
-    // Whether a ray meets the box before `m_lambda_max`, the length that its callback leaves it. What rounding may decide counts as met.
-    static bool is_reached(const btVector3& from, const btBroadphaseRayCallback& ray, const Proxy& proxy, const btVector3& low,
-                           const btVector3& high) {
-        double enter = 0;
-        for (int axis = 0; axis < 3; axis++) {
-            double near_side = ray.m_signs[axis] ? double(proxy.m_aabbMax[axis]) - low[axis] : double(proxy.m_aabbMin[axis]) - high[axis];
-            enter = std::max(enter, (near_side - from[axis]) * double(ray.m_rayDirectionInverse[axis]));
-        }
-        // A direction without a part on an axis has a huge inverse, by which a touch would be a far one.
-        return enter <= double(ray.m_lambda_max) * 1.0001 + 0.001 || enter > 1e9;
-    }
-
-    // Where no cast can say it: each proxy is tested as Bullet's own tree tests its boxes.
-    void test_all(const btVector3& from, btBroadphaseRayCallback& callback, const btVector3& low, const btVector3& high) {
-        std::vector<pw_handle> all;
-        for (const auto& proxy : proxies) all.push_back(proxy->handle);
-        for (pw_handle handle : all) {
-            Proxy* proxy = proxy_of(handle);
-            if (!proxy) continue;
-            const btVector3 bounds[2] = {proxy->m_aabbMin - high, proxy->m_aabbMax - low};
-            btScalar enter = 1;
-            if (btRayAabb2(from, callback.m_rayDirectionInverse, callback.m_signs, bounds, enter, 0, callback.m_lambda_max))
-                callback.process(proxy);
-        }
+    // From the last on, so that no proxy is passed by if the callback destroys one, whose place the last one takes.
+    template <class Each>
+    void ask_all(Each&& each) {
+        for (std::size_t k = proxies.size(); k-- > 0;)
+            if (k < proxies.size()) each(*proxies[k].proxy);
     }
 };
 
