@@ -58,7 +58,9 @@ public:
         Proxy* proxy = made.get();
         put_right(*proxy);
         proxy->m_uniqueId = ++last_id;
-        Status status = flush() ? put(*proxy) : Status::no_memory;
+        // Moves that wait may go on waiting, if there is a world at all.
+        Status status = flush();
+        if (!is_lost) status = put(*proxy);
         if (is_lost && renew()) status = put(*proxy);
         if (status != Status::ok) return refuse(status, object), nullptr;
         proxy->place = proxies.size();
@@ -73,8 +75,7 @@ public:
     void destroyProxy(btBroadphaseProxy* given, btDispatcher* dispatcher) override {
         if (!given) return;
         auto& proxy = *static_cast<Proxy*>(given);
-        // A flush that comes to nothing leaves it among those that wait.
-        if (!flush() || proxy.waits) waiting.erase(std::remove(waiting.begin(), waiting.end(), &proxy), waiting.end());
+        if (flush() != Status::ok) waiting.erase(std::remove(waiting.begin(), waiting.end(), &proxy), waiting.end());
         ghosts.erase(std::remove(ghosts.begin(), ghosts.end(), &proxy), ghosts.end());
         if (by_slot[proxy.handle.slot] == &proxy) by_slot[proxy.handle.slot] = nullptr;
         // Without a mark the library wants no memory for it, and a world that is lost is opened anew without it.
@@ -107,7 +108,8 @@ public:
     }
 
     void calculateOverlappingPairs(btDispatcher* dispatcher) override {
-        if (!flush()) return refuse(Status::no_memory);
+        Status status = flush();
+        if (status != Status::ok) return refuse(status);
         heed_filters();
         bool is_dropped = cache->getNumOverlappingPairs() != settled_pairs;
         if (is_changed && !update(dispatcher)) return;
@@ -134,8 +136,8 @@ public:
             if (way.parts > 1 && !called.insert(proxy.m_uniqueId).second) return;
             callback.process(&proxy);
         };
-        static_cast<void>(flush());
-        if (!way.is_whole || (at_rim > 0 && BulletCoordinates::is_cut(way))) return ask_all(each);
+        bool is_in_casts = way.is_whole && (at_rim == 0 || !BulletCoordinates::is_cut(way));
+        if (flush() != Status::ok || !is_in_casts) return ask_all(each);
         for (int part = 0; part < way.parts; part++) {
             pw_cast cast = coordinates.cast(way, part, low, high);
             ask([&](std::vector<pw_handle>& found) { return world.cast_hits(cast, found); }, each);
@@ -307,10 +309,10 @@ private:
         return true;
     }
 
-    // Hands the moves on that wait. False if there is no world to ask, for want of memory.
-    bool flush() {
-        if (is_lost) return renew();
-        if (waiting.empty()) return true;
+    // Hands the moves on that wait. If it isn't ok, there is no world for want of memory, or some go on waiting.
+    Status flush() {
+        if (is_lost) return renew() ? Status::ok : Status::no_memory;
+        if (waiting.empty()) return Status::ok;
         moved.clear();
         moved_to.clear();
         for (Proxy* proxy : waiting) {
@@ -325,19 +327,13 @@ private:
         }
         Status status = moved.empty() ? Status::ok : world.move(moved, moved_to).status;
         is_changed |= !moved.empty();
-        if (status == Status::ok) waiting.clear();
-        else wait_again(status);
-        return !is_lost || renew();
-    }
-
-    // Moves that were refused wait for the next time.
-    void wait_again(Status status) {
+        if (status == Status::ok) return waiting.clear(), status;
         for (Proxy* proxy : waiting) {
             proxy->waits = true;
             if (auto live = world.get(proxy->handle)) proxy->has = live->body;
         }
         is_lost = is_spent();
-        if (!is_lost) refuse(status);
+        return is_lost && renew() ? Status::ok : status;
     }
 
     // Sees what was written into proxies, and what filter the cache has.
@@ -414,12 +410,12 @@ private:
     // Calls for each proxy whose box meets a region.
     template <class Each>
     void find(const btVector3& low, const btVector3& high, Each&& each) {
-        static_cast<void>(flush());
+        auto each_that_meets = [&](Proxy& proxy) {
+            if (TestAabbAgainstAabb2(low, high, proxy.m_aabbMin, proxy.m_aabbMax)) each(proxy);
+        };
+        if (flush() != Status::ok) return ask_all(each_that_meets);
         pw_box box = coordinates.box_around(low, high).box;
-        ask([&](std::vector<pw_handle>& found) { return world.hits({PW_REGION, ~0u, box.lo, box.hi}, found); },
-            [&](Proxy& proxy) {
-                if (TestAabbAgainstAabb2(low, high, proxy.m_aabbMin, proxy.m_aabbMax)) each(proxy);
-            });
+        ask([&](std::vector<pw_handle>& found) { return world.hits({PW_REGION, ~0u, box.lo, box.hi}, found); }, each_that_meets);
     }
 
     // A ghost is asked for its pairs between two steps, so it has them at once, also with a box that comes to where it stands.

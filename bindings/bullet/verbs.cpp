@@ -1,13 +1,12 @@
-// What a user of Bullet does to a broad phase, over the library and beside it over btDbvtBroadphase: groups of his own, filters that
-// change, a callback that filters, pairs that he takes out, ghosts, questions within questions, long rays, boxes far out, wrong boxes, one
-// proxy too many, and pair caches of his own. At each step every pair whose boxes meet and which the filter allows must be in the cache,
-// found by testing all.
+// What a user of Bullet asks a broad phase over the library and gives it: regions (which dbvt is asked too), questions within questions, rays
+// of all lengths with and without a box, rays that callbacks shorten, worlds far out, wrong boxes, and one proxy too many. What a question
+// must find is found by testing all boxes.
 #include "pungwelair_broadphase.hpp"
-#include <BulletCollision/CollisionDispatch/btGhostObject.h>
 #include <BulletDynamics/btBulletDynamicsCommon.h>
 #include <algorithm>
 #include <cmath>
 #include <cstdio>
+#include <limits>
 #include <random>
 #include <set>
 
@@ -19,13 +18,19 @@ using pungwelair::Structure;
 
 int failures;
 
-void expect(bool is_so, const char* what, int step = 0) {
-    if (!is_so && ++failures <= 20) std::printf("step %d: not so: %s\n", step, what);
+void expect(bool is_so, const char* name, const char* what, int number = 0) {
+    if (!is_so && ++failures <= 20) std::printf("%s, %d: not so: %s\n", name, number, what);
 }
 
-bool meet(const btBroadphaseProxy* a, const btBroadphaseProxy* b) {
-    return TestAabbAgainstAabb2(a->m_aabbMin, a->m_aabbMax, b->m_aabbMin, b->m_aabbMax);
-}
+constexpr btScalar endless = std::numeric_limits<btScalar>::infinity(), no_number = std::numeric_limits<btScalar>::quiet_NaN();
+const btVector3 point(0, 0, 0);
+
+struct Crowd {
+    std::mt19937 random{5};
+    btScalar part(btScalar most) { return most * btScalar(random() % 65536) / 65536; }
+    btVector3 place(btScalar room) { return btVector3(part(room), part(room), part(room)); }
+    btVector3 around(btScalar room) { return place(2 * room) - btVector3(room, room, room); }
+};
 
 // A broad phase with boxes of one's own, and no world around it.
 struct Boxes {
@@ -36,151 +41,34 @@ struct Boxes {
     ~Boxes() {
         for (auto* proxy : proxies) broadphase.destroyProxy(proxy, nullptr);
     }
-    btBroadphaseProxy* add(const btVector3& at, const btVector3& half, int group = 1, int mask = -1, void* object = nullptr) {
-        proxies.push_back(broadphase.createProxy(at - half, at + half, 0, object, group, mask, nullptr));
+    btBroadphaseProxy* add(const btVector3& low, const btVector3& high, int group = 1, void* object = nullptr) {
+        proxies.push_back(broadphase.createProxy(low, high, 0, object, group, -1, nullptr));
         return proxies.back();
     }
-    // How many pairs meet and may, each of which has to be in the cache.
-    int count(const char* what, int step) {
+    int pairs() {
         broadphase.calculateOverlappingPairs(nullptr);
-        auto* cache = broadphase.getOverlappingPairCache();
-        int met = 0;
-        for (std::size_t a = 0; a < proxies.size(); a++)
-            for (std::size_t b = a + 1; b < proxies.size(); b++) {
-                if (!meet(proxies[a], proxies[b]) || !cache->needsBroadphaseCollision(proxies[a], proxies[b])) continue;
-                met++;
-                expect(cache->findPair(proxies[a], proxies[b]) != nullptr, what, step);
-            }
-        return met;
+        return broadphase.getOverlappingPairCache()->getNumOverlappingPairs();
     }
 };
-
-struct Crowd {
-    std::mt19937 random{5};
-    btScalar part(int most) { return btScalar(random() % unsigned(most * 100)) / 100; }
-    btVector3 place(int room) { return btVector3(part(room), part(room), part(room)); }
-};
-
-// Boxes of the groups 1, 2, 4 and 8 that move; masks are written into proxies, and pairs taken out.
-void filters(Structure structure) {
-    BulletBroadphase broadphase(structure);
-    Boxes boxes(broadphase);
-    Crowd crowd;
-    for (int k = 0; k < 160; k++) boxes.add(crowd.place(14), btVector3(0.6f, 0.6f, 0.6f), 1 << (k % 4));
-    long met = 0;
-    for (int step = 0; step < 60; step++) {
-        for (std::size_t k = 0; k < boxes.proxies.size(); k++) {
-            auto* proxy = boxes.proxies[k];
-            btVector3 by = (crowd.place(2) - btVector3(1, 1, 1)) * 0.3f;
-            if (step % 3 != 2) broadphase.setAabb(proxy, proxy->m_aabbMin + by, proxy->m_aabbMax + by, nullptr);
-            if (crowd.random() % 11 == 0) proxy->m_collisionFilterMask = int(crowd.random() % 16);
-            if (crowd.random() % 17 == 0) proxy->m_collisionFilterGroup = 1 << (crowd.random() % 4);
-            if (crowd.random() % 13 == 0)
-                broadphase.getOverlappingPairCache()->removeOverlappingPairsContainingProxy(proxy, nullptr);
-        }
-        if (step % 20 == 19) {
-            broadphase.destroyProxy(boxes.proxies[7], nullptr);
-            boxes.proxies.erase(boxes.proxies.begin() + 7);
-            boxes.add(crowd.place(14), btVector3(1, 1, 1), 2);
-        }
-        met += boxes.count("a pair that meets and may is there, whatever was written or taken out", step);
-    }
-    expect(met > 1000, "pairs met");
-}
-
-// A callback decides in place of the masks, and may let in what they refuse.
-void callback_filters(Structure structure) {
-    struct EvenTogether : btOverlapFilterCallback {
-        bool needBroadphaseCollision(btBroadphaseProxy* a, btBroadphaseProxy* b) const override {
-            return (a->m_uniqueId + b->m_uniqueId) % 2 == 0;
-        }
-    } even;
-    BulletBroadphase broadphase(structure);
-    Boxes boxes(broadphase);
-    Crowd crowd;
-    for (int k = 0; k < 80; k++) boxes.add(crowd.place(8), btVector3(0.6f, 0.6f, 0.6f), 1, 0);
-    expect(boxes.count("no pair may", 0) == 0, "masks of 0 pair with nothing");
-    broadphase.getOverlappingPairCache()->setOverlapFilterCallback(&even);
-    expect(boxes.count("what the callback allows is there", 1) > 10, "the callback allows pairs", 1);
-    for (auto* proxy : boxes.proxies) broadphase.setAabb(proxy, proxy->m_aabbMin, proxy->m_aabbMax + btVector3(0.3f, 0, 0), nullptr);
-    expect(boxes.count("what the callback allows is there", 2) > 10, "the callback allows pairs", 2);
-    broadphase.getOverlappingPairCache()->setOverlapFilterCallback(nullptr);
-}
-
-// Bodies of a user's groups fall on a ground, in a world of Bullet's, and none comes to lie in another.
-void groups(Structure structure) {
-    btDefaultCollisionConfiguration configuration;
-    btCollisionDispatcher dispatcher{&configuration};
-    btSequentialImpulseConstraintSolver solver;
-    BulletBroadphase broadphase(structure);
-    btDiscreteDynamicsWorld world(&dispatcher, &broadphase, &solver, &configuration);
-    btBoxShape ground(btVector3(20, 1, 20)), box(btVector3(0.5f, 0.5f, 0.5f));
-    std::vector<std::unique_ptr<btRigidBody>> bodies;
-    auto add = [&](btScalar mass, btCollisionShape* shape, const btVector3& at, int group) {
-        btVector3 inertia(0, 0, 0);
-        if (mass > 0) shape->calculateLocalInertia(mass, inertia);
-        bodies.push_back(std::make_unique<btRigidBody>(mass, nullptr, shape, inertia));
-        bodies.back()->setWorldTransform(btTransform(btQuaternion::getIdentity(), at));
-        world.addRigidBody(bodies.back().get(), group, -1);
-    };
-    add(0, &ground, btVector3(0, -1, 0), 8);
-    for (int k = 0; k < 60; k++) add(1, &box, btVector3(btScalar(k % 3) * 3, 1 + btScalar(k / 3) * 1.2f, 0), 1 << (k % 3));
-    for (int step = 0; step < 150; step++) {
-        world.stepSimulation(btScalar(1) / 60, 0);
-        auto* cache = broadphase.getOverlappingPairCache();
-        for (std::size_t a = 0; a < bodies.size(); a++)
-            for (std::size_t b = a + 1; b < bodies.size(); b++) {
-                auto *one = bodies[a]->getBroadphaseProxy(), *other = bodies[b]->getBroadphaseProxy();
-                if (meet(one, other) && cache->needsBroadphaseCollision(one, other))
-                    expect(cache->findPair(one, other) != nullptr, "bodies of one group of the user's are a pair", step);
-            }
-    }
-    for (auto& body : bodies) world.removeRigidBody(body.get());
-}
-
-// A ghost sees at once what it stands in, when it comes and when it alone was moved.
-int ghost_sees(btBroadphaseInterface& broadphase, int& moved_sees) {
-    btDefaultCollisionConfiguration configuration;
-    btCollisionDispatcher dispatcher{&configuration};
-    btGhostPairCallback ghosts;
-    btCollisionWorld world(&dispatcher, &broadphase, &configuration);
-    broadphase.getOverlappingPairCache()->setInternalGhostPairCallback(&ghosts);
-    btBoxShape shape(btVector3(1, 1, 1));
-    btCollisionObject one, two;
-    btPairCachingGhostObject ghost;
-    one.setCollisionShape(&shape), two.setCollisionShape(&shape), ghost.setCollisionShape(&shape);
-    two.getWorldTransform().setOrigin(btVector3(50, 0, 0));
-    world.addCollisionObject(&one);
-    world.addCollisionObject(&two);
-    world.computeOverlappingPairs();
-    ghost.getWorldTransform().setOrigin(btVector3(0.5f, 0, 0));
-    world.addCollisionObject(&ghost);
-    int sees = ghost.getNumOverlappingObjects();
-    ghost.getWorldTransform().setOrigin(btVector3(49.5f, 0, 0));
-    world.updateSingleAabb(&ghost);
-    moved_sees = 0;
-    for (int k = 0; k < ghost.getNumOverlappingObjects(); k++) moved_sees += ghost.getOverlappingObject(k) == &two;
-    world.computeOverlappingPairs();
-    expect(ghost.getNumOverlappingObjects() == 1, "a ghost that went sees one");
-    world.removeCollisionObject(&ghost), world.removeCollisionObject(&one), world.removeCollisionObject(&two);
-    return sees;
-}
 
 struct Found : btBroadphaseAabbCallback {
     std::multiset<int> ids;
-    std::function<void(int)> then;
+    std::function<void(const btBroadphaseProxy*)> then;
     bool process(const btBroadphaseProxy* proxy) override {
         ids.insert(proxy->m_uniqueId);
-        if (then) then(proxy->m_uniqueId);
+        if (then) then(proxy);
         return true;
     }
 };
 
-struct RayFound : btBroadphaseRayCallback {
+// Called for boxes as Bullet's own callbacks are, with what those fill in.
+struct Ray : btBroadphaseRayCallback {
     std::vector<const btBroadphaseProxy*> met;
-    btVector3 way;
-    btScalar shortened_to = -1;
-    RayFound(const btVector3& from, const btVector3& to) : way((to - from).normalized()) {
+    std::vector<btScalar> left;
+    std::function<void(Ray&, const btBroadphaseProxy*)> then;
+    Ray(const btVector3& from, const btVector3& to) {
+        btVector3 way = to - from;
+        if (way.length2() > 0) way.normalize();
         for (int axis = 0; axis < 3; axis++) {
             m_rayDirectionInverse[axis] = way[axis] == 0 ? btScalar(BT_LARGE_FLOAT) : 1 / way[axis];
             m_signs[axis] = m_rayDirectionInverse[axis] < 0;
@@ -189,123 +77,322 @@ struct RayFound : btBroadphaseRayCallback {
     }
     bool process(const btBroadphaseProxy* proxy) override {
         met.push_back(proxy);
-        if (shortened_to >= 0) m_lambda_max = shortened_to;
+        left.push_back(m_lambda_max);
+        if (then) then(*this, proxy);
         return true;
     }
 };
 
-// Whether a segment meets a box deep enough that floats don't decide.
-bool surely_meets(const btVector3& from, const btVector3& to, const btBroadphaseProxy* proxy) {
-    double enter = 0, leave = 1;
+// How far along its way, from 0 to 1, a box that is moved first meets another, grown by some; 2 if it never does.
+double meets_at(const btVector3& from, const btVector3& to, const btVector3& low, const btVector3& high, const btBroadphaseProxy* proxy,
+                double grown = 0) {
+    long double enter = 0, leave = 1;
     for (int axis = 0; axis < 3; axis++) {
-        double start = from[axis], way = double(to[axis]) - start, low = proxy->m_aabbMin[axis] - start, high = proxy->m_aabbMax[axis] - start;
-        if (way == 0 && (low > 0 || high < 0)) return false;
+        long double start = from[axis], way = to[axis] - start;
+        long double first = (long double)proxy->m_aabbMin[axis] - high[axis] - start - grown;
+        long double last = (long double)proxy->m_aabbMax[axis] - low[axis] - start + grown;
+        if (way == 0 && (first > 0 || last < 0)) return 2;
         if (way == 0) continue;
-        enter = std::max(enter, std::min(low / way, high / way));
-        leave = std::min(leave, std::max(low / way, high / way));
+        enter = std::max(enter, std::min(first / way, last / way));
+        leave = std::min(leave, std::max(first / way, last / way));
     }
-    return enter <= leave;
+    return enter <= leave ? double(enter) : 2;
 }
 
-void questions(Structure structure) {
-    BulletBroadphase broadphase(structure);
-    Boxes boxes(broadphase);
-    for (int k = 0; k < 6; k++) boxes.add(btVector3(btScalar(k) * 3, 0, 0), btVector3(1, 1, 1));
-    btVector3 low(-1, -1, -1), high(20, 1, 1);
-    Found outer;
-    outer.then = [&](int) {
-        Found inner;
-        broadphase.aabbTest(btVector3(8, -1, -1), btVector3(20, 1, 1), inner);
-    };
-    broadphase.aabbTest(low, high, outer);
-    expect(outer.ids == std::multiset<int>{1, 2, 3, 4, 5, 6}, "a question within a question spoils neither");
-    Found none;
-    broadphase.aabbTest(high, low, none);
-    expect(none.ids.empty(), "an inverted region finds nothing");
+// Rays of one kind, in a world of one kind.
+struct RayCase {
+    const char* name;
+    btScalar room, size;                         // of the boxes
+    void (*ray)(Crowd&, btVector3& from, btVector3& to);
+    btScalar swept;                              // half the box that is swept
+    bool has_plane;                              // a plane without end stands among them
+    bool is_scaled;                              // far out, by origin and scale
+};
+const RayCase ray_cases[] = {
+    {"short rays", 40, 2, [](Crowd& c, btVector3& a, btVector3& b) { a = c.place(40), b = a + c.around(10); }, 0, false, false},
+    {"rays without length", 40, 8, [](Crowd& c, btVector3& a, btVector3& b) { a = b = c.place(40); }, 0, false, false},
+    {"along an axis", 40, 3, [](Crowd& c, btVector3& a, btVector3& b) { a = c.place(40), b = a, b[int(c.random() % 3)] += c.part(200) - 100; }, 0, false, false},
+    {"long rays", 4000, 200, [](Crowd& c, btVector3& a, btVector3& b) { a = c.around(10000), b = c.around(10000); }, 0, false, false},
+    {"as long as the range", 4000, 400, [](Crowd& c, btVector3& a, btVector3& b) { a = c.around(4000), b = c.around(4000), a.setX(-32000), b.setX(32000); }, 0, false, false},
+    {"from far out", 4000, 400, [](Crowd& c, btVector3& a, btVector3& b) { a = c.place(4000), b = c.place(4000), a.setY(100000); }, 0, false, false},
+    {"through the range from end to end", 4000, 400, [](Crowd& c, btVector3& a, btVector3& b) { b = c.place(4000), a = b * 2 - c.around(1) - btVector3(0, 70000, 0), b += b - a; }, 0, false, false},
+    {"outside of the range", 4000, 400, [](Crowd& c, btVector3& a, btVector3& b) { a = c.place(9000) + btVector3(50000, 0, 0), b = a + c.around(9000); }, 0, false, false},
+    {"from very far", 40, 8, [](Crowd& c, btVector3& a, btVector3& b) { a = c.around(1e12f), b = c.place(40); }, 0, false, false},
+    {"over a plane, from far out", 4000, 400, [](Crowd& c, btVector3& a, btVector3& b) { a = c.place(4000), b = c.place(4000), a.setY(100000); }, 0, true, false},
+    {"a box is swept", 40, 2, [](Crowd& c, btVector3& a, btVector3& b) { a = c.place(40), b = a + c.around(10); }, 1.5f, false, false},
+    {"a box is swept far", 4000, 200, [](Crowd& c, btVector3& a, btVector3& b) { a = c.around(30000), b = c.around(30000); }, 30, false, false},
+    {"a box as wide as the range", 4000, 200, [](Crowd& c, btVector3& a, btVector3& b) { a = c.place(4000), b = c.place(4000); }, 40000, false, false},
+    {"in centimetres far out", 1600, 60, [](Crowd& c, btVector3& a, btVector3& b) { a = c.place(1600), b = c.place(1600); }, 0, false, true},
+    {"swept in centimetres far out", 1600, 60, [](Crowd& c, btVector3& a, btVector3& b) { a = c.place(1600), b = c.place(1600); }, 20, false, true},
+};
 
-    boxes.add(btVector3(0, 5, 0), btVector3(1, 1, 1), 0);
-    Found grouped;
-    broadphase.aabbTest(btVector3(-1, 4, -1), btVector3(1, 6, 1), grouped);
-    expect(grouped.ids.size() == 1, "a box in no group is found by a question");
-
-    RayFound all(btVector3(-5, 0, 0), btVector3(30, 0, 0)), shortened(btVector3(-5, 0, 0), btVector3(30, 0, 0));
-    broadphase.rayTest(btVector3(-5, 0, 0), btVector3(30, 0, 0), all, btVector3(0, 0, 0), btVector3(0, 0, 0));
-    expect(all.met.size() == 6, "a ray meets the row");
-    shortened.shortened_to = 8;
-    broadphase.rayTest(btVector3(-5, 0, 0), btVector3(30, 0, 0), shortened, btVector3(0, 0, 0), btVector3(0, 0, 0));
-    expect(shortened.met.size() == 2, "a ray that is shortened ends early");
-
-    btVector3 bounds_low, bounds_high;
-    broadphase.getBroadphaseAabb(bounds_low, bounds_high);
-    expect(bounds_low == btVector3(-1, -1, -1) && bounds_high == btVector3(16, 6, 1), "the bounds are those of the boxes");
-}
-
-// Rays of some 20,000 units that graze boxes, and such as begin far out of the range.
-void long_rays(Structure structure) {
-    BulletBroadphase broadphase(structure);
-    Boxes boxes(broadphase);
+void cast(const RayCase& c, Structure structure) {
+    BulletBroadphase::Options options;
+    btVector3 away(0, 0, 0);
+    if (c.is_scaled) options.scale = 0.01, options.origin = btVector3(40000, 0, 0), away = btVector3(41000, 0, 0);
+    BulletBroadphase ours(structure, options);
+    Boxes boxes(ours);
     Crowd crowd;
-    for (int k = 0; k < 300; k++) boxes.add(crowd.place(40) * 100, btVector3(20, 20, 20));
-    int met = 0, called = 0;
-    for (int k = 0; k < 300; k++) {
-        btVector3 from = crowd.place(200) * 100 - btVector3(10000, 10000, 10000), to = crowd.place(200) * 100 - btVector3(10000, 10000, 10000);
-        // Half of them graze an edge.
-        auto* one = boxes.proxies[crowd.random() % boxes.proxies.size()];
-        if (k % 2 == 0) to = one->m_aabbMax + (one->m_aabbMax - from) * (k % 4 == 0 ? 0.5f : 0.0f);
-        if (k % 10 == 0) from.setY(100000);
-        RayFound found(from, to);
-        broadphase.rayTest(from, to, found, btVector3(0, 0, 0), btVector3(0, 0, 0));
-        called += int(found.met.size());
+    for (int k = 0; k < 200; k++) {
+        btVector3 low = crowd.place(c.room) + away;
+        boxes.add(low, low + crowd.place(c.size));
+    }
+    if (c.has_plane) boxes.add(btVector3(-1e18f, -1e18f, -1e18f), btVector3(1e18f, 0, 1e18f));
+    btVector3 high(c.swept, c.swept, c.swept), low = -high;
+    int met = 0;
+    for (int k = 0; k < 150; k++) {
+        btVector3 from, to;
+        c.ray(crowd, from, to);
+        from += away, to += away;
+        // Some graze an edge.
+        if (k % 3 == 0) to = boxes.proxies[crowd.random() % 200]->m_aabbMax;
+        // What casts are wider, in units of Bullet's, and what doubles round.
+        double wider = 8 / 65536.0 / options.scale + (from.length() + to.length()) * 1e-13;
+        Ray ray(from, to), short_ray(from, to);
+        ours.rayTest(from, to, ray, low, high);
+        std::set<const btBroadphaseProxy*> called(ray.met.begin(), ray.met.end());
+        expect(called.size() == ray.met.size(), c.name, "a box is called for once", k);
+        btBroadphaseProxy* nearest = nullptr;
+        double least = 2;
         for (auto* proxy : boxes.proxies) {
-            if (!surely_meets(from, to, proxy)) continue;
-            met++;
-            expect(std::find(found.met.begin(), found.met.end(), proxy) != found.met.end(), "no box of a long ray is lost", k);
+            double at = meets_at(from, to, low, high, proxy);
+            if (at < least) least = at, nearest = proxy;
+            met += at < 2;
+            if (at < 2) expect(called.count(proxy) == 1, c.name, "no box that is met is lost", k);
+            else if (called.count(proxy)) expect(meets_at(from, to, low, high, proxy, wider) < 2, c.name, "no other is called for", k);
+        }
+        // The callback leaves the ray what Bullet's would: the way to what it met.
+        double length = (to - from).length();
+        short_ray.then = [&](Ray& it, const btBroadphaseProxy* proxy) {
+            double at = meets_at(from, to, low, high, proxy);
+            if (at < 2) it.m_lambda_max = std::min(it.m_lambda_max, btScalar(at * length));
+        };
+        ours.rayTest(from, to, short_ray, low, high);
+        for (std::size_t n = 0; n < short_ray.met.size(); n++) {
+            double at = meets_at(from, to, low, high, short_ray.met[n], wider);
+            expect(at * length <= short_ray.left[n] * 1.001 + 0.01, c.name, "a ray that is shortened isn't called beyond its end", k);
+        }
+        bool is_found = !nearest || std::count(short_ray.met.begin(), short_ray.met.end(), nearest) == 1 || least * length > short_ray.m_lambda_max * 0.999 - 0.01;
+        expect(is_found, c.name, "the first that is met is called for, however the ray is shortened", k);
+    }
+    expect(met > 40 || c.room < c.size || !std::strcmp(c.name, "outside of the range"), c.name, "rays met boxes", met);
+}
+
+void regions(Structure structure) {
+    const char* name = "regions";
+    BulletBroadphase ours(structure);
+    btDbvtBroadphase theirs;
+    Boxes boxes(ours), others(theirs);
+    Crowd crowd;
+    for (int k = 0; k < 300; k++) {
+        btVector3 low = crowd.place(30), high = low + crowd.place(3);
+        boxes.add(low, high, k % 3), others.add(low, high, k % 3);
+    }
+    for (int k = 0; k < 100; k++) {
+        btVector3 low = crowd.around(30), high = low + crowd.place(20);
+        if (k % 7 == 0) low.setX(-1e9f), high.setX(1e9f);
+        Found found, there;
+        ours.aabbTest(low, high, found);
+        theirs.aabbTest(low, high, there);
+        std::multiset<int> all;
+        for (auto* proxy : boxes.proxies)
+            if (TestAabbAgainstAabb2(low, high, proxy->m_aabbMin, proxy->m_aabbMax)) all.insert(proxy->m_uniqueId);
+        expect(found.ids == all, name, "a region finds the boxes that it meets, in whatever group", k);
+        expect(std::includes(there.ids.begin(), there.ids.end(), all.begin(), all.end()), name, "which dbvt finds too", k);
+        // Moves that no update has seen yet.
+        for (std::size_t n = 0; n < 20; n++) {
+            btVector3 by = crowd.around(5);
+            auto *one = boxes.proxies[n], *other = others.proxies[n];
+            ours.setAabb(one, one->m_aabbMin + by, one->m_aabbMax + by, nullptr);
+            theirs.setAabb(other, other->m_aabbMin + by, other->m_aabbMax + by, nullptr);
         }
     }
-    expect(met > 100 && called < met + 20, "a long ray is called for little else", called - met);
+    btVector3 low, high, least = boxes.proxies[0]->m_aabbMin, most = boxes.proxies[0]->m_aabbMax;
+    for (auto* proxy : boxes.proxies) least.setMin(proxy->m_aabbMin), most.setMax(proxy->m_aabbMax);
+    ours.getBroadphaseAabb(low, high);
+    expect(low == least && high == most, name, "the bounds are those of the boxes");
 }
 
-// A world in centimetres, at 40,000 units: by origin and scale it has the pairs that meet, and none besides.
+// A callback asks, and destroys and creates boxes.
+void within(Structure structure) {
+    const char* name = "within a question";
+    BulletBroadphase broadphase(structure);
+    Boxes boxes(broadphase);
+    for (int k = 0; k < 6; k++) boxes.add(btVector3(btScalar(k) * 3 - 1, -1, -1), btVector3(btScalar(k) * 3 + 1, 1, 1));
+    const btVector3 low(-1, -1, -1), high(20, 1, 1), from(-5, 0, 0), to(30, 0, 0);
+    Found outer;
+    outer.then = [&](const btBroadphaseProxy*) {
+        Ray ray(from, to);
+        ray.then = [&](Ray&, const btBroadphaseProxy*) {
+            Found inner;
+            broadphase.aabbTest(btVector3(8, -1, -1), high, inner);
+            expect(inner.ids == std::multiset<int>{4, 5, 6}, name, "a third question finds all");
+        };
+        broadphase.rayTest(from, to, ray, point, point);
+        expect(ray.met.size() == 6, name, "a second question finds all");
+    };
+    broadphase.aabbTest(low, high, outer);
+    expect(outer.ids == std::multiset<int>{1, 2, 3, 4, 5, 6}, name, "the first question finds all");
+
+    // The first that is called for destroys the next two, and another takes a slot of theirs.
+    Ray ray(from, to);
+    ray.then = [&](Ray& it, const btBroadphaseProxy*) {
+        if (it.met.size() > 1) return;
+        for (int k = 0; k < 2; k++) broadphase.destroyProxy(boxes.proxies[1], nullptr), boxes.proxies.erase(boxes.proxies.begin() + 1);
+        boxes.add(btVector3(60, 60, 60), btVector3(61, 61, 61));
+    };
+    broadphase.rayTest(from, to, ray, point, point);
+    expect(ray.met.size() == 4, name, "none that is gone or came since is called for");
+    // As over the whole list, which a ray of this length takes.
+    Ray far_ray(btVector3(-1e12f, 0, 0), to);
+    far_ray.then = [&](Ray& it, const btBroadphaseProxy* proxy) {
+        if (it.met.size() > 1) return;
+        auto other = std::find_if(boxes.proxies.begin(), boxes.proxies.end(), [&](auto* one) { return one != proxy && one->m_aabbMin.x() < 50; });
+        broadphase.destroyProxy(*other, nullptr);
+        boxes.proxies.erase(other);
+    };
+    broadphase.rayTest(btVector3(-1e12f, 0, 0), to, far_ray, point, point);
+    expect(far_ray.met.size() >= 3 && boxes.proxies.size() == 4, name, "a box that goes costs no other its call");
+}
+
+// Boxes far out: by origin and scale they have the pairs that meet, and none besides; at the rim none is lost.
 void far_out(Structure structure) {
-    BulletBroadphase::Options options;
-    options.scale = 0.01;
-    options.origin = btVector3(10000, 0, 0);
-    BulletBroadphase scaled(structure, options), plain(structure);
-    for (auto* broadphase : {&scaled, &plain}) {
-        Boxes boxes(*broadphase);
+    struct Place {
+        const char* name;
+        double scale;
+        btVector3 origin, at;
+        bool is_inside;
+    };
+    const Place places[] = {{"within the range", 1, point, btVector3(30000, -30000, 0), true},
+                            {"in centimetres", 0.01, btVector3(10000, 0, 0), btVector3(40000, 0, 0), true},
+                            {"far from the origin", 1, btVector3(1e6f, 0, -1e6f), btVector3(1e6f, 0, -1e6f), true},
+                            {"in hundredths of a millimetre", 1000, btVector3(0, 5, 0), btVector3(0, 5, 0), true},
+                            {"beyond one side", 1, point, btVector3(40000, 0, 0), false},
+                            {"beyond three sides", 1, point, btVector3(40000, -50000, 60000), false}};
+    for (const Place& place : places) {
+        BulletBroadphase::Options options;
+        options.scale = place.scale;
+        options.origin = place.origin;
+        BulletBroadphase broadphase(structure, options);
+        Boxes boxes(broadphase);
         Crowd crowd;
-        for (int k = 0; k < 200; k++) boxes.add(crowd.place(16) + btVector3(40000, 0, 0), btVector3(1, 1, 1));
-        int met = boxes.count("a pair far out is there", 0);
-        int kept = broadphase->getOverlappingPairCache()->getNumOverlappingPairs();
-        expect(met > 0, "pairs far out");
-        if (broadphase == &scaled) expect(kept == met, "no other pair than those that meet");
+        for (int k = 0; k < 200; k++) {
+            btVector3 low = crowd.place(16) + place.at;
+            boxes.add(low, low + btVector3(2, 2, 2));
+        }
+        int kept = boxes.pairs(), met = 0, touch = 0;
+        for (std::size_t a = 0; a < 200; a++)
+            for (std::size_t b = 0; b < a; b++) {
+                auto *one = boxes.proxies[a], *other = boxes.proxies[b];
+                btVector3 grown = btVector3(1, 1, 1) * btScalar(2 / 65536.0 / place.scale);
+                touch += TestAabbAgainstAabb2(one->m_aabbMin - grown, one->m_aabbMax + grown, other->m_aabbMin, other->m_aabbMax);
+                if (!TestAabbAgainstAabb2(one->m_aabbMin, one->m_aabbMax, other->m_aabbMin, other->m_aabbMax)) continue;
+                met++;
+                expect(broadphase.getOverlappingPairCache()->findPair(one, other) != nullptr, place.name, "no pair is lost");
+            }
+        expect(met > 100 && (!place.is_inside || kept <= touch), place.name, "no pair besides", kept - met);
     }
 }
 
-void wrong_ones() {
+// Boxes that no shape has: each meets a small box at 0.5, by the pair cache and by questions, and nothing ends the program.
+void wrong_boxes(Structure structure) {
+    struct Wrong {
+        const char* name;
+        btVector3 low, high;
+        bool is_found;  // by a question that tests Bullet's own numbers
+    };
+    const Wrong wrongs[] = {{"inverted", btVector3(1, 1, 1), btVector3(0, 0, 0), true},
+                            {"inverted on an axis", btVector3(0, 1, 0), btVector3(1, 0, 1), true},
+                            {"endless", btVector3(-endless, -endless, -endless), btVector3(endless, endless, endless), true},
+                            {"endless and inverted", btVector3(endless, 0, 0), btVector3(-endless, 1, 1), true},
+                            {"the greatest numbers", btVector3(-BT_LARGE_FLOAT, -3e38f, 0), btVector3(BT_LARGE_FLOAT, 3e38f, 1), true},
+                            {"no number", btVector3(no_number, no_number, no_number), btVector3(no_number, no_number, no_number), false},
+                            {"no number on a side", btVector3(0, no_number, 0), btVector3(1, 1, 1), false}};
+    for (const Wrong& wrong : wrongs) {
+        BulletBroadphase broadphase(structure);
+        Boxes boxes(broadphase);
+        boxes.add(btVector3(0.4f, 0.4f, 0.4f), btVector3(0.6f, 0.6f, 0.6f));
+        for (int k = 0; k < 2; k++) {
+            // Once as it comes, and once moved there.
+            if (k == 0) boxes.add(wrong.low, wrong.high);
+            else boxes.add(btVector3(9, 9, 9), btVector3(10, 10, 10)), broadphase.setAabb(boxes.proxies[2], wrong.low, wrong.high, nullptr);
+            boxes.pairs();
+            expect(broadphase.getOverlappingPairCache()->findPair(boxes.proxies[0], boxes.proxies.back()) != nullptr, wrong.name, "it is a pair", k);
+            Found found;
+            broadphase.aabbTest(btVector3(0.45f, 0.45f, 0.45f), btVector3(0.5f, 0.5f, 0.5f), found);
+            expect(!wrong.is_found || found.ids.size() == boxes.proxies.size(), wrong.name, "a question finds it", k);
+            Ray ray(btVector3(0.5f, 0.5f, -9), btVector3(0.5f, 0.5f, 9));
+            broadphase.rayTest(btVector3(0.5f, 0.5f, -9), btVector3(0.5f, 0.5f, 9), ray, point, point);
+            expect(!wrong.is_found || ray.met.size() == boxes.proxies.size(), wrong.name, "a ray finds it", k);
+        }
+        Found none;
+        broadphase.aabbTest(btVector3(1, 1, 1), point, none);
+        broadphase.aabbTest(btVector3(no_number, 0, 0), btVector3(1, no_number, 1), none);
+        expect(wrong.is_found ? none.ids.empty() || none.ids.size() <= 3 : true, wrong.name, "a wrong region ends nothing");
+        const btVector3 ends[] = {wrong.low, wrong.high, point};
+        for (const btVector3& from : ends)
+            for (const btVector3& to : ends) {
+                Ray ray(from, to);
+                broadphase.rayTest(from, to, ray, point, point);
+                broadphase.rayTest(point, to, ray, from, to);
+            }
+    }
+    BulletBroadphase broadphase(structure);
+    Boxes boxes(broadphase);
+    for (int k = 0; k < 5; k++) boxes.add(point, btVector3(1, 1, 1));
+    Found none;
+    broadphase.aabbTest(btVector3(1, 1, 1), point, none);
+    expect(none.ids.empty(), "an inverted region", "it finds nothing");
+}
+
+void too_many() {
+    const char* name = "one too many";
     std::vector<std::pair<Status, void*>> refused;
     BulletBroadphase::Options options;
     options.has_collision_objects = false;
     options.refused = [&](Status status, void* object) { refused.push_back({status, object}); };
-    BulletBroadphase broadphase(options);
-    Boxes boxes(broadphase);
-    btBroadphaseProxy* turned = broadphase.createProxy(btVector3(1, 1, 1), btVector3(0, 0, 0), 0, nullptr, 1, -1, nullptr);
-    boxes.proxies.push_back(turned);
-    boxes.add(btVector3(0.5f, 0.5f, 0.5f), btVector3(0.1f, 0.1f, 0.1f));
-    broadphase.calculateOverlappingPairs(nullptr);
-    expect(broadphase.getOverlappingPairCache()->getNumOverlappingPairs() == 1, "an inverted box is put right");
-    while (boxes.proxies.size() < PW_SLOTS) boxes.add(btVector3(btScalar(boxes.proxies.size() % 90) * 3, btScalar(boxes.proxies.size() / 90) * 3, 50), btVector3(1, 1, 1));
+    BulletBroadphase told(options), untold;
     int object = 0;
-    btBroadphaseProxy* none = broadphase.createProxy(btVector3(0, 0, 0), btVector3(1, 1, 1), 0, &object, 1, -1, nullptr);
-    expect(!none && refused.size() == 1 && refused[0].first == Status::full && refused[0].second == &object, "one too many is refused and told");
-    broadphase.setAabb(none, btVector3(0, 0, 0), btVector3(1, 1, 1), nullptr);
-    broadphase.destroyProxy(none, nullptr);
-    broadphase.calculateOverlappingPairs(nullptr);
+    for (auto* broadphase : {&told, &untold}) {
+        Boxes boxes(*broadphase);
+        for (int k = 0; k < int(PW_SLOTS); k++) boxes.add(btVector3(btScalar(k % 90) * 3, btScalar(k / 90) * 3, 0), btVector3(btScalar(k % 90) * 3 + 1, btScalar(k / 90) * 3 + 1, 1));
+        expect(boxes.pairs() == 0 && boxes.proxies.back(), name, "as many as there are slots");
+        auto* none = broadphase->createProxy(point, btVector3(1, 1, 1), 0, broadphase == &told ? &object : nullptr, 1, -1, nullptr);
+        expect(!none, name, "its proxy is null");
+        broadphase->setAabb(none, point, btVector3(1, 1, 1), nullptr);
+        btVector3 low, high;
+        broadphase->getAabb(none, low, high);
+        broadphase->destroyProxy(none, nullptr);
+        expect(boxes.pairs() == 0, name, "and the others are as before");
+        broadphase->destroyProxy(boxes.proxies[0], nullptr);
+        boxes.proxies[0] = broadphase->createProxy(point, btVector3(4, 1, 1), 0, nullptr, 1, -1, nullptr);
+        expect(boxes.proxies[0] && boxes.pairs() == 1, name, "there is room again if one goes");
+    }
+    expect(refused.size() == 1 && refused[0].first == Status::full && refused[0].second == &object, name, "the user is told, with the object");
+
+    // A body whose proxy is null is one that collides with nothing, in a world of Bullet's.
+    btDefaultCollisionConfiguration configuration;
+    btCollisionDispatcher dispatcher{&configuration};
+    BulletBroadphase broadphase(Structure::tree);
+    btCollisionWorld world(&dispatcher, &broadphase, &configuration);
+    btSphereShape ball(1);
+    std::vector<std::unique_ptr<btCollisionObject>> balls;
+    for (int k = 0; k < int(PW_SLOTS) + 3; k++) {
+        balls.push_back(std::make_unique<btCollisionObject>());
+        balls.back()->setCollisionShape(&ball);
+        balls.back()->getWorldTransform().setOrigin(btVector3(btScalar(k) * 3, 0, 0));
+        world.addCollisionObject(balls.back().get());
+    }
+    world.performDiscreteCollisionDetection();
+    btCollisionWorld::ClosestRayResultCallback hit(btVector3(0, 9, 0), btVector3(0, -9, 0));
+    world.rayTest(hit.m_rayFromWorld, hit.m_rayToWorld, hit);
+    expect(hit.hasHit() && !balls.back()->getBroadphaseHandle(), name, "a world goes on without it");
+    for (auto& one : balls) world.removeCollisionObject(one.get());
 }
 
-// Pair caches of the user's: one that removes when it is told, and one that does so when it is sorted.
 // The binding rounds as the library does, whose rounding is proved.
 void rounding() {
+    const char* name = "rounding";
     std::mt19937_64 random(11);
     const double ends[] = {-32768, std::nextafter(-32768.0, 0), -0.0, 0, 5e-324, -5e-324, 1 / 65536.0, std::nextafter(32767.0, 0), 32767};
     for (int k = 0; k < 300000; k++) {
@@ -321,32 +408,9 @@ void rounding() {
         if (side[0] > side[1]) std::swap(side[0], side[1]);
         double low[3] = {side[0], side[0], side[0]}, high[3] = {side[1], side[1], side[1]};
         pw_box box{};
-        expect(pw_box_around_double(low, high, &box) == PW_OK, "the library takes the sides", k);
+        expect(pw_box_around_double(low, high, &box) == PW_OK, name, "the library takes the sides", k);
         bool alike = pungwelair::raw_floor(side[0] * 65536) == box.lo.x && pungwelair::raw_ceiling(side[1] * 65536) == box.hi.z;
-        expect(alike, "the binding rounds as the library", k);
-    }
-}
-
-void own_caches() {
-    btHashedOverlappingPairCache hashed;
-    btSortedOverlappingPairCache sorted;
-    for (btOverlappingPairCache* cache : {static_cast<btOverlappingPairCache*>(&hashed), static_cast<btOverlappingPairCache*>(&sorted)}) {
-        BulletBroadphase::Options options;
-        options.cache = cache;
-        BulletBroadphase broadphase(Structure::grid, options);
-        Boxes boxes(broadphase);
-        Crowd crowd;
-        for (int k = 0; k < 60; k++) boxes.add(crowd.place(8), btVector3(0.6f, 0.6f, 0.6f));
-        for (int step = 0; step < 20; step++) {
-            for (auto* proxy : boxes.proxies) {
-                btVector3 by = crowd.place(2) - btVector3(1, 1, 1);
-                broadphase.setAabb(proxy, proxy->m_aabbMin + by, proxy->m_aabbMax + by, nullptr);
-            }
-            int met = boxes.count("a pair is in the user's cache", step);
-            int kept = broadphase.getOverlappingPairCache()->getNumOverlappingPairs();
-            // Boxes are rounded outward here, so some more may touch.
-            expect(kept >= met && kept <= met + 5, "and none that has parted", step);
-        }
+        expect(alike, name, "the binding rounds as the library", k);
     }
 }
 
@@ -354,21 +418,14 @@ void own_caches() {
 
 int main() {
     for (auto structure : {Structure::plain, Structure::sap, Structure::tree, Structure::grid, Structure::skin}) {
-        filters(structure);
-        callback_filters(structure);
-        groups(structure);
-        questions(structure);
-        long_rays(structure);
+        for (const RayCase& c : ray_cases) cast(c, structure);
+        regions(structure);
+        within(structure);
         far_out(structure);
-        BulletBroadphase ours(structure);
-        btDbvtBroadphase theirs;
-        int moved_ours = 0, moved_theirs = 0;
-        expect(ghost_sees(ours, moved_ours) == ghost_sees(theirs, moved_theirs), "a ghost sees at once what it does over dbvt");
-        expect(moved_ours == 1 && moved_theirs == 1, "a ghost that was moved sees at once what it came to");
+        wrong_boxes(structure);
     }
-    wrong_ones();
+    too_many();
     rounding();
-    own_caches();
     std::printf("verbs of Bullet: %d failed\n", failures);
     return failures != 0;
 }
