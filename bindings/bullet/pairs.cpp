@@ -101,7 +101,12 @@ struct Twins {
         theirs.setAabb(other[k], low, high, nullptr);
     }
     void move_all(btScalar most) {
-        for (std::size_t k = 0; k < one.size(); k++) move(k, place(2 * most) - btVector3(most, most, most));
+        for (std::size_t k = 0; k < one.size(); k++) {
+            btVector3 by = place(2 * most) - btVector3(most, most, most);
+            // Some along one axis alone.
+            if (k % 4 != 3) by *= btVector3(k % 4 == 0, k % 4 == 1, k % 4 == 2);
+            move(k, by);
+        }
     }
     void write(std::size_t k, int group, int mask) {
         one[k]->m_collisionFilterGroup = other[k]->m_collisionFilterGroup = group;
@@ -201,9 +206,10 @@ const Case cases[] = {
          stir(t, step);
          if (step % 12 == 5) t.filter_by(&t.rule);
          if (step % 12 == 9) t.filter_by(nullptr);
+         if (step % 2 == 0) t.drop(std::size_t(t.below(int(t.one.size()))));
          t.remove(std::size_t(t.below(int(t.one.size()))));
          t.add(t.place(12), t.place(3), 1 << t.below(4), t.below(16));
-         t.drop(std::size_t(t.below(int(t.one.size()))));
+         if (step % 3 == 0) t.drop(std::size_t(t.below(int(t.one.size()))));
          t.write(std::size_t(t.below(int(t.one.size()))), 1 << t.below(4), t.below(16));
      }, false, false},
 };
@@ -310,6 +316,7 @@ const GhostCase ghost_cases[] = {
     {"a ghost that is moved", 6, [](Ghosts& g) { g.move(g.ghost, 50.5f); }},
     {"a ghost that is moved there and back", 1, [](Ghosts& g) { g.move(g.ghost, 50.5f), g.move(g.ghost, 0); }},
     {"a ghost that stays while a body comes, and is told so", 3, [](Ghosts& g) {
+         g.world.updateAabbs();
          g.world.computeOverlappingPairs();
          g.move(g.bodies[1], -1);
          g.move(g.ghost, 0);
@@ -357,6 +364,8 @@ void own_caches(Structure structure) {
         for (int step = 0; step < 30; step++) {
             stir(t, step);
             if (step > 10) t.write(std::size_t(t.below(100)), 1 << t.below(4), t.below(16));
+            if (step == 12) t.filter_by(&t.rule);
+            if (step == 16) t.filter_by(nullptr);
             if (step > 20) t.drop(std::size_t(t.below(100)));
             t.step(step);
         }

@@ -14,15 +14,14 @@
 #define PUNGWELAIR_BROADPHASE_HPP
 
 #include "bullet_coordinates.hpp"
+#include "bullet_proxy.hpp"
 #include <BulletCollision/BroadphaseCollision/btBroadphaseInterface.h>
 #include <BulletCollision/BroadphaseCollision/btOverlappingPairCache.h>
 #include <BulletCollision/CollisionDispatch/btCollisionObject.h>
-#include <LinearMath/btAabbUtil2.h>
 #include <algorithm>
 #include <cstring>
 #include <functional>
 #include <memory>
-#include <type_traits>
 #include <unordered_set>
 #include <utility>
 #include <vector>
@@ -56,7 +55,6 @@ public:
                                    btDispatcher*) override {
         auto made = std::make_unique<Proxy>(low, high, object, group, mask);
         Proxy* proxy = made.get();
-        put_right(*proxy);
         proxy->m_uniqueId = ++last_id;
         // Moves that wait may go on waiting, if there is a world at all.
         Status status = flush();
@@ -64,7 +62,7 @@ public:
         if (is_lost && renew()) status = put(*proxy);
         if (status != Status::ok) return refuse(status, object), nullptr;
         proxy->place = proxies.size();
-        proxies.push_back({std::move(made), filter_of(*proxy)});
+        proxies.push_back({std::move(made), proxy->filter()});
         pair_with_ghosts(*proxy);
         if (!is_ghost(object)) return proxy;
         ghosts.push_back(proxy);
@@ -96,8 +94,7 @@ public:
     void setAabb(btBroadphaseProxy* given, const btVector3& low, const btVector3& high, btDispatcher*) override {
         if (!given) return;
         auto& proxy = *static_cast<Proxy*>(given);
-        if (!is_same_place(proxy.m_aabbMin, low)) return move(proxy, low, high);
-        if (!is_same_place(proxy.m_aabbMax, high)) return move(proxy, low, high);
+        if (!proxy.stands_at(low, high)) return move(proxy, low, high);
         if (!ghosts.empty() && proxy.is_ghost && (is_changed || !waiting.empty())) return move(proxy, low, high);
     }
 
@@ -116,7 +113,7 @@ public:
         drop_early_pairs(dispatcher);
         // A world that was opened anew tells no pair that is over, and a cache that removes when it is sorted didn't when it was told.
         if (is_stale || cache->hasDeferredRemoval())
-            drop_pairs(dispatcher, [this](Proxy& a, Proxy& b) { return !are_paired(a, b); });
+            drop_pairs(dispatcher, [](Proxy& a, Proxy& b) { return !a.is_paired_with(b); });
         if (is_refiltered) drop_pairs(dispatcher, [this](Proxy& a, Proxy& b) { return !cache->needsBroadphaseCollision(&a, &b); });
         // Pairs that the user took out come again while their boxes meet.
         if (is_dropped || is_refiltered) offer_all_pairs();
@@ -167,16 +164,7 @@ public:
     void printStats() override {}
 
 private:
-    struct Proxy final : btBroadphaseProxy {
-        using btBroadphaseProxy::btBroadphaseProxy;
-        pw_handle handle{};
-        pw_box has{};             // the box that the library has
-        pw_masks told{};          // and the masks
-        std::size_t place = 0;    // in the list of all
-        bool waits = false;       // a move of it waits
-        bool is_at_rim = false;   // its box leaves the range, or nearly so
-        bool is_ghost = false;
-    };
+    using Proxy = BulletProxy;
 
     // A proxy, with the filter that was found in it last. Users write there at any time, so each step looks at all of them.
     struct Kept {
@@ -216,26 +204,7 @@ private:
         if (options.refused) options.refused(status, object);
     }
 
-    // By their bits, since a NaN that stays is no move either, and without a branch for each number.
-    static bool is_same_place(const btVector3& a, const btVector3& b) {
-        return ((bits(a.x()) ^ bits(b.x())) | (bits(a.y()) ^ bits(b.y())) | (bits(a.z()) ^ bits(b.z()))) == 0;
-    }
-    static std::conditional_t<sizeof(btScalar) == 4, uint32_t, uint64_t> bits(btScalar number) {
-        std::conditional_t<sizeof(btScalar) == 4, uint32_t, uint64_t> bits;
-        std::memcpy(&bits, &number, sizeof bits);
-        return bits;
-    }
     static bool are_same(const pw_box& a, const pw_box& b) { return std::memcmp(&a, &b, sizeof a) == 0; }
-
-    static void put_right(Proxy& proxy) {
-        btVector3 low = proxy.m_aabbMin;
-        proxy.m_aabbMin.setMin(proxy.m_aabbMax);
-        proxy.m_aabbMax.setMax(low);
-    }
-
-    static bool meet(const Proxy& a, const Proxy& b) {
-        return TestAabbAgainstAabb2(a.m_aabbMin, a.m_aabbMax, b.m_aabbMin, b.m_aabbMax);
-    }
 
     bool is_ghost(void* object) const {
         return options.has_collision_objects && object &&
@@ -248,21 +217,10 @@ private:
         return proxy && proxy->handle.generation == handle.generation ? proxy : nullptr;
     }
 
-    // Group and mask by one load.
-    static uint64_t filter_of(const btBroadphaseProxy& proxy) {
-        return uint32_t(proxy.m_collisionFilterGroup) | uint64_t(uint32_t(proxy.m_collisionFilterMask)) << 32;
-    }
-    // One that is in no group pairs with nothing, and is found by questions all the same.
-    pw_masks masks_of(const Proxy& proxy) const {
-        if (is_open) return {1, ~0u};
-        if (proxy.m_collisionFilterGroup == 0) return {1, 0};
-        return {uint32_t(proxy.m_collisionFilterGroup), uint32_t(proxy.m_collisionFilterMask)};
-    }
+    pw_masks masks_of(const Proxy& proxy) const { return is_open ? pw_masks{1, ~0u} : proxy.masks(); }
 
     void move(Proxy& proxy, const btVector3& low, const btVector3& high) {
-        proxy.m_aabbMin = low;
-        proxy.m_aabbMax = high;
-        put_right(proxy);
+        proxy.set_box(low, high);
         if (!proxy.waits) waiting.push_back(&proxy);
         proxy.waits = true;
         if (proxy.is_ghost) pair_at_once(proxy);
@@ -340,7 +298,7 @@ private:
     void heed_filters() {
         if (cache->getOverlapFilterCallback() != filter) heed_callback();
         for (Kept& kept : proxies)
-            if (filter_of(*kept.proxy) != kept.filter) heed(kept);
+            if (kept.proxy->filter() != kept.filter) heed(kept);
     }
 
     void heed(Kept& kept) {
@@ -351,7 +309,7 @@ private:
             if (status != Status::ok) return refuse(status);
             proxy.told = masks;
         }
-        kept.filter = filter_of(proxy);
+        kept.filter = proxy.filter();
         is_changed = true;
         is_refiltered |= is_open;
     }
@@ -359,7 +317,6 @@ private:
     void heed_callback() {
         filter = cache->getOverlapFilterCallback();
         is_open = filter || !own;
-        is_changed = is_refiltered = true;
         for (Kept& kept : proxies) heed(kept);
     }
 
@@ -393,7 +350,7 @@ private:
         asked.swap(turned_down);
         for (const Handles& pair : asked) {
             Proxy *a = proxy_of(pair.first), *b = proxy_of(pair.second);
-            if (a && b && are_paired(*a, *b)) offer(*a, *b);
+            if (a && b && a->is_paired_with(*b)) offer(*a, *b);
         }
     }
 
@@ -411,7 +368,7 @@ private:
     template <class Each>
     void find(const btVector3& low, const btVector3& high, Each&& each) {
         auto each_that_meets = [&](Proxy& proxy) {
-            if (TestAabbAgainstAabb2(low, high, proxy.m_aabbMin, proxy.m_aabbMax)) each(proxy);
+            if (proxy.meets(low, high)) each(proxy);
         };
         if (flush() != Status::ok) return ask_all(each_that_meets);
         pw_box box = coordinates.box_around(low, high).box;
@@ -427,7 +384,7 @@ private:
     }
     void pair_with_ghosts(Proxy& other) {
         for (Proxy* ghost : ghosts)
-            if (meet(*ghost, other)) pair_early(*ghost, other);
+            if (ghost->meets(other.m_aabbMin, other.m_aabbMax)) pair_early(*ghost, other);
     }
     void pair_early(Proxy& ghost, Proxy& other) {
         if (!add_pair(ghost, other)) return;
@@ -439,17 +396,10 @@ private:
     void drop_early_pairs(btDispatcher* dispatcher) {
         for (const Handles& pair : early) {
             Proxy *a = proxy_of(pair.first), *b = proxy_of(pair.second);
-            if (a && b && !are_paired(*a, *b)) cache->removeOverlappingPair(a, b, dispatcher);
+            if (a && b && !a->is_paired_with(*b)) cache->removeOverlappingPair(a, b, dispatcher);
         }
         early.clear();
     }
-    // Whether the library has them as a pair.
-    bool are_paired(const Proxy& a, const Proxy& b) const {
-        const pw_box &one = a.has, &other = b.has;
-        return one.lo.x <= other.hi.x && other.lo.x <= one.hi.x && one.lo.y <= other.hi.y && other.lo.y <= one.hi.y &&
-               one.lo.z <= other.hi.z && other.lo.z <= one.hi.z && (a.told.is & b.told.sees) && (b.told.is & a.told.sees);
-    }
-
     template <class Which>
     void drop_pairs(btDispatcher* dispatcher, Which which) {
         struct Dropped : btOverlapCallback {

@@ -105,7 +105,7 @@ struct RayCase {
     btScalar room, size;                         // of the boxes
     void (*ray)(Crowd&, btVector3& from, btVector3& to);
     btScalar swept;                              // half the box that is swept
-    bool has_plane;                              // a plane without end stands among them
+    bool has_plane;                              // a plane without end stands among them, and a box beyond the range
     bool is_scaled;                              // far out, by origin and scale
 };
 const RayCase ray_cases[] = {
@@ -117,7 +117,9 @@ const RayCase ray_cases[] = {
     {"from far out", 4000, 400, [](Crowd& c, btVector3& a, btVector3& b) { a = c.place(4000), b = c.place(4000), a.setY(100000); }, 0, false, false},
     {"through the range from end to end", 4000, 400, [](Crowd& c, btVector3& a, btVector3& b) { b = c.place(4000), a = b * 2 - c.around(1) - btVector3(0, 70000, 0), b += b - a; }, 0, false, false},
     {"outside of the range", 4000, 400, [](Crowd& c, btVector3& a, btVector3& b) { a = c.place(9000) + btVector3(50000, 0, 0), b = a + c.around(9000); }, 0, false, false},
+    {"long rays through great boxes", 30000, 9000, [](Crowd& c, btVector3& a, btVector3& b) { a = c.place(30000), b = c.place(30000), a.setX(-32000), b.setX(32000); }, 0, false, false},
     {"from very far", 40, 8, [](Crowd& c, btVector3& a, btVector3& b) { a = c.around(1e12f), b = c.place(40); }, 0, false, false},
+    {"from where doubles are coarse", 40, 8, [](Crowd& c, btVector3& a, btVector3& b) { a = c.around(1e15f), b = c.place(40); }, 0, false, false},
     {"over a plane, from far out", 4000, 400, [](Crowd& c, btVector3& a, btVector3& b) { a = c.place(4000), b = c.place(4000), a.setY(100000); }, 0, true, false},
     {"a box is swept", 40, 2, [](Crowd& c, btVector3& a, btVector3& b) { a = c.place(40), b = a + c.around(10); }, 1.5f, false, false},
     {"a box is swept far", 4000, 200, [](Crowd& c, btVector3& a, btVector3& b) { a = c.around(30000), b = c.around(30000); }, 30, false, false},
@@ -137,15 +139,17 @@ void cast(const RayCase& c, Structure structure) {
         btVector3 low = crowd.place(c.room) + away;
         boxes.add(low, low + crowd.place(c.size));
     }
-    if (c.has_plane) boxes.add(btVector3(-1e18f, -1e18f, -1e18f), btVector3(1e18f, 0, 1e18f));
+    if (c.has_plane) boxes.add(btVector3(-1e18f, -1e18f, -1e18f), btVector3(1e18f, 0, 1e18f)), boxes.add(btVector3(0, 60000, 0), btVector3(4000, 60010, 4000));
     btVector3 high(c.swept, c.swept, c.swept), low = -high;
     int met = 0;
-    for (int k = 0; k < 150; k++) {
+    for (int k = 0; k < 300; k++) {
         btVector3 from, to;
         c.ray(crowd, from, to);
         from += away, to += away;
-        // Some graze an edge.
-        if (k % 3 == 0) to = boxes.proxies[crowd.random() % 200]->m_aabbMax;
+        // Some end at a corner or pass one.
+        const btVector3& corner = boxes.proxies[crowd.random() % 200]->m_aabbMax;
+        if (k % 3 == 0) to = corner;
+        if (k % 3 == 1 && from.length2() < 1e9f) to = corner + (corner - from) * 0.5f;
         // What casts are wider, in units of Bullet's, and what doubles round.
         double wider = 8 / 65536.0 / options.scale + (from.length() + to.length()) * 1e-13;
         Ray ray(from, to), short_ray(from, to);
