@@ -6,7 +6,6 @@
 #include <BulletCollision/CollisionDispatch/btGhostObject.h>
 #include <BulletDynamics/btBulletDynamicsCommon.h>
 #include <cstdio>
-#include <map>
 #include <random>
 #include <set>
 

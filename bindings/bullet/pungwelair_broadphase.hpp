@@ -49,6 +49,7 @@ public:
         : structure(structure), options(std::move(given)), coordinates(options.origin, options.scale),
           own(options.cache ? nullptr : new btHashedOverlappingPairCache), cache(own ? own.get() : options.cache), is_open(!own) {
         if (!renew()) refuse(Status::no_memory);
+        is_stale = false;
     }
 
     btBroadphaseProxy* createProxy(const btVector3& low, const btVector3& high, int, void* object, int group, int mask,
@@ -64,9 +65,8 @@ public:
         proxy->place = proxies.size();
         proxies.push_back({std::move(made), proxy->filter()});
         pair_with_ghosts(*proxy);
-        if (!is_ghost(object)) return proxy;
-        ghosts.push_back(proxy);
-        pair_at_once(*proxy);
+        proxy->is_ghost = is_ghost(object);
+        if (proxy->is_ghost) ghosts.push_back(proxy), pair_at_once(*proxy);
         return proxy;
     }
 
@@ -338,20 +338,20 @@ private:
         return true;
     }
 
-    bool add_pair(Proxy& a, Proxy& b) { return !cache->findPair(&a, &b) && cache->addOverlappingPair(&a, &b); }
+    bool is_taken(Proxy& a, Proxy& b) { return cache->findPair(&a, &b) || cache->addOverlappingPair(&a, &b); }
 
     void offer(Proxy& a, Proxy& b) {
-        if (!cache->findPair(&a, &b) && !cache->addOverlappingPair(&a, &b)) turned_down.push_back({a.handle, b.handle});
+        if (!is_taken(a, b)) turned_down.push_back({a.handle, b.handle});
     }
 
     // A filter of the user's may take later what it refused, so it is asked again when something has changed.
     void offer_again() {
-        std::vector<Handles> asked;
-        asked.swap(turned_down);
-        for (const Handles& pair : asked) {
+        std::size_t left = 0;
+        for (const Handles& pair : turned_down) {
             Proxy *a = proxy_of(pair.first), *b = proxy_of(pair.second);
-            if (a && b && a->is_paired_with(*b)) offer(*a, *b);
+            if (a && b && a->is_paired_with(*b) && !is_taken(*a, *b)) turned_down[left++] = pair;
         }
+        turned_down.resize(left);
     }
 
     void offer_all_pairs() {
@@ -377,7 +377,6 @@ private:
 
     // A ghost is asked for its pairs between two steps, so it has them at once, also with a box that comes to where it stands.
     void pair_at_once(Proxy& ghost) {
-        ghost.is_ghost = true;
         find(ghost.m_aabbMin, ghost.m_aabbMax, [&](Proxy& other) {
             if (&other != &ghost) pair_early(ghost, other);
         });
@@ -387,7 +386,7 @@ private:
             if (ghost->meets(other.m_aabbMin, other.m_aabbMax)) pair_early(*ghost, other);
     }
     void pair_early(Proxy& ghost, Proxy& other) {
-        if (!add_pair(ghost, other)) return;
+        if (cache->findPair(&ghost, &other) || !cache->addOverlappingPair(&ghost, &other)) return;
         early.push_back({ghost.handle, other.handle});
         settled_pairs++;
     }

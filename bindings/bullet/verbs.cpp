@@ -6,6 +6,8 @@
 #include <algorithm>
 #include <cmath>
 #include <cstdio>
+#include <cstring>
+#include <functional>
 #include <limits>
 #include <random>
 #include <set>
@@ -111,21 +113,45 @@ struct RayCase {
 const RayCase ray_cases[] = {
     {"short rays", 40, 2, [](Crowd& c, btVector3& a, btVector3& b) { a = c.place(40), b = a + c.around(10); }, 0, false, false},
     {"rays without length", 40, 8, [](Crowd& c, btVector3& a, btVector3& b) { a = b = c.place(40); }, 0, false, false},
-    {"along an axis", 40, 3, [](Crowd& c, btVector3& a, btVector3& b) { a = c.place(40), b = a, b[int(c.random() % 3)] += c.part(200) - 100; }, 0, false, false},
+    {"along an axis", 40, 3, [](Crowd& c, btVector3& a, btVector3& b) {
+         a = c.place(40), b = a, b[int(c.random() % 3)] += c.part(200) - 100;
+     }, 0, false, false},
     {"long rays", 4000, 200, [](Crowd& c, btVector3& a, btVector3& b) { a = c.around(10000), b = c.around(10000); }, 0, false, false},
-    {"as long as the range", 4000, 400, [](Crowd& c, btVector3& a, btVector3& b) { a = c.around(4000), b = c.around(4000), a.setX(-32000), b.setX(32000); }, 0, false, false},
-    {"from far out", 4000, 400, [](Crowd& c, btVector3& a, btVector3& b) { a = c.place(4000), b = c.place(4000), a.setY(100000); }, 0, false, false},
-    {"through the range from end to end", 4000, 400, [](Crowd& c, btVector3& a, btVector3& b) { b = c.place(4000), a = b * 2 - c.around(1) - btVector3(0, 70000, 0), b += b - a; }, 0, false, false},
-    {"outside of the range", 4000, 400, [](Crowd& c, btVector3& a, btVector3& b) { a = c.place(9000) + btVector3(50000, 0, 0), b = a + c.around(9000); }, 0, false, false},
-    {"long rays through great boxes", 30000, 9000, [](Crowd& c, btVector3& a, btVector3& b) { a = c.place(30000), b = c.place(30000), a.setX(-32000), b.setX(32000); }, 0, false, false},
+    {"as long as the range", 4000, 400, [](Crowd& c, btVector3& a, btVector3& b) {
+         a = c.around(4000), b = c.around(4000), a.setX(-32000), b.setX(32000);
+     }, 0, false, false},
+    {"from far out", 4000, 400, [](Crowd& c, btVector3& a, btVector3& b) {
+         a = c.place(4000), b = c.place(4000), a.setY(100000);
+     }, 0, false, false},
+    {"through the range from end to end", 4000, 400, [](Crowd& c, btVector3& a, btVector3& b) {
+         b = c.place(4000), a = b * 2 - c.around(1) - btVector3(0, 70000, 0), b += b - a;
+     }, 0, false, false},
+    {"outside of the range", 4000, 400, [](Crowd& c, btVector3& a, btVector3& b) {
+         a = c.place(9000) + btVector3(50000, 0, 0), b = a + c.around(9000);
+     }, 0, false, false},
+    {"long rays through great boxes", 30000, 9000, [](Crowd& c, btVector3& a, btVector3& b) {
+         a = c.place(30000), b = c.place(30000), a.setX(-32000), b.setX(32000);
+     }, 0, false, false},
     {"from very far", 40, 8, [](Crowd& c, btVector3& a, btVector3& b) { a = c.around(1e12f), b = c.place(40); }, 0, false, false},
-    {"from where doubles are coarse", 40, 8, [](Crowd& c, btVector3& a, btVector3& b) { a = c.around(1e15f), b = c.place(40); }, 0, false, false},
-    {"over a plane, from far out", 4000, 400, [](Crowd& c, btVector3& a, btVector3& b) { a = c.place(4000), b = c.place(4000), a.setY(100000); }, 0, true, false},
+    {"from where doubles are coarse", 40, 8, [](Crowd& c, btVector3& a, btVector3& b) {
+         a = c.around(1e15f), b = c.place(40);
+     }, 0, false, false},
+    {"over a plane, from far out", 4000, 400, [](Crowd& c, btVector3& a, btVector3& b) {
+         a = c.place(4000), b = c.place(4000), a.setY(100000);
+     }, 0, true, false},
     {"a box is swept", 40, 2, [](Crowd& c, btVector3& a, btVector3& b) { a = c.place(40), b = a + c.around(10); }, 1.5f, false, false},
-    {"a box is swept far", 4000, 200, [](Crowd& c, btVector3& a, btVector3& b) { a = c.around(30000), b = c.around(30000); }, 30, false, false},
-    {"a box as wide as the range", 4000, 200, [](Crowd& c, btVector3& a, btVector3& b) { a = c.place(4000), b = c.place(4000); }, 40000, false, false},
-    {"in centimetres far out", 1600, 60, [](Crowd& c, btVector3& a, btVector3& b) { a = c.place(1600), b = c.place(1600); }, 0, false, true},
-    {"swept in centimetres far out", 1600, 60, [](Crowd& c, btVector3& a, btVector3& b) { a = c.place(1600), b = c.place(1600); }, 20, false, true},
+    {"a box is swept far", 4000, 200, [](Crowd& c, btVector3& a, btVector3& b) {
+         a = c.around(30000), b = c.around(30000);
+     }, 30, false, false},
+    {"a box as wide as the range", 4000, 200, [](Crowd& c, btVector3& a, btVector3& b) {
+         a = c.place(4000), b = c.place(4000);
+     }, 40000, false, false},
+    {"in centimetres far out", 1600, 60, [](Crowd& c, btVector3& a, btVector3& b) {
+         a = c.place(1600), b = c.place(1600);
+     }, 0, false, true},
+    {"swept in centimetres far out", 1600, 60, [](Crowd& c, btVector3& a, btVector3& b) {
+         a = c.place(1600), b = c.place(1600);
+     }, 20, false, true},
 };
 
 void cast(const RayCase& c, Structure structure) {
@@ -139,7 +165,10 @@ void cast(const RayCase& c, Structure structure) {
         btVector3 low = crowd.place(c.room) + away;
         boxes.add(low, low + crowd.place(c.size));
     }
-    if (c.has_plane) boxes.add(btVector3(-1e18f, -1e18f, -1e18f), btVector3(1e18f, 0, 1e18f)), boxes.add(btVector3(0, 60000, 0), btVector3(4000, 60010, 4000));
+    if (c.has_plane) {
+        boxes.add(btVector3(-1e18f, -1e18f, -1e18f), btVector3(1e18f, 0, 1e18f));
+        boxes.add(btVector3(0, 60000, 0), btVector3(4000, 60010, 4000));
+    }
     btVector3 high(c.swept, c.swept, c.swept), low = -high;
     int met = 0;
     for (int k = 0; k < 300; k++) {
@@ -176,7 +205,8 @@ void cast(const RayCase& c, Structure structure) {
             double at = meets_at(from, to, low, high, short_ray.met[n], wider);
             expect(at * length <= short_ray.left[n] * 1.001 + 0.01, c.name, "a ray that is shortened isn't called beyond its end", k);
         }
-        bool is_found = !nearest || std::count(short_ray.met.begin(), short_ray.met.end(), nearest) == 1 || least * length > short_ray.m_lambda_max * 0.999 - 0.01;
+        bool is_found = !nearest || std::count(short_ray.met.begin(), short_ray.met.end(), nearest) == 1 ||
+                        least * length > short_ray.m_lambda_max * 0.999 - 0.01;
         expect(is_found, c.name, "the first that is met is called for, however the ray is shortened", k);
     }
     expect(met > 40 || c.room < c.size || !std::strcmp(c.name, "outside of the range"), c.name, "rays met boxes", met);
@@ -359,7 +389,10 @@ void too_many() {
     int object = 0;
     for (auto* broadphase : {&told, &untold}) {
         Boxes boxes(*broadphase);
-        for (int k = 0; k < int(PW_SLOTS); k++) boxes.add(btVector3(btScalar(k % 90) * 3, btScalar(k / 90) * 3, 0), btVector3(btScalar(k % 90) * 3 + 1, btScalar(k / 90) * 3 + 1, 1));
+        for (int k = 0; k < int(PW_SLOTS); k++) {
+            btVector3 low(btScalar(k % 90) * 3, btScalar(k / 90) * 3, 0);
+            boxes.add(low, low + btVector3(1, 1, 1));
+        }
         expect(boxes.pairs() == 0 && boxes.proxies.back(), name, "as many as there are slots");
         auto* none = broadphase->createProxy(point, btVector3(1, 1, 1), 0, broadphase == &told ? &object : nullptr, 1, -1, nullptr);
         expect(!none, name, "its proxy is null");
