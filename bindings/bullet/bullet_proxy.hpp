@@ -26,9 +26,12 @@ struct BulletProxy final : btBroadphaseProxy {
 
     // An inverted box is put right.
     void set_box(const btVector3& low, const btVector3& high) {
-        m_aabbMin = m_aabbMax = low;
-        m_aabbMin.setMin(high);
-        m_aabbMax.setMax(high);
+        m_aabbMin = low;
+        m_aabbMax = high;
+        if (m_aabbMin.x() <= m_aabbMax.x() && m_aabbMin.y() <= m_aabbMax.y() && m_aabbMin.z() <= m_aabbMax.z()) return;
+        btVector3 first = m_aabbMin;
+        m_aabbMin.setMin(m_aabbMax);
+        m_aabbMax.setMax(first);
     }
 
     bool stands_at(const btVector3& low, const btVector3& high) const { return are_same(m_aabbMin, low) && are_same(m_aabbMax, high); }
