@@ -275,13 +275,12 @@ private:
         moved_to.clear();
         for (Proxy* proxy : waiting) {
             BulletCoordinates::Placed placed = coordinates.box_around(proxy->m_aabbMin, proxy->m_aabbMax);
-            // A body that trembles at rest often has the same box here.
-            if (!are_same(placed.box, proxy->has)) {
-                moved.push_back(proxy->handle);
-                moved_to.push_back(placed.box);
-            }
-            take_place(*proxy, placed);
             proxy->waits = false;
+            // A body that trembles at rest often has the same box here.
+            if (are_same(placed.box, proxy->has)) continue;
+            moved.push_back(proxy->handle);
+            moved_to.push_back(placed.box);
+            take_place(*proxy, placed);
         }
         Status status = moved.empty() ? Status::ok : world.move(moved, moved_to).status;
         is_changed |= !moved.empty();
