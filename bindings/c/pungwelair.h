@@ -328,6 +328,15 @@ static inline pw_status pw_fix_above_double(double number, int32_t *out) {
     return pw_fix_above_64(bits, out);
 }
 
+/* From C11 on pw_fix_below and pw_fix_above take a double as the double that it is, since as a float it may be past the number that is
+ * asked for: 30000.99999 is 30001 there. A float and a whole number are taken as floats (each whole one within range is a float), and
+ * another type, as a long double, is refused by the compiler. In C++ (where fix_below and fix_above of pungwelair.hpp take either) and
+ * before C11 they are the functions above, to which a double comes narrowed: call pw_fix_below_double. */
+#if !defined __cplusplus && defined __STDC_VERSION__ && __STDC_VERSION__ >= 201112L
+#define pw_fix_below(number, out) _Generic((number) + 0.0f, float: pw_fix_below, double: pw_fix_below_double)((number), (out))
+#define pw_fix_above(number, out) _Generic((number) + 0.0f, float: pw_fix_above, double: pw_fix_above_double)((number), (out))
+#endif
+
 /* How a box comes that nobody owns, that moves, and that every box sees: it is in the first group and sees all. */
 static inline pw_new pw_seen_by_all(void) {
     pw_new how = {{1u, 0xffffffffu}, {0u, 0u}};

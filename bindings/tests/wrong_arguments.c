@@ -357,6 +357,27 @@ static void wrong_doubles(void) {
     EXPECT(pw_box_around_double(tenth, tenth, &around) == PW_OK && around.lo.x == 6553 && around.hi.x == 6554 && around.lo.y == -6554);
 }
 
+/* A number whose float is 30001 is rounded as the double that it is, whatever its qualifiers are, and evaluated once. */
+static void doubles_where_floats_are_taken(void) {
+    const double numbers[2] = {30000.99999, -30000.99999}, *next = numbers;
+    const int32_t whole = 30001 * 65536, fifth = 13107;
+    volatile double changing = numbers[0];
+    pw_status (*of_floats)(float, int32_t *) = pw_fix_below;
+    int32_t out;
+    EXPECT(pw_fix_below(30000.99999, &out) == PW_OK && out == whole - 1 && out == 1966145535);
+    EXPECT(pw_fix_above(-30000.99999, &out) == PW_OK && out == 1 - whole);
+    EXPECT(pw_fix_below(changing, &out) == PW_OK && out == whole - 1);
+    EXPECT(pw_fix_below(*next++, &out) == PW_OK && out == whole - 1 && next == numbers + 1);
+    EXPECT(pw_fix_above(*next++, &out) == PW_OK && out == 1 - whole && next == numbers + 2);
+    EXPECT(pw_fix_above(32767.99999, &out) == PW_OUT_OF_RANGE && pw_fix_below(32767.99999, &out) == PW_OK && out == INT32_MAX);
+    /* Floats and whole numbers are what they were, and so are the functions. */
+    EXPECT(pw_fix_below(30000.99999f, &out) == PW_OK && out == whole);
+    EXPECT(pw_fix_below(0.2f, &out) == PW_OK && out == fifth && pw_fix_above(0.2f, &out) == PW_OK && out == fifth + 1);
+    EXPECT(pw_fix_below(3, &out) == PW_OK && out == 3 * 65536 && pw_fix_above(-32768ll, &out) == PW_OK && out == INT32_MIN);
+    EXPECT(pw_fix_below(32768u, &out) == PW_OUT_OF_RANGE && pw_fix_above(INT64_MIN, &out) == PW_OUT_OF_RANGE);
+    EXPECT((pw_fix_below)(30000.99999f, &out) == PW_OK && out == whole && of_floats(0.2f, &out) == PW_OK && out == fifth);
+}
+
 int main(void) {
     closed_world();
     for (uint32_t structure = PW_PLAIN; structure <= PW_SKIN; structure++) {
@@ -377,5 +398,6 @@ int main(void) {
     }
     wrong_floats();
     wrong_doubles();
+    doubles_where_floats_are_taken();
     return tested("wrong_arguments");
 }
