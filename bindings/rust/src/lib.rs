@@ -7,27 +7,41 @@
 //! finds, and its exports say that one call at a time has a world. So a `World` is `Send` and not `Sync`. Each thread may have
 //! worlds of its own, and a world that several threads are to ask stands behind a lock.
 //!
+//! An answer goes into a slice of the caller's, and its call takes no memory of this side; the call whose name begins with `all_` gives a
+//! `Vec` with the whole of it, and `NoMemory` where there is none.
+//!
 //! ```no_run
 //! # fn main() -> Result<(), pungwelair::Error> {
-//! use pungwelair::{box_around, How, Pair, Structure, World};
+//! use pungwelair::{box_around, Handle, How, Structure, World};
 //! let mut world = World::new(Structure::Tree)?;
-//! let crate_box = box_around([0.0, 0.0, 0.0], [1.0, 1.0, 1.0])?;
-//! let handle = world.add(crate_box, How::default())?;
-//! world.shift(handle, box_around([0.5, 0.0, 0.0], [1.5, 1.0, 1.0])?)?;
-//! let frame = world.update()?;
-//! let mut pairs = vec![Pair::default(); frame.pairs];
-//! world.pairs(0, &mut pairs)?;
+//! let boxes = [box_around([0.0, 0.0, 0.0], [1.0, 1.0, 1.0])?, box_around([5.0, 0.0, 0.0], [6.0, 1.0, 1.0])?];
+//! let mut handles = [Handle::NONE; 2];
+//! world.add_all(&boxes, How::default(), &mut handles)?;
+//! world.shift(handles[0], box_around([4.5, 0.0, 0.0], [5.5, 1.0, 1.0])?)?;
+//! world.update()?;
+//! for change in world.all_changes()? {
+//!     println!("{:?} of slots {} and {}", change.event(), change.pair.a.slot, change.pair.b.slot);
+//! }
 //! # Ok(())
 //! # }
 //! ```
+//!
+//! # The library
+//!
+//! What this crate calls is `libpungwelair.a`, and `libpungwelair_heap.a` beside it. `bindings/build` of Pungwelair's repository makes both
+//! and puts them into `bindings/out`, where a crate in that repository finds them. Elsewhere the variable `PUNGWELAIR_LIB` names the folder
+//! that has them, as an absolute path. Without them the crate is checked and documented as with them, and a warning says what is missing;
+//! what links it fails.
+
+#![deny(missing_docs)]
 
 mod library;
 mod values;
 mod world;
 
 pub use values::{
-    box_around, box_around_f64, fix_above, fix_below, Body, Cast, Error, Event, Frame, Group, Handle, How, Info, Live, Masks, Near, Pair,
-    Point, Query, Ray, Stopped, Structure, Told,
+    box_around, box_around_f64, fix_above, fix_above_f64, fix_below, fix_below_f64, Body, Cast, Error, Event, Frame, Group, Handle, How,
+    Info, Live, Masks, Near, Pair, Point, Query, Ray, Stopped, Structure, Told,
 };
 pub use world::World;
 

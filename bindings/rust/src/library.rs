@@ -47,6 +47,8 @@ extern "C" {
     pub fn pw_info(world: &mut Held, out: &mut Info) -> u32;
     pub fn pw_fix_below_32(bits: u32, out: &mut i32) -> u32;
     pub fn pw_fix_above_32(bits: u32, out: &mut i32) -> u32;
+    pub fn pw_fix_below_64(bits: u64, out: &mut i32) -> u32;
+    pub fn pw_fix_above_64(bits: u64, out: &mut i32) -> u32;
     pub fn pw_box_around_32(lo: &Bits<u32>, hi: &Bits<u32>, out: &mut Body) -> u32;
     pub fn pw_box_around_64(lo: &Bits<u64>, hi: &Bits<u64>, out: &mut Body) -> u32;
 }

@@ -110,29 +110,85 @@ pub enum Structure {
     Skin = 4,
 }
 
-/// A place or a displacement, in raw units of 1/65,536.
+/// A place or a displacement, in raw units of 1/65,536. Its order is that of its numbers, for lists that are sorted and for maps: it
+/// says nothing of places.
 #[repr(C)]
 #[derive(Clone, Copy, Debug, Default, PartialEq, Eq, PartialOrd, Ord, Hash)]
 pub struct Point {
+    /// Along the first axis.
     pub x: i32,
+    /// Along the second axis.
     pub y: i32,
+    /// Along the third axis.
     pub z: i32,
 }
 
-/// A closed box. Boxes that touch meet. One whose `lo` is above its `hi` on some axis is none, and is refused.
+impl Point {
+    /// Of three raw numbers.
+    pub const fn new(x: i32, y: i32, z: i32) -> Point {
+        Point { x, y, z }
+    }
+}
+
+impl From<[i32; 3]> for Point {
+    fn from([x, y, z]: [i32; 3]) -> Point {
+        Point { x, y, z }
+    }
+}
+
+impl From<Point> for [i32; 3] {
+    fn from(at: Point) -> [i32; 3] {
+        [at.x, at.y, at.z]
+    }
+}
+
+/// A closed box. Boxes that touch meet. One whose `lo` is above its `hi` on some axis is none, and is refused. Its order is that of its
+/// numbers, as a [`Point`]'s.
 #[repr(C)]
-#[derive(Clone, Copy, Debug, Default, PartialEq, Eq, Hash)]
+#[derive(Clone, Copy, Debug, Default, PartialEq, Eq, PartialOrd, Ord, Hash)]
 pub struct Body {
+    /// The lower corner, which is in the box.
     pub lo: Point,
+    /// The upper corner, which is in it too.
     pub hi: Point,
+}
+
+impl Body {
+    /// Of two corners. It keeps any numbers: a box that is none is refused by the call that it comes to.
+    pub const fn new(lo: Point, hi: Point) -> Body {
+        Body { lo, hi }
+    }
+}
+
+impl From<[Point; 2]> for Body {
+    /// Of the lower corner and the upper one.
+    fn from([lo, hi]: [Point; 2]) -> Body {
+        Body { lo, hi }
+    }
+}
+
+impl From<([i32; 3], [i32; 3])> for Body {
+    /// Of the lower corner and the upper one.
+    fn from((lo, hi): ([i32; 3], [i32; 3])) -> Body {
+        Body { lo: lo.into(), hi: hi.into() }
+    }
 }
 
 /// The groups that a box is in and those that it sees, a bit each. Two boxes pair where each sees a group that the other is in.
 #[repr(C)]
-#[derive(Clone, Copy, Debug, PartialEq, Eq)]
+#[derive(Clone, Copy, Debug, PartialEq, Eq, PartialOrd, Ord, Hash)]
 pub struct Masks {
+    /// The groups that the box is in, by which questions find it.
     pub is: u32,
+    /// The groups that it sees.
     pub sees: u32,
+}
+
+impl Masks {
+    /// Of the groups that a box is in, and those that it sees.
+    pub const fn new(is: u32, sees: u32) -> Masks {
+        Masks { is, sees }
+    }
 }
 
 impl Default for Masks {
@@ -144,8 +200,9 @@ impl Default for Masks {
 
 /// Whose a box is (0: nobody's), and whether it is fixed. Boxes of one owner don't pair, nor do two fixed ones.
 #[repr(C)]
-#[derive(Clone, Copy, Debug, Default, PartialEq, Eq)]
+#[derive(Clone, Copy, Debug, Default, PartialEq, Eq, PartialOrd, Ord, Hash)]
 pub struct Group {
+    /// Whose the box is, and 0 for nobody's.
     pub owner: u32,
     fixed: u32,
 }
@@ -162,33 +219,53 @@ impl Group {
     }
 }
 
-/// How boxes come: nobody's, moving and seen by all unless it says otherwise.
+/// How boxes come: nobody's, moving and seen by all unless it says otherwise. A batch comes in one way, so boxes that are sorted by it
+/// make few batches.
 #[repr(C)]
-#[derive(Clone, Copy, Debug, Default, PartialEq, Eq)]
+#[derive(Clone, Copy, Debug, Default, PartialEq, Eq, PartialOrd, Ord, Hash)]
 pub struct How {
+    /// Which other boxes they pair with. [`World::mask`](crate::World::mask) changes it later.
     pub masks: Masks,
+    /// Whose they are, and whether they are fixed. That stays.
     pub group: Group,
+}
+
+impl How {
+    /// Of masks and a group.
+    pub const fn new(masks: Masks, group: Group) -> How {
+        How { masks, group }
+    }
 }
 
 /// What names a live box: its slot, and how often that slot was given before. Index your own slices by the slot.
 #[repr(C)]
 #[derive(Clone, Copy, Debug, Default, PartialEq, Eq, PartialOrd, Ord, Hash)]
 pub struct Handle {
+    /// The place among the live boxes, below [`SLOTS`](crate::SLOTS). A new box takes the least free one.
     pub slot: u32,
+    /// How often the slot was given before.
     pub generation: u32,
 }
 
 impl Handle {
+    /// Of a slot and its generation, as where a saved world is read.
+    pub const fn new(slot: u32, generation: u32) -> Handle {
+        Handle { slot, generation }
+    }
+
     /// The handle of no box, stale in every world. (The default one is that of the first box.)
     pub const NONE: Handle = Handle { slot: u32::MAX, generation: u32::MAX };
 }
 
 /// A live box.
 #[repr(C)]
-#[derive(Clone, Copy, Debug, Default, PartialEq, Eq)]
+#[derive(Clone, Copy, Debug, Default, PartialEq, Eq, Hash)]
 pub struct Live {
+    /// Where it is.
     pub body: Body,
+    /// Which other boxes it pairs with.
     pub masks: Masks,
+    /// Whose it is, and whether it is fixed.
     pub group: Group,
 }
 
@@ -196,24 +273,30 @@ pub struct Live {
 #[repr(C)]
 #[derive(Clone, Copy, Debug, Default, PartialEq, Eq, PartialOrd, Ord, Hash)]
 pub struct Pair {
+    /// The box of the lower slot.
     pub a: Handle,
+    /// The box of the upper slot.
     pub b: Handle,
 }
 
-/// What became of a pair.
-#[derive(Clone, Copy, Debug, PartialEq, Eq, Hash)]
+/// What became of a pair, in the order of a pair's life.
+#[derive(Clone, Copy, Debug, PartialEq, Eq, PartialOrd, Ord, Hash)]
 pub enum Event {
+    /// It is new.
     Begin,
+    /// It was there in the frame before, too.
     Stay,
+    /// It was there in the frame before, and is no more.
     Over,
 }
 
-/// What the last update told of a pair.
+/// What the last update told of a pair. Changes come in its order: those that began, by their pairs, and then those that are over.
 #[repr(C)]
-#[derive(Clone, Copy, Debug, Default, PartialEq, Eq)]
+#[derive(Clone, Copy, Debug, Default, PartialEq, Eq, PartialOrd, Ord, Hash)]
 pub struct Told {
     // A number, since an enum may not be read from memory that other code wrote.
     event: u32,
+    /// The pair. Where it is over a handle may be stale by now.
     pub pair: Pair,
 }
 
@@ -231,20 +314,37 @@ impl Told {
 /// How many pairs the frame has that an update ended, how many events, and how many changes, which are the events of pairs that began or
 /// are over.
 #[repr(C)]
-#[derive(Clone, Copy, Debug, Default, PartialEq, Eq)]
+#[derive(Clone, Copy, Debug, Default, PartialEq, Eq, Hash)]
 pub struct Frame {
+    /// How many pairs the frame has.
     pub pairs: usize,
+    /// How many events there are: the pairs, and those that are over.
     pub events: usize,
+    /// How many of the events aren't of a pair that stayed.
     pub changes: usize,
 }
 
-/// A question by a shape. The ray has no end, and its direction may be zero.
-#[derive(Clone, Copy, Debug, PartialEq, Eq)]
+/// A question by a shape.
+#[derive(Clone, Copy, Debug, PartialEq, Eq, Hash)]
 pub enum Query {
+    /// Which boxes meet this one.
     Region(Body),
+    /// Which boxes hold this place.
     Point(Point),
-    Ray { from: Point, direction: Point },
-    Segment { from: Point, to: Point },
+    /// Which boxes meet a ray, which has no end.
+    Ray {
+        /// Where it begins.
+        from: Point,
+        /// Where it goes, by any length. Zero asks for the boxes that hold `from`.
+        direction: Point,
+    },
+    /// Which boxes meet a segment.
+    Segment {
+        /// Its one end, which is on it.
+        from: Point,
+        /// Its other end, which is on it too.
+        to: Point,
+    },
 }
 
 /// The same as the library takes it, for the boxes of the groups of `mask`.
@@ -270,44 +370,58 @@ impl Query {
 
 /// A ray without end, for the boxes of the groups of `mask`.
 #[repr(C)]
-#[derive(Clone, Copy, Debug, PartialEq, Eq)]
+#[derive(Clone, Copy, Debug, PartialEq, Eq, Hash)]
 pub struct Ray {
+    /// The groups whose boxes it may meet.
     pub mask: u32,
+    /// Where it begins.
     pub from: Point,
+    /// Where it goes, by any length. Zero asks for the boxes that hold `from`.
     pub direction: Point,
 }
 
 /// A box that is moved along a line, by a displacement, and meets boxes of the groups of `mask` on its way.
 #[repr(C)]
-#[derive(Clone, Copy, Debug, PartialEq, Eq)]
+#[derive(Clone, Copy, Debug, PartialEq, Eq, Hash)]
 pub struct Cast {
+    /// The groups whose boxes it may meet.
     pub mask: u32,
+    /// The box where it starts.
     pub body: Body,
+    /// The way that it is moved.
     pub by: Point,
 }
 
 /// The boxes that are nearest to a place: at most `want`, of the groups of `mask`.
 #[repr(C)]
-#[derive(Clone, Copy, Debug, PartialEq, Eq)]
+#[derive(Clone, Copy, Debug, PartialEq, Eq, Hash)]
 pub struct Near {
+    /// The groups whose boxes are looked at.
     pub mask: u32,
+    /// How many are wanted at most.
     pub want: u32,
+    /// The place.
     pub at: Point,
 }
 
 /// What a world is. `exchanges` are those of the endpoint lists since the last frame, where it is sweep and prune, and else 0.
 #[repr(C)]
-#[derive(Clone, Copy, Debug, Default, PartialEq, Eq)]
+#[derive(Clone, Copy, Debug, Default, PartialEq, Eq, Hash)]
 pub struct Info {
     structure: u32,
     spent: u32,
+    /// How many boxes live.
     pub boxes: u32,
+    /// How many marks are held.
     pub marks: u32,
+    /// How many frames ended.
     pub frames: u64,
+    /// How many exchanges the endpoint lists made since the last frame.
     pub exchanges: u64,
 }
 
 impl Info {
+    /// How the world keeps its boxes.
     pub fn structure(&self) -> Structure {
         match self.structure {
             0 => Structure::Plain,
@@ -352,7 +466,7 @@ pub fn box_around_f64(lo: [f64; 3], hi: [f64; 3]) -> Result<Body, Error> {
     Ok(out)
 }
 
-/// The greatest raw number that is at most a float.
+/// The greatest raw number that is at most 65,536 times a float. `NotANumber` or `OutOfRange`.
 pub fn fix_below(number: f32) -> Result<i32, Error> {
     let mut out = 0;
     // SAFETY: a number, and a reference to a value of its own.
@@ -360,10 +474,26 @@ pub fn fix_below(number: f32) -> Result<i32, Error> {
     Ok(out)
 }
 
-/// The least raw number that is at least a float.
+/// The same of a double, which as a float could be above itself.
+pub fn fix_below_f64(number: f64) -> Result<i32, Error> {
+    let mut out = 0;
+    // SAFETY: a number, and a reference to a value of its own.
+    told(unsafe { library::pw_fix_below_64(number.to_bits(), &mut out) })?;
+    Ok(out)
+}
+
+/// The least raw number that is at least 65,536 times a float. `NotANumber` or `OutOfRange`.
 pub fn fix_above(number: f32) -> Result<i32, Error> {
     let mut out = 0;
     // SAFETY: a number, and a reference to a value of its own.
     told(unsafe { library::pw_fix_above_32(number.to_bits(), &mut out) })?;
+    Ok(out)
+}
+
+/// The same of a double, which as a float could be below itself.
+pub fn fix_above_f64(number: f64) -> Result<i32, Error> {
+    let mut out = 0;
+    // SAFETY: a number, and a reference to a value of its own.
+    told(unsafe { library::pw_fix_above_64(number.to_bits(), &mut out) })?;
     Ok(out)
 }

@@ -2,10 +2,13 @@
 
 use crate::library::{self, Held};
 use crate::values::{told, Body, Cast, Error, Frame, Handle, How, Info, Live, Masks, Near, Pair, Query, Ray, Stopped, Structure, Told};
+use crate::SLOTS;
 
 /// Moving boxes under handles. It is open for as long as it lives, and closed where it is dropped.
 pub struct World {
     held: Held,
+    // What the last update counted, which is how much room a list of its answers takes.
+    counts: Frame,
 }
 
 // SAFETY: a world's memory is reached by its two words alone, is plain data of no thread, and comes from a heap that any thread may
@@ -22,10 +25,43 @@ fn counted(status: u32, count: usize) -> Result<usize, Error> {
     told(status).map(|()| count)
 }
 
+// All that a call copies, where so many are expected: one call if no more are there, and else again for those behind, since the pairs
+// after a way back are those of an earlier frame.
+fn listed<Item: Copy + Default>(
+    expected: usize,
+    mut copy: impl FnMut(usize, &mut [Item]) -> Result<usize, Error>,
+) -> Result<Vec<Item>, Error> {
+    let mut all = Vec::new();
+    let mut room = expected + 1;
+    loop {
+        let from = all.len();
+        all.try_reserve_exact(room).map_err(|_| Error::NoMemory)?;
+        all.resize(from + room, Item::default());
+        let copied = copy(from, &mut all[from..])?;
+        all.truncate(from + copied);
+        if copied < room {
+            return Ok(all);
+        }
+        room = all.len();
+    }
+}
+
+// All that a question finds, which is asked once: there is room for any answer.
+fn found(ask: impl FnOnce(*mut Handle, &mut usize) -> u32) -> Result<Vec<Handle>, Error> {
+    let mut all = Vec::new();
+    all.try_reserve_exact(SLOTS).map_err(|_| Error::NoMemory)?;
+    let mut count = 0;
+    told(ask(all.as_mut_ptr(), &mut count))?;
+    // SAFETY: the list has room for so many, and the call wrote the first `count` of them.
+    unsafe { all.set_len(count.min(SLOTS)) };
+    all.shrink_to_fit();
+    Ok(all)
+}
+
 impl World {
     /// A world with no box. It refuses with `NoMemory` alone.
     pub fn new(structure: Structure) -> Result<World, Error> {
-        let mut world = World { held: Held::CLOSED };
+        let mut world = World { held: Held::CLOSED, counts: Frame::default() };
         // SAFETY: the words are those of a closed world.
         told(unsafe { library::pw_open(&mut world.held, structure as u32) })?;
         Ok(world)
@@ -94,6 +130,7 @@ impl World {
         let mut counts = Frame::default();
         // SAFETY: the words are those that the last call left; `counts` is a value of its own.
         told(unsafe { library::pw_update(&mut self.held, &mut counts) })?;
+        self.counts = counts;
         Ok(counts)
     }
 
@@ -105,6 +142,11 @@ impl World {
         counted(status, copied)
     }
 
+    /// All pairs of the last frame, in a list of their own. `NoMemory` where there is none for it.
+    pub fn all_pairs(&mut self) -> Result<Vec<Pair>, Error> {
+        listed(self.counts.pairs, |from, out| self.pairs(from, out))
+    }
+
     /// Copies what the last update told from number `from` on: its pairs, and then those that are over. It takes a step for each event
     /// before `from` too.
     pub fn events(&mut self, from: usize, out: &mut [Told]) -> Result<usize, Error> {
@@ -114,12 +156,22 @@ impl World {
         counted(status, copied)
     }
 
+    /// All that the last update told, in a list of its own. `NoMemory` where there is none for it.
+    pub fn all_events(&mut self) -> Result<Vec<Told>, Error> {
+        listed(self.counts.events, |from, out| self.events(from, out))
+    }
+
     /// The same without the pairs that stayed: those that began, and then those that are over. No pair that stayed costs a step.
     pub fn changes(&mut self, from: usize, out: &mut [Told]) -> Result<usize, Error> {
         let mut copied = 0;
         // SAFETY: the words are those that the last call left; the pointer leads to as many items as the length says.
         let status = unsafe { library::pw_changes(&mut self.held, from, out.as_mut_ptr(), out.len(), &mut copied) };
         counted(status, copied)
+    }
+
+    /// All pairs that began, and then all that are over, in a list of their own. `NoMemory` where there is none for it.
+    pub fn all_changes(&mut self) -> Result<Vec<Told>, Error> {
+        listed(self.counts.changes, |from, out| self.changes(from, out))
     }
 
     /// Tells how many boxes of the groups of `mask` meet a question, and copies the first of their handles, by slots. `Argument`
@@ -131,12 +183,24 @@ impl World {
         counted(status, count)
     }
 
+    /// All that it finds, in a list of their own.
+    pub fn all_hits(&mut self, query: Query, mask: u32) -> Result<Vec<Handle>, Error> {
+        // SAFETY: the words are those that the last call left; the pointer leads to room for as many items as the length says.
+        found(|out, count| unsafe { library::pw_hits(&mut self.held, &query.raw(mask), out, SLOTS, count) })
+    }
+
     /// The same for a ray, in the order in which it first meets the boxes.
     pub fn ray_hits(&mut self, ray: Ray, out: &mut [Handle]) -> Result<usize, Error> {
         let mut count = 0;
         // SAFETY: the words are those that the last call left; the pointer leads to as many items as the length says.
         let status = unsafe { library::pw_ray_hits(&mut self.held, &ray, out.as_mut_ptr(), out.len(), &mut count) };
         counted(status, count)
+    }
+
+    /// All that a ray meets, in the same order, in a list of their own.
+    pub fn all_ray_hits(&mut self, ray: Ray) -> Result<Vec<Handle>, Error> {
+        // SAFETY: the words are those that the last call left; the pointer leads to room for as many items as the length says.
+        found(|out, count| unsafe { library::pw_ray_hits(&mut self.held, &ray, out, SLOTS, count) })
     }
 
     /// The box that a ray meets first, and none if it meets none.
@@ -153,12 +217,24 @@ impl World {
         counted(status, count)
     }
 
-    /// The nearest boxes to a place, the nearest one first.
+    /// All that a moved box meets, in the same order, in a list of their own.
+    pub fn all_cast_hits(&mut self, cast: Cast) -> Result<Vec<Handle>, Error> {
+        // SAFETY: the words are those that the last call left; the pointer leads to room for as many items as the length says.
+        found(|out, count| unsafe { library::pw_cast_hits(&mut self.held, &cast, out, SLOTS, count) })
+    }
+
+    /// The nearest boxes to a place, the nearest one first: tells how many they are, and copies the first of their handles.
     pub fn nearest(&mut self, near: Near, out: &mut [Handle]) -> Result<usize, Error> {
         let mut count = 0;
         // SAFETY: the words are those that the last call left; the pointer leads to as many items as the length says.
         let status = unsafe { library::pw_nearest(&mut self.held, &near, out.as_mut_ptr(), out.len(), &mut count) };
         counted(status, count)
+    }
+
+    /// All of them, in the same order, in a list of their own.
+    pub fn all_nearest(&mut self, near: Near) -> Result<Vec<Handle>, Error> {
+        // SAFETY: the words are those that the last call left; the pointer leads to room for as many items as the length says.
+        found(|out, count| unsafe { library::pw_nearest(&mut self.held, &near, out, SLOTS, count) })
     }
 
     /// Marks the world as it stands, for rollback. `Full` where 64 marks are held.

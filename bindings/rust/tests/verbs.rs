@@ -1,9 +1,11 @@
 //! Each call of the crate once: that its declaration is the library's, and what it makes of a status.
 
 use pungwelair::{
-    box_around, box_around_f64, fix_above, fix_below, Body, Cast, Error, Event, Group, Handle, How, Masks, Near, Pair, Point, Query, Ray,
-    Stopped, Structure, Told, World,
+    box_around, box_around_f64, fix_above, fix_above_f64, fix_below, fix_below_f64, Body, Cast, Error, Event, Frame, Group, Handle, How,
+    Info, Live, Masks, Near, Pair, Point, Query, Ray, Stopped, Structure, Told, World,
 };
+use std::collections::{BTreeSet, HashSet};
+use std::hash::Hash;
 
 const STRUCTURES: [Structure; 5] = [Structure::Plain, Structure::Sap, Structure::Tree, Structure::Grid, Structure::Skin];
 const ORIGIN: Point = Point { x: 0, y: 0, z: 0 };
@@ -139,6 +141,119 @@ fn floats() {
     assert_eq!(box_around([f32::NAN; 3], [0.0; 3]), Err(Error::NotANumber));
     assert_eq!(box_around([0.0; 3], [32_768.0; 3]), Err(Error::OutOfRange));
     assert_eq!(box_around([1.0; 3], [0.0; 3]), Err(Error::Inverted));
+}
+
+// A double whose float is 30001.
+#[test]
+fn doubles_are_rounded_as_they_are() {
+    assert_eq!((fix_below(30000.99999), fix_above(-30000.99999)), (Ok(1_966_145_536), Ok(-1_966_145_536)));
+    assert_eq!((fix_below_f64(30000.99999), fix_above_f64(-30000.99999)), (Ok(1_966_145_535), Ok(-1_966_145_535)));
+    assert_eq!((fix_below_f64(0.1), fix_above_f64(0.1), fix_below_f64(-0.0)), (Ok(6553), Ok(6554), Ok(0)));
+    assert_eq!((fix_below_f64(32767.99999), fix_above_f64(32767.99999)), (Ok(i32::MAX), Err(Error::OutOfRange)));
+    assert_eq!((fix_below_f64(f64::NAN), fix_above_f64(f64::INFINITY)), (Err(Error::NotANumber), Err(Error::OutOfRange)));
+}
+
+// As constants, from plain numbers and back, and what is the least that each says.
+#[test]
+fn values_are_made() {
+    const LOW: Point = Point::new(-1, 2, 3);
+    const AROUND: Body = Body::new(LOW, Point::new(4, 5, 6));
+    const NONE: Body = Body::new(Point::new(4, 5, 6), LOW);
+    const FIXED: How = How::new(Masks::new(2, 5), Group::new(7, true));
+    const LAST: Handle = Handle::new(8191, 3);
+    assert_eq!(LOW, Point { x: -1, y: 2, z: 3 });
+    assert_eq!((Point::from([-1, 2, 3]), <[i32; 3]>::from(LOW)), (LOW, [-1, 2, 3]));
+    assert_eq!((Body::from(([-1, 2, 3], [4, 5, 6])), Body::from([LOW, Point::new(4, 5, 6)])), (AROUND, AROUND));
+    assert_eq!((NONE.lo, NONE.hi), (AROUND.hi, AROUND.lo));
+    assert_eq!(FIXED, How { masks: Masks { is: 2, sees: 5 }, group: Group::new(7, true) });
+    assert_eq!(LAST, Handle { slot: 8191, generation: 3 });
+    assert_eq!(How::default(), How::new(Masks::new(1, u32::MAX), Group::new(0, false)));
+    let mut world = World::new(Structure::Tree).unwrap();
+    assert_eq!(world.add(NONE, FIXED), Err(Error::Inverted));
+    assert_eq!(world.add(([0; 3], [1; 3]).into(), FIXED), Ok(Handle::new(0, 0)));
+}
+
+// Keys of sets, which hold one of two that are equal; those with an order come by their first number that differs.
+#[test]
+fn values_are_keys() {
+    fn hashed<Key: Hash + Eq>(keys: impl IntoIterator<Item = Key>) -> usize {
+        keys.into_iter().collect::<HashSet<Key>>().len()
+    }
+    fn sorted<Key: Ord + Hash + Copy + std::fmt::Debug>(rising: [Key; 3]) {
+        let [a, b, c] = rising;
+        assert_eq!(BTreeSet::from([c, a, b, a]).into_iter().collect::<Vec<_>>(), rising);
+        assert_eq!(hashed([c, a, b, a]), 3);
+    }
+    sorted([Point::new(0, 9, 9), Point::new(1, 0, 5), Point::new(1, 1, 0)]);
+    sorted([Body::new(ORIGIN, ORIGIN), cube(0), cube(1)]);
+    sorted([Masks::new(1, 9), Masks::new(2, 1), Masks::new(2, 3)]);
+    sorted([Group::new(0, true), Group::new(1, false), Group::new(1, true)]);
+    sorted([Masks::new(1, 1), Masks::new(1, 2), Masks::new(2, 0)].map(|masks| How::new(masks, Group::default())));
+    sorted([Handle::new(0, 9), Handle::new(1, 0), Handle::NONE]);
+    sorted([0, 1, 2].map(|slot| Pair { a: Handle::new(slot, 0), b: Handle::new(5, 0) }));
+    sorted([Event::Begin, Event::Stay, Event::Over]);
+    let live = Live { body: cube(0), ..Live::default() };
+    assert_eq!(hashed([live, Live::default(), live]), 2);
+    assert_eq!(hashed([Frame { pairs: 1, ..Frame::default() }, Frame::default()]), 2);
+    assert_eq!(hashed([Info::default(), Info::default()]), 1);
+    assert_eq!(hashed(STRUCTURES.into_iter().chain(STRUCTURES)), 5);
+    assert_eq!(hashed([Query::Point(ORIGIN), Query::Segment { from: ORIGIN, to: ORIGIN }]), 2);
+    let (ray, cast) = (Ray { mask: 1, from: ORIGIN, direction: ORIGIN }, Cast { mask: 1, body: cube(0), by: ORIGIN });
+    assert_eq!((hashed([ray, ray]), hashed([cast, cast]), hashed([Near { mask: 1, want: 2, at: ORIGIN }])), (1, 1, 1));
+}
+
+// What each call with a slice gives, in a list with no more than that.
+#[test]
+fn lists_of_their_own() {
+    for structure in STRUCTURES {
+        let mut world = World::new(structure).unwrap();
+        assert_eq!((world.all_pairs(), world.all_events(), world.all_changes()), (Ok(vec![]), Ok(vec![]), Ok(vec![])));
+        assert_eq!(world.all_hits(Query::Point(ORIGIN), 1), Ok(vec![]));
+
+        // Each box meets the two before it.
+        let bodies: Vec<Body> = (0..100).map(|k| cube(5 * k)).collect();
+        let mut handles = [Handle::NONE; 100];
+        world.add_all(&bodies, How::default(), &mut handles).unwrap();
+        assert_eq!(world.update().unwrap(), Frame { pairs: 197, events: 197, changes: 197 });
+        let (mut pairs, mut told) = ([Pair::default(); 300], [Told::default(); 300]);
+        assert_eq!((world.pairs(0, &mut pairs), world.all_pairs()), (Ok(197), Ok(pairs[..197].to_vec())));
+        assert_eq!((world.events(0, &mut told), world.all_events()), (Ok(197), Ok(told[..197].to_vec())));
+
+        // The changes come in the order of what is told.
+        world.mark().unwrap();
+        world.remove_all(&handles[..97]).unwrap();
+        world.shift(handles[99], cube(485)).unwrap();
+        world.add(cube(496), How::default()).unwrap();
+        let frame = world.update().unwrap();
+        assert_eq!((frame.pairs, world.all_pairs().unwrap().len()), (4, 4));
+        assert_eq!((frame.events, world.all_events().unwrap().len()), (198, 198));
+        let changes = world.all_changes().unwrap();
+        assert_eq!((world.changes(0, &mut told), &changes[..]), (Ok(frame.changes), &told[..frame.changes]));
+        assert!(changes.windows(2).all(|two| two[0] < two[1]) && changes[0].event() == Event::Begin);
+
+        // After a way back the last frame has more pairs than the last update counted; what that told stays.
+        world.back().unwrap();
+        assert_eq!((world.all_pairs(), world.all_changes()), (Ok(pairs[..197].to_vec()), Ok(changes)));
+
+        let (ray, by) = (Ray { mask: 1, from: Point::new(600, 5, 5), direction: Point::new(-1, 0, 0) }, Point::new(1000, 0, 0));
+        let backwards: Vec<Handle> = handles.iter().rev().copied().collect();
+        assert_eq!(world.all_hits(Query::Region(cube(12)), 1), Ok(handles[1..5].to_vec()));
+        assert_eq!((world.all_ray_hits(ray), world.all_ray_hits(Ray { mask: 2, ..ray })), (Ok(backwards), Ok(vec![])));
+        assert_eq!(world.all_cast_hits(Cast { mask: 1, body: cube(-20), by }), Ok(handles.to_vec()));
+        assert_eq!(world.all_nearest(Near { mask: 1, want: 2, at: Point::new(-9, 0, 0) }), Ok(handles[..2].to_vec()));
+        assert_eq!(world.all_hits(Query::Region(inverted()), 1), Err(Error::Argument));
+        assert_eq!(world.all_cast_hits(Cast { mask: 1, body: inverted(), by }), Err(Error::Inverted));
+    }
+}
+
+#[test]
+fn lists_of_a_full_world() {
+    let mut world = World::new(Structure::Grid).unwrap();
+    let bodies: Vec<Body> = (0..pungwelair::SLOTS as i32).map(|k| cube(20 * k)).collect();
+    let mut handles = vec![Handle::NONE; pungwelair::SLOTS];
+    world.add_all(&bodies, How::default(), &mut handles).unwrap();
+    let all = Query::Region(Body::new(Point::from([i32::MIN; 3]), Point::from([i32::MAX; 3])));
+    assert_eq!((world.all_hits(all, 1).unwrap(), world.all_pairs()), (handles, Ok(vec![])));
 }
 
 #[test]
