@@ -29,9 +29,9 @@
 //! # The library
 //!
 //! What this crate calls is `libpungwelair.a`, and `libpungwelair_heap.a` beside it. `bindings/build` of Pungwelair's repository makes both
-//! and puts them into `bindings/out`, where a crate in that repository finds them. Elsewhere the variable `PUNGWELAIR_LIB` names the folder
-//! that has them, as an absolute path. Without them the crate is checked and documented as with them, and a warning says what is missing;
-//! what links it fails.
+//! and puts them into `bindings/out`, where the crate finds them if it stands in that repository. Elsewhere the variable `PUNGWELAIR_LIB`
+//! names the folder that has them, by an absolute path. Without them the crate is checked and documented all the same, and a linker asks
+//! in vain for `pungwelair_of_bindings_build_or_PUNGWELAIR_LIB`.
 
 #![deny(missing_docs)]
 

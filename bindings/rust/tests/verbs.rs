@@ -228,6 +228,7 @@ fn lists_of_their_own() {
         assert_eq!((frame.pairs, world.all_pairs().unwrap().len()), (4, 4));
         assert_eq!((frame.events, world.all_events().unwrap().len()), (198, 198));
         let changes = world.all_changes().unwrap();
+        assert!(world.all_events().unwrap().capacity() < 200 && changes.capacity() < 197);
         assert_eq!((world.changes(0, &mut told), &changes[..]), (Ok(frame.changes), &told[..frame.changes]));
         assert!(changes.windows(2).all(|two| two[0] < two[1]) && changes[0].event() == Event::Begin);
 
