@@ -161,7 +161,8 @@ impl World {
         listed(self.counts.events, |from, out| self.events(from, out))
     }
 
-    /// The same without the pairs that stayed: those that began, and then those that are over. No pair that stayed costs a step.
+    /// Copies what the last update told of pairs that didn't stay, from number `from` on: those that began, and then those that are over.
+    /// No pair that stayed costs a step.
     pub fn changes(&mut self, from: usize, out: &mut [Told]) -> Result<usize, Error> {
         let mut copied = 0;
         // SAFETY: the words are those that the last call left; the pointer leads to as many items as the length says.
@@ -169,7 +170,7 @@ impl World {
         counted(status, copied)
     }
 
-    /// All pairs that began, and then all that are over, in a list of their own. `NoMemory` where there is none for it.
+    /// All that the last update told of pairs that didn't stay, in a list of its own. `NoMemory` where there is none for it.
     pub fn all_changes(&mut self) -> Result<Vec<Told>, Error> {
         listed(self.counts.changes, |from, out| self.changes(from, out))
     }
@@ -183,13 +184,14 @@ impl World {
         counted(status, count)
     }
 
-    /// All that it finds, in a list of their own.
+    /// All boxes of the groups of `mask` that meet a question, by slots, in a list of their own. Beside what `hits` refuses `NoMemory`
+    /// comes where there is none for the list.
     pub fn all_hits(&mut self, query: Query, mask: u32) -> Result<Vec<Handle>, Error> {
         // SAFETY: the words are those that the last call left; the pointer leads to room for as many items as the length says.
         found(|out, count| unsafe { library::pw_hits(&mut self.held, &query.raw(mask), out, SLOTS, count) })
     }
 
-    /// The same for a ray, in the order in which it first meets the boxes.
+    /// Tells how many boxes a ray meets, and copies the first of their handles, in the order in which it meets them.
     pub fn ray_hits(&mut self, ray: Ray, out: &mut [Handle]) -> Result<usize, Error> {
         let mut count = 0;
         // SAFETY: the words are those that the last call left; the pointer leads to as many items as the length says.
@@ -197,7 +199,7 @@ impl World {
         counted(status, count)
     }
 
-    /// All that a ray meets, in the same order, in a list of their own.
+    /// All boxes that a ray meets, in the order in which it meets them, in a list of their own.
     pub fn all_ray_hits(&mut self, ray: Ray) -> Result<Vec<Handle>, Error> {
         // SAFETY: the words are those that the last call left; the pointer leads to room for as many items as the length says.
         found(|out, count| unsafe { library::pw_ray_hits(&mut self.held, &ray, out, SLOTS, count) })
@@ -209,7 +211,8 @@ impl World {
         Ok((self.ray_hits(ray, &mut first)? > 0).then_some(first[0]))
     }
 
-    /// The same for a moved box, in the order in which it first meets the boxes on its way. `Inverted` where it is none.
+    /// Tells how many boxes a moved box meets, and copies the first of their handles, in the order in which it meets them on its way.
+    /// `Inverted` where it is none.
     pub fn cast_hits(&mut self, cast: Cast, out: &mut [Handle]) -> Result<usize, Error> {
         let mut count = 0;
         // SAFETY: the words are those that the last call left; the pointer leads to as many items as the length says.
@@ -217,7 +220,7 @@ impl World {
         counted(status, count)
     }
 
-    /// All that a moved box meets, in the same order, in a list of their own.
+    /// All boxes that a moved box meets, in the order in which it meets them, in a list of their own. `Inverted` where it is none.
     pub fn all_cast_hits(&mut self, cast: Cast) -> Result<Vec<Handle>, Error> {
         // SAFETY: the words are those that the last call left; the pointer leads to room for as many items as the length says.
         found(|out, count| unsafe { library::pw_cast_hits(&mut self.held, &cast, out, SLOTS, count) })
@@ -231,7 +234,7 @@ impl World {
         counted(status, count)
     }
 
-    /// All of them, in the same order, in a list of their own.
+    /// The nearest boxes to a place, the nearest one first, in a list of their own.
     pub fn all_nearest(&mut self, near: Near) -> Result<Vec<Handle>, Error> {
         // SAFETY: the words are those that the last call left; the pointer leads to room for as many items as the length says.
         found(|out, count| unsafe { library::pw_nearest(&mut self.held, &near, out, SLOTS, count) })
