@@ -240,6 +240,7 @@ fn lists_of_their_own() {
         let backwards: Vec<Handle> = handles.iter().rev().copied().collect();
         assert_eq!(world.all_hits(Query::Region(cube(12)), 1), Ok(handles[1..5].to_vec()));
         assert_eq!((world.all_ray_hits(ray), world.all_ray_hits(Ray { mask: 2, ..ray })), (Ok(backwards), Ok(vec![])));
+        assert!(world.all_ray_hits(ray).unwrap().capacity() < 200);
         assert_eq!(world.all_cast_hits(Cast { mask: 1, body: cube(-20), by }), Ok(handles.to_vec()));
         assert_eq!(world.all_nearest(Near { mask: 1, want: 2, at: Point::new(-9, 0, 0) }), Ok(handles[..2].to_vec()));
         assert_eq!(world.all_hits(Query::Region(inverted()), 1), Err(Error::Argument));
