@@ -1,20 +1,663 @@
-"""What the wrapper for Python tells of frames, over each structure."""
+"""The package for Python: each call, what it takes and gives, and what it refuses. The cases of the first table run over each structure."""
 
-from pungwelair import BEGIN, GRID, OVER, PLAIN, SAP, SKIN, STAY, TREE, World, box_around
+import array
+import contextlib
+import copy
+import ctypes
+import gc
+import inspect
+import os
+import pickle
+import struct
+import subprocess
+import sys
+import threading
+import tracemalloc
+import warnings
+from pathlib import Path
+
+import pungwelair
+from pungwelair import (
+    ALL, BEGIN, MOST_MARKS, NO_HANDLE, OVER, PLAIN, SLOTS, STAY, TREE, Box, Event, Handle, Live, Pair, Point, Ray, Refused, Segment, Status,
+    Stopped, Structure, Told, World, box_around, fix_above, fix_below, library,
+)  # fmt: skip
+
+try:
+    import numpy
+except ImportError:
+    numpy = None
 
 
 def cube(x):
     return box_around((x, 0, 0), (x + 1, 1, 1))
 
 
-for structure in (PLAIN, SAP, TREE, GRID, SKIN):
-    with World(structure) as world:
-        assert world.events() == world.changes() == []
-        boxes = [world.add(cube(x)) for x in (0, 1, 2, 9)]
-        assert world.update() == world.changes() == [(BEGIN, 0, 1), (BEGIN, 1, 2)]
-        world.move(boxes[0], cube(10))
+def raw(x):
+    """A cube of ten raw units."""
+    return Box((x, 0, 0), (x + 10, 10, 10))
+
+
+def raises(kind, call, *arguments, **named):
+    """What a call raises, which is of this kind and of no other."""
+    try:
+        given = call(*arguments, **named)
+    except Exception as fault:
+        assert type(fault) is kind, (fault, kind, arguments)
+        return fault
+    raise AssertionError(f"{call.__name__}{arguments} gave {given}, and should raise {kind.__name__}")
+
+
+def refused(status, call, *arguments, **named):
+    assert raises(Refused, call, *arguments, **named).status is status
+
+
+def stopped(status, done, call, *arguments, **named):
+    fault = raises(Stopped, call, *arguments, **named)
+    assert isinstance(fault, Refused) and (fault.status, fault.done) == (status, done), fault
+    return fault
+
+
+# Frames and pairs.
+
+
+def slots_of_frames(world):
+    assert world.events() == world.changes() == []
+    boxes = [world.add(cube(x)) for x in (0, 1, 2, 9)]
+    assert world.update() == world.changes() == [(BEGIN, 0, 1), (BEGIN, 1, 2)]
+    world.move(boxes[0], cube(10))
+    world.end_frame()
+    assert world.changes() == [(BEGIN, 0, 3), (OVER, 0, 1)]
+    assert world.events() == [(BEGIN, 0, 3), (STAY, 1, 2), (OVER, 0, 1)]
+    assert world.update() == [(STAY, 0, 3), (STAY, 1, 2)] and world.changes() == []
+
+
+def handles_of_frames(world):
+    assert world.pairs() == world.pair_events() == world.pair_changes() == [] and world.frame == (0, 0, 0)
+    a, b, c = (world.add(cube(x)) for x in (0, 1, 2))
+    world.end_frame()
+    assert world.pairs() == [Pair(a, b), Pair(b, c)] and world.frame == (2, 2, 2)
+    world.remove(a)
+    later = world.add(cube(3))
+    assert later == Handle(a.slot, a.generation + 1)
+    world.end_frame()
+    assert world.pair_changes() == [Told(BEGIN, later, c), Told(OVER, a, b)]
+    assert world.pair_events() == [Told(BEGIN, later, c), Told(STAY, b, c), Told(OVER, a, b)]
+    assert [told.pair for told in world.pair_events()[:2]] == world.pairs() == [Pair(later, c), Pair(b, c)]
+    assert all(type(told.event) is Event for told in world.pair_events())
+    assert {told.a for told in world.pair_events()} == {a, later, b}
+
+
+def long_lists(world):
+    handles = world.add_all([raw(0)] * 100)
+    world.end_frame()
+    pairs = [Pair(a, b) for k, a in enumerate(handles) for b in handles[k + 1 :]]
+    begun = [Told(BEGIN, *pair) for pair in pairs]
+    assert world.pairs() == pairs and world.pair_events() == world.pair_changes() == begun
+    assert world.events() == world.changes() == [(BEGIN, a.slot, b.slot) for a, b in pairs]
+    out = array.array("I", [7] * 4 * 2000)
+    assert world.pairs_into(out, 4000) == 950 and tuple(out[:4]) == (*pairs[4000].a, *pairs[4000].b) and out[4 * 950] == 7
+    told = array.array("I", [7] * 5 * 3)
+    assert world.pair_events_into(told, 4948) == world.pair_changes_into(told, 4948) == 2
+    assert tuple(told[5:]) == (BEGIN, *pairs[-1].a, *pairs[-1].b, 7, 7, 7, 7, 7)
+    assert world.pairs_into(out, 4950) == world.pairs_into(out, 2**80) == 0
+    raises(ValueError, world.pairs_into, out, -1)
+    raises(ValueError, world.pairs_into, told)
+    # The frame that a way back brings has more pairs than the last one that ended.
+    world.mark()
+    world.remove_all(handles)
+    world.end_frame()
+    assert world.pairs() == [] and world.frame == (0, 4950, 4950)
+    world.back()
+    assert world.pairs() == pairs and world.pair_changes() == [Told(OVER, *pair) for pair in pairs]
+
+
+# Changes of one box.
+
+
+def live_boxes(world):
+    handle = world.add(cube(0), groups=2, sees=4, owner=5, fixed=True)
+    assert world.get(handle) == Live(cube(0), 2, 4, 5, True)
+    world.mask(handle, 8, ALL)
+    world.move(handle, cube(3))
+    assert world.get(handle) == Live(box=cube(3), groups=8, sees=ALL, owner=5, fixed=True)
+    assert world.hits(cube(3), mask=7) == [] and world.hits(cube(3), mask=8) == [handle]
+    assert world.get(world.add(cube(1))) == (cube(1), 1, ALL, 0, False)
+    info = world.info()
+    assert info == (info.structure, False, 2, 0, 0, info.exchanges) and type(info.structure) is Structure
+    world.remove(handle)
+    for call in (world.get, world.remove, lambda gone: world.move(gone, cube(0)), lambda gone: world.mask(gone, 1, 1)):
+        refused(Status.STALE, call, handle)
+        refused(Status.STALE, call, NO_HANDLE)
+    inverted = Box((1, 0, 0), (0, 0, 0))
+    refused(Status.INVERTED, world.add, inverted)
+    refused(Status.INVERTED, world.move, handle, inverted)
+    assert str(raises(Refused, world.remove, handle)) == "stale"
+
+
+def wrong_types(world):
+    handle, box = world.add(cube(0)), cube(0)
+    raises(TypeError, world.move, box, handle)
+    for wrong in (None, 0, handle, tuple(box), "box", b"x" * 24, Point(0, 0, 0), Pair(handle, handle)):
+        raises(TypeError, world.add, wrong)
+        raises(TypeError, world.move, handle, wrong)
+        raises(TypeError, world.cast_hits, wrong, (0, 0, 0))
+        raises(TypeError, world.add_all, [box, wrong])
+        raises(TypeError, world.move_all, [handle], [wrong])
+    for wrong in (None, 0, box, tuple(handle), "handle", b"x" * 8, Point(0, 0, 0), Pair(handle, handle)):
+        raises(TypeError, world.remove, wrong)
+        raises(TypeError, world.get, wrong)
+        raises(TypeError, world.mask, wrong, 1, 1)
+        raises(TypeError, world.move, wrong, box)
+        raises(TypeError, world.remove_all, [handle, wrong])
+    raises(TypeError, world.move_all, [box], [handle])
+    for wrong in (None, handle, (0, 0, 0), "hits"):
+        raises(TypeError, world.hits, wrong)
+    assert world.info().boxes == 1 and world.get(handle).box == box
+
+
+def wrong_numbers(world):
+    handle, out = world.add(raw(0)), bytearray(80)
+    for wrong, kind in ((-1, ValueError), (2**32, ValueError), (1 << 40, ValueError), (1.0, TypeError), ("1", TypeError), (None, TypeError)):
+        for name in ("groups", "sees", "owner"):
+            raises(kind, world.add, raw(0), **{name: wrong})
+            raises(kind, world.add_all, [raw(0)], **{name: wrong})
+            raises(kind, world.add_all_into, out, [raw(0)], **{name: wrong})
+        raises(kind, world.mask, handle, wrong, 1)
+        raises(kind, world.mask, handle, 1, wrong)
+        raises(kind, world.hits, raw(0), wrong)
+        raises(kind, world.ray_hits, (0, 0, 0), (1, 0, 0), wrong)
+        raises(kind, world.first_hit, (0, 0, 0), (1, 0, 0), wrong)
+        raises(kind, world.cast_hits_into, out, raw(0), (1, 0, 0), wrong)
+        raises(kind, world.nearest, (0, 0, 0), wrong)
+        raises(kind, world.nearest, (0, 0, 0), 1, wrong)
+        raises(kind, world.remove, Handle(wrong, 0))
+        raises(kind, world.remove_all, [Handle(0, wrong)])
+        raises(kind, World, wrong)
+    for wrong, kind in ((2**31, ValueError), (-(2**31) - 1, ValueError), (0.5, TypeError), ("1", TypeError)):
+        place = (0, wrong, 0)
+        raises(kind, world.add, Box((0, 0, 0), place))
+        raises(kind, world.move, handle, Box(place, (0, 0, 0)))
+        raises(kind, world.add_all, [Box((0, 0, 0), place)])
+        raises(kind, world.hits, Point(*place))
+        raises(kind, world.hits, Segment(Point(), place))
+        raises(kind, world.ray_handles, place, (1, 0, 0))
+        raises(kind, world.cast_hits, raw(0), place)
+        raises(kind, world.nearest, place)
+    for wrong in ((0, 0), (0, 0, 0, 0)):
+        raises(ValueError, Box, wrong, (0, 0, 0))
+        raises(ValueError, world.hits, Ray(wrong, (0, 0, 0)))
+        raises(ValueError, world.ray_hits, (0, 0, 0), wrong)
+        raises(ValueError, world.cast_hits, raw(0), wrong)
+        raises(ValueError, world.nearest, wrong)
+    assert world.info().boxes == 1 and world.get(handle) == (raw(0), 1, ALL, 0, False)
+
+
+# Questions.
+
+
+def questions(world):
+    far, near = world.add(raw(50)), world.add(raw(0))
+    origin, direction = (-5, 5, 5), (2, 0, 0)
+    assert world.hits(raw(5)) == world.hits(raw(5), 1) == [near] and world.hits(Box((0, 0, 0), (50, 0, 0))) == [far, near]
+    assert world.hits(Point(10, 0, 0)) == [near] and world.hits(Point(11, 0, 0)) == []
+    assert world.hits(Ray(Point(*origin), Point(*direction))) == world.hits(Ray(origin, direction)) == [far, near]
+    assert world.hits(Segment(origin, (-1, 5, 5))) == [] and world.hits(Segment(origin, (0, 5, 5))) == [near]
+    assert world.ray_handles(origin, direction) == [near, far] and world.ray_hits(origin, direction) == [near.slot, far.slot]
+    assert world.ray_handles(origin, direction, mask=2) == world.ray_hits(origin, direction, mask=2) == []
+    assert world.first_hit(origin, direction) == near and world.first_hit(origin, (-1, 0, 0)) is None
+    assert world.cast_hits(raw(-20), (60, 0, 0)) == [near, far] and world.cast_hits(raw(-20), (10, 0, 0)) == [near]
+    assert world.nearest((40, 5, 5)) == [far] and world.nearest((40, 5, 5), 9) == [far, near]
+    assert world.nearest((0, 0, 0), want=0) == world.nearest((0, 0, 0), want=ALL, mask=2) == []
+    refused(Status.ARGUMENT, world.hits, Box((1, 0, 0), (0, 0, 0)))
+    refused(Status.INVERTED, world.cast_hits, Box((1, 0, 0), (0, 0, 0)), (0, 0, 0))
+    line = Box((0, 0, 0), (50, 0, 0))
+    for call, arguments, answer in (
+        (world.hits_into, (line,), [far, near]),
+        (world.hits_into, (Ray(origin, direction), 1), [far, near]),
+        (world.ray_handles_into, (origin, direction), [near, far]),
+        (world.cast_hits_into, (raw(-20), (60, 0, 0)), [near, far]),
+        (world.nearest_into, ((40, 5, 5), 2), [far, near]),
+    ):
+        for room in range(4):
+            out = array.array("I", [7] * 2 * room)
+            assert call(out, *arguments) == 2, call.__name__
+            written = [number for handle in answer[:room] for number in handle]
+            assert list(out) == written + [7] * (2 * room - len(written)), call.__name__
+    assert world.hits_into(array.array("I"), line, 2) == 0
+
+
+# Batches.
+
+
+def batches_of_values(world):
+    handles = world.add_all([raw(20 * k) for k in range(5)], groups=3, owner=9)
+    assert handles == [Handle(k, 0) for k in range(5)] and all(world.get(handle)[1:4] == (3, ALL, 9) for handle in handles)
+    world.move_all(tuple(handles), (raw(k) for k in range(5)))
+    assert [world.get(handle).box for handle in handles] == [raw(k) for k in range(5)]
+    world.remove_all(iter(handles[3:]))
+    assert world.info().boxes == 3
+    assert world.add_all([]) == [] and world.move_all([], []) is None and world.remove_all(()) is None
+
+    inverted = Box((0, 1, 0), (0, 0, 0))
+    fault = stopped(Status.INVERTED, 2, world.add_all, [raw(0), raw(1), inverted, raw(2)])
+    assert fault.handles == [Handle(3, 1), Handle(4, 1)] and world.get(fault.handles[1]).box == raw(1)
+    assert str(fault) == "inverted, after 2 were done"
+    stopped(Status.STALE, 1, world.move_all, [handles[0], handles[4], handles[1]], [raw(70)] * 3)
+    assert world.get(handles[0]).box == raw(70) and world.get(handles[1]).box == raw(1)
+    stopped(Status.ARGUMENT, 0, world.move_all, handles[:2], [raw(0)])
+    stopped(Status.STALE, 1, world.remove_all, [handles[0], handles[0], handles[1]])
+    assert world.info().boxes == 4
+    stopped(Status.ARGUMENT, 0, world.add_all_into, bytearray(8), [raw(0)] * 2)
+    out = bytearray(8 * 3)
+    stopped(Status.INVERTED, 1, world.add_all_into, out, [raw(0), inverted, raw(0)])
+    assert list(struct.iter_unpack("=2I", out)) == [Handle(0, 1), (0, 0), (0, 0)]
+
+
+class ThreeNumbers(ctypes.Structure):
+    _fields_ = [("x", ctypes.c_int32), ("yz", ctypes.c_int32 * 2)]
+
+
+class TwoCorners(ctypes.Structure):
+    _fields_ = [("lo", ThreeNumbers), ("hi", ThreeNumbers)]
+
+
+class SlotAndGeneration(ctypes.Structure):
+    _fields_ = [("slot", ctypes.c_uint32), ("generation", ctypes.c_uint32)]
+
+
+def buffers_of(numbers, letter, columns, row):
+    """Whole numbers as buffers of many kinds: rows of so many, whose struct is `row`."""
+    one = {"i": ctypes.c_int32, "I": ctypes.c_uint32}[letter]
+    flat, count = array.array(letter, numbers), len(numbers) // columns
+    yield "an array", flat
+    yield "a view", memoryview(flat)
+    yield "a view of rows", memoryview(flat).cast("B").cast(letter, [count, columns])
+    yield "a view that can't be written", memoryview(flat).toreadonly()
+    yield "bytes", flat.tobytes()
+    yield "bytes that can be written", bytearray(flat)
+    yield "a part of bytes", memoryview(b"abcd" + flat.tobytes())[4:]
+    yield "numbers of ctypes", (one * len(numbers)).from_buffer_copy(flat)
+    yield "rows of ctypes", (one * columns * count).from_buffer_copy(flat)
+    yield "structs of ctypes", (row * count).from_buffer_copy(flat)
+    if numpy:
+        rows = numpy.array(flat).reshape(count, columns)
+        rows.flags.writeable = False
+        yield "an array of numpy", numpy.array(flat)
+        yield "rows of numpy that can't be written", rows
+        yield "structs of numpy", numpy.array(flat).view([("first", one), ("others", one, (columns - 1,))])
+    if numpy and columns == 6:
+        yield "corners of numpy", numpy.array(flat).reshape(count, 2, 3)
+
+
+def batches_of_buffers(world):
+    boxes = [raw(20 * k) for k in range(4)]
+    numbers = [number for box in boxes for number in box]
+    made = world.add_all([raw(0)] * 4)
+    for name, buffer in buffers_of(numbers, "i", 6, TwoCorners):
+        world.move_all(made, [raw(0)] * 4)
+        world.move_all(made, buffer)
+        assert [world.get(handle).box for handle in made] == boxes, name
+        more = world.add_all(buffer)
+        assert [world.get(handle).box for handle in more] == boxes, name
+        world.remove_all(more)
+    names = [number for handle in made for number in handle]
+    packed = struct.pack("=8I", *names)
+    for name, buffer in buffers_of(names, "I", 2, SlotAndGeneration):
+        world.mark()
+        world.move_all(buffer, [raw(7)] * 4)
+        assert [world.get(handle).box for handle in made] == [raw(7)] * 4, name
+        world.remove_all(buffer)
+        assert world.info().boxes == 0, name
+        if not memoryview(buffer).readonly:
+            written = (ctypes.c_char * 32).from_buffer(buffer)
+            assert world.add_all_into(buffer, boxes) == 4 and written.raw != packed, name
+            assert [world.get(Handle(*row)).box for row in struct.iter_unpack("=2I", written.raw)] == boxes, name
+            written.raw = packed
+        world.back()
+        if not memoryview(buffer).readonly:
+            written.raw = bytes(32)
+            assert world.hits_into(buffer, Box((0, 0, 0), (99, 0, 0))) == 4 and written.raw == packed, name
+
+
+def wrong_buffers(world):
+    handles = world.add_all([raw(0)] * 2)
+    names, boxes = array.array("I", [0, 0, 1, 0]), array.array("i", [*raw(1), *raw(2)])
+    wide = memoryview(bytes(2 * 48)).cast("i", [2, 12])
+    for kind, wrong in (
+        (TypeError, array.array("I", boxes)),
+        (TypeError, array.array("q", boxes)),
+        (TypeError, array.array("f", boxes)),
+        (TypeError, (ctypes.c_int32.__ctype_be__ * 12)()),
+        (TypeError, (SlotAndGeneration * 2)()),
+        (TypeError, "boxes"),
+        (ValueError, boxes[:11]),
+        (ValueError, bytes(23)),
+        (ValueError, wide),
+        (ValueError, memoryview(boxes)[::2]),
+        (ValueError, memoryview(bytes(49))[1:]),
+    ):
+        raises(kind, world.move_all, handles, wrong)
+        raises(kind, world.add_all, wrong)
+        raises(kind, world.add_all_into, bytearray(64), wrong)
+    for kind, wrong in (
+        (TypeError, array.array("i", names)),
+        (TypeError, boxes),
+        (TypeError, (TwoCorners * 2)()),
+        (ValueError, names[:3]),
+        (ValueError, bytearray(9)),
+        (ValueError, memoryview(names).cast("B").cast("I", [1, 4])),
+        (ValueError, memoryview(bytearray(17))[1:]),
+    ):
+        raises(kind, world.move_all, wrong, boxes)
+        raises(kind, world.remove_all, wrong)
+        raises(kind, world.hits_into, wrong, raw(0))
+    for wrong in (bytes(16), memoryview(names).toreadonly(), [0, 0], None):
+        raises(TypeError, world.hits_into, wrong, raw(0))
+        raises(TypeError, world.add_all_into, wrong, boxes)
+        raises(TypeError, world.pairs_into, wrong)
+    common = bytearray(64)
+    raises(ValueError, world.add_all_into, memoryview(common)[44:60], memoryview(common)[:48])
+    raises(ValueError, world.move_all, memoryview(common)[:16], memoryview(common)[12:60])
+    assert world.add_all_into(memoryview(common)[48:], memoryview(common)[:48]) == 2
+    assert world.info().boxes == 4 and [world.get(handle).box for handle in handles] == [raw(0)] * 2
+    # A buffer is let go of, also where the batch stops and its refusal is kept.
+    fault = stopped(Status.STALE, 0, world.remove_all, array.array("I", [99, 0]))
+    grown = array.array("I", [0, 0, 99, 0])
+    fault = stopped(Status.STALE, 1, world.remove_all, grown)
+    grown.append(0)
+    assert fault.done == 1 and len(grown) == 5
+
+
+def nothing_is_copied(world):
+    count = 4000
+    boxes = array.array("i", [0, 0, 0, 1, 1, 1]) * count
+    for kept in (boxes, memoryview(boxes).toreadonly(), boxes.tobytes()):
+        names = bytearray(8 * count)
+        tracemalloc.start()
+        world.add_all_into(names, kept, sees=0)
+        world.move_all(names, kept)
+        world.remove_all(memoryview(names).toreadonly())
+        _, most = tracemalloc.get_traced_memory()
+        tracemalloc.stop()
+        assert most < 8 * count, most
+
+
+# Marks, the end of a world, and several threads.
+
+
+def marks(world):
+    refused(Status.NO_MARK, world.back)
+    kept = world.add(cube(0))
+    for _ in range(MOST_MARKS):
+        world.mark()
+    refused(Status.FULL, world.mark)
+    assert world.info().marks == MOST_MARKS
+    lost = world.add(cube(5))
+    world.move(kept, cube(9))
+    world.back()
+    assert world.get(kept).box == cube(0) and world.info().marks == MOST_MARKS - 1
+    refused(Status.STALE, world.get, lost)
+
+
+def closed_worlds(world):
+    handle = world.add(cube(0))
+    raises(TypeError, copy.copy, world)
+    raises(TypeError, pickle.dumps, world)
+    assert not world.closed
+    world.close()
+    world.close()
+    assert world.closed
+    for call in (
+        lambda: world.add(cube(0)), lambda: world.move(handle, cube(0)), lambda: world.remove(handle), lambda: world.get(handle),
+        lambda: world.mask(handle, 1, 1), world.update, world.end_frame, world.events, world.changes, world.pairs, world.pair_events,
+        world.pair_changes, lambda: world.pairs_into(bytearray(16)), lambda: world.hits(cube(0)), lambda: world.ray_hits((0, 0, 0), (1, 0, 0)),
+        lambda: world.first_hit((0, 0, 0), (1, 0, 0)), lambda: world.cast_hits(cube(0), (0, 0, 0)), lambda: world.nearest((0, 0, 0)),
+        lambda: world.hits_into(bytearray(16), cube(0)), world.mark, world.back, world.info,
+    ):  # fmt: skip
+        refused(Status.CLOSED, call)
+    for call in (lambda: world.add_all([cube(0)]), lambda: world.move_all([handle], [cube(0)]), lambda: world.remove_all([handle])):
+        stopped(Status.CLOSED, 0, call)
+
+
+def ends_of_worlds(world):
+    class Mine(Exception):
+        pass
+
+    def raised_within():
+        with World(TREE) as other:
+            other.close()
+            raise Mine
+
+    raises(Mine, raised_within)
+    gc.collect()
+    closed, close = [], library.pw_close
+    library.pw_close = lambda held: closed.append(close(held))
+    try:
+        World(world.info().structure).add(cube(0))
+        gc.collect()
+        assert closed == [Status.OK]
+        with World(TREE):
+            pass
+        assert closed[:2] == [Status.OK, Status.OK]
+    finally:
+        library.pw_close = close
+
+
+def threads(world):
+    """Several threads add, ask, move and remove at once: each finds its own boxes as if it were alone."""
+    faults, interval = [], sys.getswitchinterval()
+    start = threading.Barrier(4)
+
+    def play(number):
+        try:
+            start.wait()
+            for _ in range(5):
+                mine = [world.add(raw(1000 * number + k), groups=1 << number) for k in range(20)]
+                mine += world.add_all([raw(1000 * number + k) for k in range(20, 30)], groups=1 << number)
+                for k, handle in enumerate(mine):
+                    world.move(handle, raw(1000 * number + k + 5))
+                    assert world.get(handle).box == raw(1000 * number + k + 5)
+                world.end_frame()
+                everywhere = Box((1000 * number, 0, 0), (1000 * number + 999, 0, 0))
+                assert world.hits(everywhere, 1 << number) == sorted(mine)
+                assert world.ray_handles((1000 * number, 0, 0), (1, 0, 0), 1 << number) == mine
+                world.remove_all(mine)
+        except BaseException as fault:
+            faults.append(fault)
+
+    sys.setswitchinterval(1e-6)
+    try:
+        players = [threading.Thread(target=play, args=(number,)) for number in range(4)]
+        for player in players:
+            player.start()
+        for player in players:
+            player.join()
+    finally:
+        sys.setswitchinterval(interval)
+    assert not faults, faults
+    assert world.info().boxes == 0 and world.info().frames == 20
+
+
+def finalizers(world):
+    """A collector's finalizer calls the world in the middle of another call of the same thread."""
+
+    class Body:
+        def __init__(self, x):
+            self.handle, self.itself = world.add(raw(x), groups=2), self
+
+        def __del__(self):
+            assert self.handle in world.hits(Point(*world.get(self.handle).box.lo), 2)
+            world.remove(self.handle)
+
+    kept = [world.add(raw(0)) for _ in range(50)]
+    limits = gc.get_threshold()
+    gc.set_threshold(3)
+    try:
+        for x in range(1000, 4000, 30):
+            Body(x)
+            assert world.hits(raw(0), 1) == world.ray_handles((0, 0, 0), (1, 0, 0), 1) == kept
+            handle = world.add(raw(5000))
+            assert world.get(handle) == (raw(5000), 1, ALL, 0, False)
+            world.remove_all([handle])
+    finally:
+        gc.set_threshold(*limits)
+    gc.collect()
+    assert world.info().boxes == 50
+
+
+# What needs no world, or one.
+
+
+def a_full_world():
+    with World(TREE) as world:
+        boxes = [raw(20 * k) for k in range(SLOTS + 1)]
+        assert len(stopped(Status.FULL, SLOTS, world.add_all, boxes).handles) == SLOTS
+        refused(Status.FULL, world.add, raw(0))
+        assert len(world.hits(Box((0, 0, 0), (2**31 - 1, 0, 0)))) == SLOTS
+
+
+def values():
+    a, b = Handle(1, 2), Handle(1, 3)
+    assert a == Handle(1, 2) != b and a < b and len({a, b, Handle(1, 2)}) == 2 and repr(a) == "Handle(slot=1, generation=2)"
+    box = Box((1, 2, 3), Point(4, 5, 6))
+    assert (box.lo, box.hi, box.lo.x, box.hi.z) == (Point(1, 2, 3), Point(4, 5, 6), 1, 6) and tuple(box) == (1, 2, 3, 4, 5, 6)
+    assert box == Box(box.lo, box.hi) and hash(box) == hash(Box(box.lo, box.hi)) and box != Box() and repr(Box()).startswith("Box(lo=Point(")
+    told = Told(OVER, a, b)
+    assert told.pair == Pair(a, b) and told == Told(Event.OVER, *Pair(a, b))
+    for value in (box, a, told, Pair(a, b), Point(1, 2, 3), Ray(box.lo, box.hi), Live(box, 1, 2, 3, False)):
+        assert pickle.loads(pickle.dumps(value)) == copy.deepcopy(value) == value and type(copy.copy(value)) is type(value)
+        assert len({value, copy.copy(value)}) == 1
+        for name in ("slot", "lo", "event", "a", "x", "origin", "box", "other"):
+            raises(AttributeError, setattr, value, name, 0)
+
+
+def refusals():
+    for status in Status:
+        fault = pickle.loads(pickle.dumps(Refused(status)))
+        assert fault.status is status and str(fault) == status.name.lower().replace("_", " ")
+    fault = pickle.loads(pickle.dumps(Stopped(Status.FULL, 3, [Handle(0, 0)])))
+    assert (fault.status, fault.done, fault.handles) == (Status.FULL, 3, [Handle(0, 0)])
+    refused(Status.ARGUMENT, World, 9)
+    with World(3) as world:
+        assert world.info().structure is Structure.GRID is pungwelair.GRID
+
+
+def floats():
+    assert box_around((0.1, -0.1, -0.0), (0.1, -0.1, 0.0)) == Box((6553, -6554, 0), (6554, -6553, 0))
+    assert (fix_below(0.1), fix_above(0.1), fix_below(-0.0), fix_above(1)) == (6553, 6554, 0, 65536)
+    assert (fix_below(30000.99999), fix_above(30000.99999)) == (1966145535, 1966145536)
+    refused(Status.NOT_A_NUMBER, box_around, (float("nan"), 0, 0), (0, 0, 0))
+    refused(Status.OUT_OF_RANGE, box_around, (0, 0, 0), (32768, 0, 0))
+    refused(Status.INVERTED, box_around, (1, 0, 0), (0, 0, 0))
+    for call in (fix_below, fix_above):
+        refused(Status.NOT_A_NUMBER, call, float("nan"))
+        refused(Status.OUT_OF_RANGE, call, float("-inf"))
+        raises(TypeError, call, None)
+    raises(ValueError, box_around, (0, 0), (1, 1))
+    raises(ValueError, box_around, (0, 0, 0, 0), (1, 1, 1))
+    raises(TypeError, box_around, ("0", 0, 0), (1, 1, 1))
+    raises(TypeError, box_around, 0, 1)
+
+
+def types_of_the_library():
+    """A wrong type is refused before the library reads it."""
+    held, handle, count = pungwelair._library.RawWorld(), pungwelair._library.RawHandle(), ctypes.c_size_t()
+    assert library.pw_open(held, TREE) == Status.OK
+    box = pungwelair._library.RawBox()
+    assert library.pw_add(held, box, 1, pungwelair._library.RawNew(), handle, 1, count) == Status.OK
+    for wrong in (None, 0, b"x" * 24, box, ctypes.byref(box), ctypes.POINTER(type(handle))(), (ctypes.c_uint32 * 2)(), "handle"):
+        raises(ctypes.ArgumentError, library.pw_move, held, wrong, 1, box, 1, count)
+    raises(ctypes.ArgumentError, library.pw_move, held, handle, 1.0, box, 1, count)
+    raises(ctypes.ArgumentError, library.pw_close, handle)
+    assert library.pw_move(held, handle, 1, ctypes.byref(box), 1, ctypes.pointer(count)) == Status.OK and count.value == 1
+    header = (Path(__file__).parent.parent / "c" / "pungwelair.h").read_text()
+    for line in header.splitlines():
+        if line.startswith("pw_status pw_"):
+            function = getattr(library, line[len("pw_status ") : line.index("(")])
+            assert function.argtypes and function.restype is ctypes.c_uint32, line
+    assert library.pw_close(held) == Status.OK
+
+
+def imports():
+    """A library that isn't there, or isn't one, is told with what makes it."""
+    package = str(Path(pungwelair.__file__).parent.parent)
+
+    def imported(place):
+        named = {**os.environ, "PYTHONPATH": package, "PUNGWELAIR_LIB": str(place)}
+        return subprocess.run([sys.executable, "-c", "import pungwelair"], env=named, capture_output=True, text=True)
+
+    path = Path(library._name)
+    assert imported(path).returncode == imported(path.parent).returncode == 0
+    for wrong, said in ((path.parent / "nowhere", "run bindings/build"), (Path(package), "PUNGWELAIR_LIB"), (Path(__file__), "isn't a library")):
+        ended = imported(wrong)
+        last = ended.stderr.splitlines()[-1]
+        assert ended.returncode and last.startswith("ImportError: ") and said in last and str(wrong) in last, ended.stderr
+
+
+def docs_and_types():
+    with warnings.catch_warnings():
+        warnings.simplefilter("error")
+        for path in Path(pungwelair.__file__).parent.glob("*.py"):
+            assert compile(path.read_text(), str(path), "exec", dont_inherit=True)
+    public = [getattr(pungwelair, name) for name in pungwelair.__all__]
+    methods = [getattr(World, name) for name in vars(World) if not name.startswith("_")]
+    for one in [one for one in public if inspect.isfunction(one)] + [World.__init__] + methods:
+        call = one.fget if isinstance(one, property) else one
+        assert call.__doc__, call
+        signature = inspect.signature(call)
+        assert signature.return_annotation is not inspect.Signature.empty, call
+        assert all(given.annotation is not given.empty for name, given in signature.parameters.items() if name != "self"), call
+    for one in public:
+        assert not inspect.isclass(one) or one.__doc__, one
+
+
+def arrays_of_numpy():
+    if numpy is None:
+        print("verbs of Python: no numpy, so its arrays aren't tried")
+        return
+    corners = numpy.arange(10, dtype=numpy.int32)[:, None] * 20 + numpy.zeros(3, numpy.int32)
+    boxes = numpy.hstack([corners, corners + 10])
+    with World(TREE) as world:
+        handles = numpy.zeros((10, 2), numpy.uint32)
+        assert world.add_all_into(handles, boxes, groups=numpy.uint32(3)) == 10
+        assert handles[:, 0].tolist() == list(range(10)) and world.get(Handle(*handles[4])).box == tuple(boxes[4])
+        boxes[:, [0, 3]] += 1
+        world.move_all(handles, boxes)
+        assert world.get(Handle(4, 0)).box.lo == Point(81, 80, 80)
+        found = numpy.zeros((4, 2), numpy.uint32)
+        everywhere = Box(boxes[:, :3].min(axis=0), boxes[:, 3:].max(axis=0))
+        assert world.hits_into(found, everywhere) == 10 and found.tolist() == handles[:4].tolist()
+        assert world.ray_handles(boxes[2, :3], numpy.array([1, 1, 1]))[0] == Handle(2, 0)
         world.end_frame()
-        assert world.changes() == [(BEGIN, 0, 3), (OVER, 0, 1)]
-        assert world.events() == [(BEGIN, 0, 3), (STAY, 1, 2), (OVER, 0, 1)]
-        assert world.update() == [(STAY, 0, 3), (STAY, 1, 2)] and world.changes() == []
+        raises(ValueError, world.move_all, handles[::2], boxes[:5])
+        raises(ValueError, world.move_all, handles, boxes.T)
+        raises(ValueError, world.add_all, boxes[:, :5].copy())
+        for wrong in (numpy.int64, numpy.float32, numpy.uint32, ">i4"):
+            raises(TypeError, world.add_all, boxes.astype(wrong))
+        world.remove_all(handles[5:])
+        assert world.info().boxes == 5
+        same = world.add_all(numpy.array([raw(500)] * 3, numpy.int32))
+        world.end_frame()
+        told = numpy.zeros(3, [("event", "u4"), ("a", "u4", 2), ("b", "u4", 2)])
+        assert world.pair_changes_into(told) == 3 and told["b"][2].tolist() == list(same[2])
+        pairs = numpy.zeros((3, 2, 2), numpy.uint32)
+        assert world.pairs_into(pairs) == 3 and pairs[0].tolist() == [list(same[0]), list(same[1])]
+
+
+OVER_EACH_STRUCTURE = (
+    slots_of_frames, handles_of_frames, long_lists, live_boxes, wrong_types, wrong_numbers, questions, batches_of_values,
+    batches_of_buffers, wrong_buffers, nothing_is_copied, marks, closed_worlds, ends_of_worlds, threads, finalizers,
+)  # fmt: skip
+ONCE = (a_full_world, values, refusals, floats, types_of_the_library, imports, docs_and_types, arrays_of_numpy)
+
+for case in OVER_EACH_STRUCTURE:
+    for structure in Structure:
+        try:
+            with World(structure) as world:
+                case(world)
+        except Exception:
+            print(f"verbs of Python: {case.__name__} over {structure.name.lower()}: failed", flush=True)
+            raise
+for case in ONCE:
+    case()
 print("verbs of Python: passed")

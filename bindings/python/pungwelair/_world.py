@@ -1,0 +1,493 @@
+"""The owner of a world."""
+
+from __future__ import annotations
+
+import struct
+import threading
+import weakref
+from ctypes import byref, c_size_t
+from operator import index
+from typing import TYPE_CHECKING, Any, Callable, Iterable, List, NoReturn, Optional, Tuple, TypeVar
+
+from ._buffers import BOXES, EVENTS, HANDLES, PAIRS, Boxes, Handles, Kind, Rows, new_rows, packed_handle, room_of, rows_of
+from ._library import (
+    ALL, BOX, CAST, HANDLE, INFO, LIVE, MOST, NEAR, NEW, NONE, ONE, PAIR, QUERY, RAY, TOLD, RawCast, RawCounts, RawHandle, RawMasks,
+    RawNear, RawNew, RawQuery, RawRay, RawWorld, Workspace, kept, library, unchecked, workspace,
+)  # fmt: skip
+from ._values import (
+    BEGIN, OVER, STAY, TREE, Box, Event, Frame, Handle, Info, Live, Pair, Point, Question, Ray, Refused, Segment, Stopped,
+    Structure, Told, made, refuse_kind, refuse_places, refuse_words,
+)  # fmt: skip
+
+if TYPE_CHECKING:
+    from typing_extensions import Buffer
+
+_Values = TypeVar("_Values")
+
+_EVENTS: Tuple[Event, ...] = (BEGIN, STAY, OVER)
+_SLOT, _SLOTS_TOLD = struct.Struct("=I4x"), struct.Struct("=II4xI4x")
+
+_pack_box, _pack_handle, _pack_new, _pack_query = BOX.pack, HANDLE.pack, NEW.pack, QUERY.pack
+_pack_ray, _pack_cast, _pack_near, _handle_from = RAY.pack, CAST.pack, NEAR.pack, HANDLE.unpack_from
+
+_pw_add, _pw_move, _pw_remove, _pw_update = (unchecked(name) for name in ("pw_add", "pw_move", "pw_remove", "pw_update"))
+_pw_pairs, _pw_events, _pw_changes = (unchecked(name) for name in ("pw_pairs", "pw_events", "pw_changes"))
+_pw_hits, _pw_ray_hits, _pw_cast_hits = (unchecked(name) for name in ("pw_hits", "pw_ray_hits", "pw_cast_hits"))
+_pw_nearest = unchecked("pw_nearest")
+
+
+def _close(held: RawWorld, lock: Any) -> None:
+    with lock:
+        library.pw_close(held)
+
+
+def _from(start: int) -> int:
+    """A number to go on from. No list has as many as the number that stands for those that are larger."""
+    if index(start) < 0:
+        raise ValueError(f"start is {start}: it must be 0 or more")
+    return min(index(start), 2**31)
+
+
+def _checked(status: int, count: int) -> int:
+    """A count, where the call that told it wasn't refused. A frame that raises holds no buffer of the caller: its traceback would."""
+    if status:
+        raise Refused(status)
+    return count
+
+
+class World:
+    """Moving boxes under handles, and what they meet.
+
+    Calls of several threads take turns, and other worlds answer meanwhile. Where a world isn't closed it ends with its last
+    reference. A closed world refuses: CLOSED.
+
+    Boxes and handles go in as values, or many at once as a list or a buffer, which is read where it stands: rows of six int32 for
+    boxes, of two uint32 for handles. Answers are lists of values; the calls that end in `_into` write them to a buffer of the caller
+    in place: rows of two uint32 for handles, of four for pairs, of five for events (the event, and the handles of both boxes). No
+    other thread may write to a buffer while a call has it.
+    """
+
+    def __init__(self, structure: int = TREE) -> None:
+        """An open world with no box, over one of the five structures. NO_MEMORY, or ARGUMENT where there is no such structure."""
+        refuse_words(structure=structure)
+        self._held = RawWorld()
+        self._world = byref(self._held)
+        # A lock that its holder may take again: a collector's finalizer may call in the middle of a call.
+        self._lock = threading.RLock()
+        # What the calls of one box write to and nobody reads, since it is 1 where they aren't refused.
+        self._done = byref(c_size_t())
+        self._counts = RawCounts()
+        self._counts_at = byref(self._counts)
+        status = library.pw_open(self._held, index(structure))
+        if status:
+            raise Refused(status)
+        # Not at the interpreter's end, where other threads may still call.
+        weakref.finalize(self, _close, self._held, self._lock).atexit = False
+
+    def close(self) -> None:
+        """Frees the world's memory. A world that is closed stays so."""
+        _close(self._held, self._lock)
+
+    @property
+    def closed(self) -> bool:
+        """Whether it is closed."""
+        return not self._held.state
+
+    def __enter__(self) -> World:
+        return self
+
+    def __exit__(self, *_: object) -> None:
+        self.close()
+
+    def __reduce__(self) -> NoReturn:
+        raise TypeError("a World can't be copied or pickled")
+
+    def add(self, box: Box, groups: int = 1, sees: int = ALL, owner: int = 0, fixed: bool = False) -> Handle:
+        """Adds a box under the least free slot. INVERTED, FULL, EXHAUSTED, NO_MEMORY.
+
+        It is in the groups of one mask and sees those of another; two boxes pair where each sees a group that the other is in. Boxes of
+        one owner (but 0) don't pair, nor do two fixed ones.
+        """
+        if not isinstance(box, Box):
+            refuse_kind(box, Box)
+        x, y, z, u, v, w = box
+        try:
+            body, how = _pack_box(x, y, z, u, v, w), _pack_new(groups, sees, owner, 1 if fixed else 0)
+        except struct.error:
+            refuse_words(groups=groups, sees=sees, owner=owner)
+            refuse_places(*box)
+            raise
+        work = workspace()
+        with self._lock:
+            status = _pw_add(self._world, body, ONE, how, work.handle_at, ONE, self._done)
+        handle: Handle = made(Handle, _handle_from(work.handle))
+        kept.append(work)
+        if status:
+            raise Refused(status)
+        return handle
+
+    def move(self, handle: Handle, box: Box) -> None:
+        """Gives a box another place. INVERTED, STALE, EXHAUSTED, NO_MEMORY."""
+        if not isinstance(handle, Handle):
+            refuse_kind(handle, Handle)
+        if not isinstance(box, Box):
+            refuse_kind(box, Box)
+        x, y, z, u, v, w = box
+        try:
+            name, body = _pack_handle(handle.slot, handle.generation), _pack_box(x, y, z, u, v, w)
+        except struct.error:
+            refuse_words(slot=handle.slot, generation=handle.generation)
+            refuse_places(*box)
+            raise
+        with self._lock:
+            status = _pw_move(self._world, name, ONE, body, ONE, self._done)
+        if status:
+            raise Refused(status)
+
+    def remove(self, handle: Handle) -> None:
+        """Removes a box. STALE; NO_MEMORY, only while a mark is held."""
+        name = packed_handle(handle)
+        with self._lock:
+            status = _pw_remove(self._world, name, ONE, self._done)
+        if status:
+            raise Refused(status)
+
+    def mask(self, handle: Handle, groups: int, sees: int) -> None:
+        """Gives a box other masks. STALE; NO_MEMORY, only while a mark is held."""
+        name = RawHandle.from_buffer_copy(packed_handle(handle))
+        refuse_words(groups=groups, sees=sees)
+        with self._lock:
+            status = library.pw_mask(self._held, name, RawMasks(index(groups), index(sees)))
+        if status:
+            raise Refused(status)
+
+    def get(self, handle: Handle) -> Live:
+        """The live box that has a handle. STALE."""
+        name, work = RawHandle.from_buffer_copy(packed_handle(handle)), workspace()
+        with self._lock:
+            status = library.pw_get(self._held, name, work.live)
+        numbers = LIVE.unpack_from(work.live)
+        kept.append(work)
+        if status:
+            raise Refused(status)
+        groups, sees, owner, fixed = numbers[6:]
+        return Live(made(Box, numbers[:6]), groups, sees, owner, fixed != 0)
+
+    def add_all(self, boxes: Boxes, groups: int = 1, sees: int = ALL, owner: int = 0, fixed: bool = False) -> List[Handle]:
+        """Adds boxes in order, all in one way, and gives their handles.
+
+        `Stopped` where one is refused: its `handles` are those of the boxes before it.
+        """
+        status, handles = self._added(boxes, groups, sees, owner, fixed)
+        if status:
+            raise Stopped(status, len(handles), handles)
+        return handles
+
+    def _added(self, boxes: Boxes, *how: Any) -> Tuple[int, List[Handle]]:
+        rows = rows_of(BOXES, boxes)
+        memory, out = new_rows(HANDLES, rows.count)
+        status, done = self._add_rows(rows, out, *how)
+        return status, _handles(memory, done)
+
+    def add_all_into(self, out: Buffer, boxes: Boxes, groups: int = 1, sees: int = ALL, owner: int = 0, fixed: bool = False) -> int:
+        """The same, with the handles written to a buffer, and how many boxes were added.
+
+        `Stopped`: the handles of those that are done stand in the buffer. ARGUMENT, and none is added, where it has less room than
+        there are boxes.
+        """
+        status, done = self._add_rows(rows_of(BOXES, boxes), room_of(HANDLES, out), groups, sees, owner, fixed)
+        if status:
+            raise Stopped(status, done)
+        return done
+
+    def _add_rows(self, boxes: Rows, out: Rows, groups: int, sees: int, owner: int, fixed: bool) -> Tuple[int, int]:
+        boxes.refuse_common(out)
+        refuse_words(groups=groups, sees=sees, owner=owner)
+        how = RawNew.from_buffer_copy(_pack_new(groups, sees, owner, 1 if fixed else 0))
+        work = workspace()
+        with self._lock:
+            status = library.pw_add(self._held, boxes.first, boxes.count, how, out.first, out.count, work.count)
+        return status, _counted(work)
+
+    def move_all(self, handles: Handles, boxes: Boxes) -> None:
+        """Moves boxes in order, each with its handle. `Stopped` where one is refused, and with ARGUMENT where the lengths differ."""
+        status, done = self._moved(handles, boxes)
+        if status:
+            raise Stopped(status, done)
+
+    def _moved(self, handles: Handles, boxes: Boxes) -> Tuple[int, int]:
+        bodies, places = rows_of(HANDLES, handles), rows_of(BOXES, boxes)
+        bodies.refuse_common(places)
+        work = workspace()
+        with self._lock:
+            status = library.pw_move(self._held, bodies.first, bodies.count, places.first, places.count, work.count)
+        return status, _counted(work)
+
+    def remove_all(self, handles: Handles) -> None:
+        """Removes boxes in order. `Stopped` where one is refused."""
+        status, done = self._removed(handles)
+        if status:
+            raise Stopped(status, done)
+
+    def _removed(self, handles: Handles) -> Tuple[int, int]:
+        rows, work = rows_of(HANDLES, handles), workspace()
+        with self._lock:
+            status = library.pw_remove(self._held, rows.first, rows.count, work.count)
+        return status, _counted(work)
+
+    def update(self) -> List[Tuple[int, int, int]]:
+        """Ends the frame, and gives what became of each pair: an event and the two slots. Take `end_frame` and `pair_changes`."""
+        with self._lock:
+            self.end_frame()
+            return self.events()
+
+    def end_frame(self) -> None:
+        """Ends the frame: finds the pairs of the boxes as they stand, and reads nothing of it. EXHAUSTED, NO_MEMORY: all is as before."""
+        with self._lock:
+            status = _pw_update(self._world, self._counts_at)
+        if status:
+            raise Refused(status)
+
+    @property
+    def frame(self) -> Frame:
+        """How many pairs, events and changes the last call of `end_frame` or `update` told: none where it was refused."""
+        with self._lock:
+            return Frame(self._counts.pairs, self._counts.events, self._counts.changes)
+
+    def pairs(self) -> List[Pair]:
+        """The pairs of the last frame that ended, in order of their slots. After `back` they are those before the mark."""
+        return self._read(_pw_pairs, library.pw_pairs, PAIRS, self._counts.pairs, _pairs)
+
+    def pair_events(self) -> List[Told]:
+        """What became of each pair in the last frame that ended: each of its pairs, and then those that are over."""
+        return self._read(_pw_events, library.pw_events, EVENTS, self._counts.events, _told)
+
+    def pair_changes(self) -> List[Told]:
+        """The same without the pairs that stayed: those that began, and then those that are over."""
+        return self._read(_pw_changes, library.pw_changes, EVENTS, self._counts.changes, _told)
+
+    def events(self) -> List[Tuple[int, int, int]]:
+        """What became of each pair, as an event and the two slots. Take `pair_events`, which gives the handles."""
+        return self._read(_pw_events, library.pw_events, EVENTS, self._counts.events, _slots_told)
+
+    def changes(self) -> List[Tuple[int, int, int]]:
+        """The same without the pairs that stayed. Take `pair_changes`, which gives the handles."""
+        return self._read(_pw_changes, library.pw_changes, EVENTS, self._counts.changes, _slots_told)
+
+    def _read(self, short: Any, long: Any, kind: Kind, expected: int, values: Callable[[bytearray], _Values]) -> _Values:
+        """All of a list that the frame has: `short` and `long` are the same call."""
+        room = kind.found
+        if expected < room.value:
+            work = workspace()
+            with self._lock:
+                status = short(self._world, NONE, work.found_at, room, work.count_at)
+            if status:
+                raise Refused(status)
+            count = work.count.value
+            if count < room.value:
+                read = values(work.found[: count * kind.size])
+                kept.append(work)
+                return read
+        return self._read_long(long, kind, expected, values)
+
+    def _read_long(self, copies: Any, kind: Kind, expected: int, values: Callable[[bytearray], _Values]) -> _Values:
+        # A row more than is expected: where it stays free, all were read. Another thread or a way back may have made them more.
+        start, room, parts = 0, expected + 1, []
+        while True:
+            memory, rows = new_rows(kind, room)
+            copied = _checked(*self._copied(copies, start, rows))
+            parts.append(memory[: copied * kind.size])
+            if copied < room:
+                return values(bytearray().join(parts))
+            start, room = start + copied, start + copied + 1
+
+    def _copied(self, copies: Any, start: int, rows: Rows) -> Tuple[int, int]:
+        work = workspace()
+        with self._lock:
+            status = copies(self._held, start, rows.first, rows.count, work.count)
+        return status, _counted(work)
+
+    def pairs_into(self, out: Buffer, start: int = 0) -> int:
+        """Writes the pairs from number `start` on, as many as there is room for, and tells how many those are."""
+        return _checked(*self._copied(library.pw_pairs, _from(start), room_of(PAIRS, out)))
+
+    def pair_events_into(self, out: Buffer, start: int = 0) -> int:
+        """Writes the events from number `start` on, as many as there is room for, and tells how many those are."""
+        return _checked(*self._copied(library.pw_events, _from(start), room_of(EVENTS, out)))
+
+    def pair_changes_into(self, out: Buffer, start: int = 0) -> int:
+        """Writes the changes from number `start` on, as many as there is room for, and tells how many those are."""
+        return _checked(*self._copied(library.pw_changes, _from(start), room_of(EVENTS, out)))
+
+    def hits(self, question: Question, mask: int = ALL) -> List[Handle]:
+        """The live boxes of the groups of `mask` that meet a box, hold a point, or meet a ray or a segment, in order of their slots.
+
+        ARGUMENT where a box is inverted, NO_MEMORY.
+        """
+        return self._found(_pw_hits, _query(question, mask))
+
+    def hits_into(self, out: Buffer, question: Question, mask: int = ALL) -> int:
+        """Writes the first of them to a buffer, and tells how many there are, which may be more than it has room for."""
+        return _checked(*self._found_into(library.pw_hits, RawQuery.from_buffer_copy(_query(question, mask)), room_of(HANDLES, out)))
+
+    def ray_hits(self, origin: Iterable[int], direction: Iterable[int], mask: int = ALL) -> List[int]:
+        """The slots of the boxes that a ray of raw numbers meets, in the order in which it meets them. `ray_handles` gives handles."""
+        work = self._asked(_pw_ray_hits, _ray(origin, direction, mask))
+        slots = [slot for (slot,) in _SLOT.iter_unpack(work.found[: 8 * work.count.value])]
+        kept.append(work)
+        return slots
+
+    def ray_handles(self, origin: Iterable[int], direction: Iterable[int], mask: int = ALL) -> List[Handle]:
+        """The boxes that a ray without end meets, in the order in which it first meets them, and then of their slots. NO_MEMORY."""
+        return self._found(_pw_ray_hits, _ray(origin, direction, mask))
+
+    def ray_handles_into(self, out: Buffer, origin: Iterable[int], direction: Iterable[int], mask: int = ALL) -> int:
+        """Writes the first of them to a buffer, and tells how many there are, which may be more than it has room for."""
+        return _checked(*self._found_into(library.pw_ray_hits, RawRay.from_buffer_copy(_ray(origin, direction, mask)), room_of(HANDLES, out)))
+
+    def first_hit(self, origin: Iterable[int], direction: Iterable[int], mask: int = ALL) -> Optional[Handle]:
+        """The box that a ray meets first, or None where it meets none. NO_MEMORY."""
+        work = self._asked(_pw_ray_hits, _ray(origin, direction, mask), ONE)
+        first: Optional[Handle] = made(Handle, _handle_from(work.found)) if work.count.value else None
+        kept.append(work)
+        return first
+
+    def cast_hits(self, box: Box, by: Iterable[int], mask: int = ALL) -> List[Handle]:
+        """The boxes that a box meets while it is moved by a displacement, in the order in which it first meets them, and then of their
+        slots. INVERTED, NO_MEMORY.
+        """
+        return self._found(_pw_cast_hits, _cast(box, by, mask))
+
+    def cast_hits_into(self, out: Buffer, box: Box, by: Iterable[int], mask: int = ALL) -> int:
+        """Writes the first of them to a buffer, and tells how many there are, which may be more than it has room for."""
+        return _checked(*self._found_into(library.pw_cast_hits, RawCast.from_buffer_copy(_cast(box, by, mask)), room_of(HANDLES, out)))
+
+    def nearest(self, at: Iterable[int], want: int = 1, mask: int = ALL) -> List[Handle]:
+        """The boxes that are nearest to a place, at most `want`, in order of their distance and then of their slots. NO_MEMORY."""
+        return self._found(_pw_nearest, _near(at, want, mask))
+
+    def nearest_into(self, out: Buffer, at: Iterable[int], want: int = 1, mask: int = ALL) -> int:
+        """Writes the first of them to a buffer, and tells how many there are, which may be more than it has room for."""
+        return _checked(*self._found_into(library.pw_nearest, RawNear.from_buffer_copy(_near(at, want, mask)), room_of(HANDLES, out)))
+
+    def _asked(self, asks: Any, question: bytes, room: c_size_t = MOST) -> Workspace:
+        work = workspace()
+        with self._lock:
+            status = asks(self._world, question, work.found_at, room, work.count_at)
+        if status:
+            raise Refused(status)
+        return work
+
+    def _found(self, asks: Any, question: bytes) -> List[Handle]:
+        work = self._asked(asks, question)
+        handles = _handles(work.found, work.count.value)
+        kept.append(work)
+        return handles
+
+    def _found_into(self, asks: Any, question: Any, rows: Rows) -> Tuple[int, int]:
+        work = workspace()
+        with self._lock:
+            status = asks(self._held, question, rows.first, rows.count, work.count)
+        return status, _counted(work)
+
+    def mark(self) -> None:
+        """Marks the world as it stands, for rollback. FULL where MOST_MARKS are held."""
+        self._plain(library.pw_mark)
+
+    def back(self) -> None:
+        """Goes back to the newest mark, which is then gone: boxes, handles, the last frame's pairs and the numbers are what they were.
+
+        NO_MARK, NO_MEMORY. Forget the handles of boxes that came since: they are given again. What `events` and `changes` tell stays.
+        """
+        self._plain(library.pw_back)
+
+    def _plain(self, changes: Any) -> None:
+        with self._lock:
+            status = changes(self._held)
+        if status:
+            raise Refused(status)
+
+    def info(self) -> Info:
+        """What the world is."""
+        work = workspace()
+        with self._lock:
+            status = library.pw_info(self._held, work.info)
+        if status:
+            raise Refused(status)
+        structure, spent, *others = INFO.unpack_from(work.info)
+        kept.append(work)
+        return Info(Structure(structure), spent != 0, *others)
+
+
+def _counted(work: Workspace) -> int:
+    count = work.count.value
+    kept.append(work)
+    return count
+
+
+def _handles(memory: bytearray, count: int) -> List[Handle]:
+    return [made(Handle, numbers) for numbers in HANDLE.iter_unpack(memory[: 8 * count])]
+
+
+def _pairs(read: bytearray) -> List[Pair]:
+    return [made(Pair, (made(Handle, (a, b)), made(Handle, (c, d)))) for a, b, c, d in PAIR.iter_unpack(read)]
+
+
+def _told(read: bytearray) -> List[Told]:
+    return [made(Told, (_EVENTS[event], made(Handle, (a, b)), made(Handle, (c, d)))) for event, a, b, c, d in TOLD.iter_unpack(read)]
+
+
+def _slots_told(read: bytearray) -> List[Tuple[int, int, int]]:
+    return list(_SLOTS_TOLD.iter_unpack(read))  # type: ignore[arg-type]
+
+
+def _query(question: Question, mask: int) -> bytes:
+    numbers: Tuple[int, ...]
+    if isinstance(question, Box):
+        kind, numbers = 0, question
+    elif isinstance(question, Point):
+        kind, numbers = 1, (*question, *question)
+    elif isinstance(question, (Ray, Segment)):
+        (x, y, z), (u, v, w) = question
+        kind, numbers = 2 if isinstance(question, Ray) else 3, (x, y, z, u, v, w)
+    else:
+        raise TypeError(f"{question!r} isn't a Box, a Point, a Ray or a Segment")
+    try:
+        return _pack_query(kind, mask, *numbers)
+    except struct.error:
+        refuse_words(mask=mask)
+        refuse_places(*numbers)
+        raise
+
+
+def _ray(origin: Iterable[int], direction: Iterable[int], mask: int) -> bytes:
+    x, y, z = origin
+    u, v, w = direction
+    try:
+        return _pack_ray(mask, x, y, z, u, v, w)
+    except struct.error:
+        refuse_words(mask=mask)
+        refuse_places(x, y, z, u, v, w)
+        raise
+
+
+def _cast(box: Box, by: Iterable[int], mask: int) -> bytes:
+    if not isinstance(box, Box):
+        refuse_kind(box, Box)
+    x, y, z = by
+    try:
+        return _pack_cast(mask, *box, x, y, z)
+    except struct.error:
+        refuse_words(mask=mask)
+        refuse_places(*box, x, y, z)
+        raise
+
+
+def _near(at: Iterable[int], want: int, mask: int) -> bytes:
+    x, y, z = at
+    try:
+        return _pack_near(mask, want, x, y, z)
+    except struct.error:
+        refuse_words(mask=mask, want=want)
+        refuse_places(x, y, z)
+        raise
