@@ -10,13 +10,13 @@ def cube(x, y):
 with World() as world:
     floor = world.add(box_around((-9, -1, -9), (9, 0, 9)), fixed=True)
     left, right, crate = (world.add(cube(x, y)) for x, y in ((-1, 0), (1, 0), (0, 3)))
-    names = {floor.slot: "floor", left.slot: "left", right.slot: "right", crate.slot: "crate"}
+    names = {floor: "floor", left: "left", right: "right", crate: "crate"}
     for height in (3, 2, 1.5, 1, 0, 4):
         world.move(crate, cube(0, height))
         world.end_frame()
-        for event, a, b in world.changes():
+        for event, a, b in world.pair_changes():
             print(height, "begin" if event == BEGIN else "over", names[a], names[b])
-    print("on the ray:", *(names[slot] for slot in world.ray_hits((300000, 32768, 32768), (-1, 0, 0))))
+    print("on the ray:", *(names[handle] for handle in world.ray_handles((300000, 32768, 32768), (-1, 0, 0))))
     world.remove(crate)
     try:
         world.remove(crate)

@@ -1,7 +1,6 @@
-"""The package for Python: each call, what it takes and gives, and what it refuses. The cases of the first table run over each structure."""
+"""The package for Python: each call, what it takes and gives, and what it refuses."""
 
 import array
-import contextlib
 import copy
 import ctypes
 import gc
@@ -12,6 +11,7 @@ import struct
 import subprocess
 import sys
 import threading
+import time
 import tracemalloc
 import warnings
 from pathlib import Path
@@ -157,7 +157,7 @@ def wrong_types(world):
 
 def wrong_numbers(world):
     handle, out = world.add(raw(0)), bytearray(80)
-    for wrong, kind in ((-1, ValueError), (2**32, ValueError), (1 << 40, ValueError), (1.0, TypeError), ("1", TypeError), (None, TypeError)):
+    for wrong, kind in ((-1, ValueError), (2**32, ValueError), (1 << 40, ValueError), (1.0, TypeError), ("1", TypeError)):
         for name in ("groups", "sees", "owner"):
             raises(kind, world.add, raw(0), **{name: wrong})
             raises(kind, world.add_all, [raw(0)], **{name: wrong})
@@ -326,6 +326,7 @@ def wrong_buffers(world):
     for kind, wrong in (
         (TypeError, array.array("I", boxes)),
         (TypeError, array.array("q", boxes)),
+        (TypeError, array.array("l", boxes) if array.array("l").itemsize == 8 else "boxes"),
         (TypeError, array.array("f", boxes)),
         (TypeError, (ctypes.c_int32.__ctype_be__ * 12)()),
         (TypeError, (SlotAndGeneration * 2)()),
@@ -341,6 +342,7 @@ def wrong_buffers(world):
         raises(kind, world.add_all_into, bytearray(64), wrong)
     for kind, wrong in (
         (TypeError, array.array("i", names)),
+        (TypeError, array.array("Q", names)),
         (TypeError, boxes),
         (TypeError, (TwoCorners * 2)()),
         (ValueError, names[:3]),
@@ -369,7 +371,7 @@ def wrong_buffers(world):
 
 
 def nothing_is_copied(world):
-    count = 4000
+    count = 1000
     boxes = array.array("i", [0, 0, 0, 1, 1, 1]) * count
     for kept in (boxes, memoryview(boxes).toreadonly(), boxes.tobytes()):
         names = bytearray(8 * count)
@@ -410,8 +412,8 @@ def closed_worlds(world):
     for call in (
         lambda: world.add(cube(0)), lambda: world.move(handle, cube(0)), lambda: world.remove(handle), lambda: world.get(handle),
         lambda: world.mask(handle, 1, 1), world.update, world.end_frame, world.events, world.changes, world.pairs, world.pair_events,
-        world.pair_changes, lambda: world.pairs_into(bytearray(16)), lambda: world.hits(cube(0)), lambda: world.ray_hits((0, 0, 0), (1, 0, 0)),
-        lambda: world.first_hit((0, 0, 0), (1, 0, 0)), lambda: world.cast_hits(cube(0), (0, 0, 0)), lambda: world.nearest((0, 0, 0)),
+        world.pair_changes, lambda: world.pairs_into(bytearray(16)), lambda: world.hits(cube(0)),
+        lambda: world.ray_hits((0, 0, 0), (1, 0, 0)), lambda: world.first_hit((0, 0, 0), (1, 0, 0)), lambda: world.cast_hits(cube(0), (0, 0, 0)), lambda: world.nearest((0, 0, 0)),
         lambda: world.hits_into(bytearray(16), cube(0)), world.mark, world.back, world.info,
     ):  # fmt: skip
         refused(Status.CLOSED, call)
@@ -429,45 +431,37 @@ def ends_of_worlds(world):
             raise Mine
 
     raises(Mine, raised_within)
+    # A closed world's words are zero.
+    dropped = World(world.info().structure)
+    dropped.add(cube(0))
+    held = dropped._held
+    assert held.state and held.held
+    del dropped
     gc.collect()
-    closed, close = [], library.pw_close
-    library.pw_close = lambda held: closed.append(close(held))
-    try:
-        World(world.info().structure).add(cube(0))
-        gc.collect()
-        assert closed == [Status.OK]
-        with World(TREE):
-            pass
-        assert closed[:2] == [Status.OK, Status.OK]
-    finally:
-        library.pw_close = close
+    assert not held.state and not held.held
+    dropped, of_itself = World(TREE), []
+    of_itself.append((dropped, of_itself))
+    held = dropped._held
+    del dropped, of_itself
+    gc.collect()
+    assert not held.state
+    World.__new__(World)
 
 
-def threads(world):
-    """Several threads add, ask, move and remove at once: each finds its own boxes as if it were alone."""
-    faults, interval = [], sys.getswitchinterval()
-    start = threading.Barrier(4)
+def played_at_once(play, count=4):
+    """Runs a play in several threads, which begin together and change as often as they can."""
+    faults, start, interval = [], threading.Barrier(count), sys.getswitchinterval()
 
-    def play(number):
+    def played(number):
         try:
             start.wait()
-            for _ in range(5):
-                mine = [world.add(raw(1000 * number + k), groups=1 << number) for k in range(20)]
-                mine += world.add_all([raw(1000 * number + k) for k in range(20, 30)], groups=1 << number)
-                for k, handle in enumerate(mine):
-                    world.move(handle, raw(1000 * number + k + 5))
-                    assert world.get(handle).box == raw(1000 * number + k + 5)
-                world.end_frame()
-                everywhere = Box((1000 * number, 0, 0), (1000 * number + 999, 0, 0))
-                assert world.hits(everywhere, 1 << number) == sorted(mine)
-                assert world.ray_handles((1000 * number, 0, 0), (1, 0, 0), 1 << number) == mine
-                world.remove_all(mine)
+            play(number)
         except BaseException as fault:
             faults.append(fault)
 
     sys.setswitchinterval(1e-6)
     try:
-        players = [threading.Thread(target=play, args=(number,)) for number in range(4)]
+        players = [threading.Thread(target=played, args=(number,)) for number in range(count)]
         for player in players:
             player.start()
         for player in players:
@@ -475,34 +469,119 @@ def threads(world):
     finally:
         sys.setswitchinterval(interval)
     assert not faults, faults
+
+
+def threads(world):
+    """Several threads add, ask, move and remove at once: each finds its own boxes as if it were alone."""
+
+    def play(number):
+        mask = 1 << number
+        for _ in range(5):
+            mine = [world.add(raw(1000 * number + k), groups=mask) for k in range(20)]
+            mine += world.add_all([raw(1000 * number + k) for k in range(20, 30)], groups=mask)
+            for k, handle in enumerate(mine):
+                world.move(handle, raw(1000 * number + k + 5))
+                assert world.get(handle).box == raw(1000 * number + k + 5)
+            world.end_frame()
+            everywhere = Box((1000 * number, 0, 0), (1000 * number + 999, 0, 0))
+            assert world.hits(everywhere, mask) == sorted(mine)
+            assert world.ray_handles((1000 * number, 0, 0), (1, 0, 0), mask) == mine
+            assert world.first_hit((1000 * number, 0, 0), (1, 0, 0), mask) == mine[0]
+            world.remove_all(mine)
+
+    played_at_once(play)
     assert world.info().boxes == 0 and world.info().frames == 20
 
 
+def threads_with_batches(world):
+    """Long calls of several threads, which let the other threads run meanwhile."""
+    boxes = array.array("i", [0, 0, 0, 1, 1, 1]) * 400
+    given = [array.array("I", bytes(8 * 400)) for _ in range(4)]
+    turn = threading.Barrier(4)
+
+    def play(number):
+        for _ in range(10):
+            turn.wait()
+            assert world.add_all_into(given[number], boxes, sees=0) == 400
+            turn.wait()
+            assert len({slot for one in given for slot in one[::2]}) == 1600 == world.info().boxes
+            turn.wait()
+            world.remove_all(given[number])
+
+    played_at_once(play)
+    assert world.info().boxes == 0
+
+
+def turns(world):
+    """A call of a world waits for the one before it, and not for one of another world."""
+    within, most, both = [], [], threading.Barrier(2)
+    module, mark = sys.modules[World.__module__], sys.modules[World.__module__]._pw_mark
+
+    def alone(held):
+        within.append(held)
+        most.append(len(within))
+        time.sleep(0.001)
+        within.pop()
+        return Status.OK
+
+    def together(held):
+        both.wait(30)
+        return Status.OK
+
+    try:
+        module._pw_mark = alone
+        played_at_once(lambda number: [world.mark() for _ in range(5)])
+        assert most == [1] * 20
+        module._pw_mark = together
+        with World() as other:
+            played_at_once(lambda number: (world, other)[number].mark(), 2)
+    finally:
+        module._pw_mark = mark
+
+
 def finalizers(world):
-    """A collector's finalizer calls the world in the middle of another call of the same thread."""
+    """A collector's finalizer calls the world in the middle of another call of the same thread, wherever that takes memory."""
 
     class Body:
-        def __init__(self, x):
-            self.handle, self.itself = world.add(raw(x), groups=2), self
+        def __init__(self):
+            self.handle, self.itself = world.add(raw(1000), groups=2), self
 
         def __del__(self):
-            assert self.handle in world.hits(Point(*world.get(self.handle).box.lo), 2)
+            assert world.get(self.handle).box == raw(1000)
+            assert world.hits(Point(1000, 0, 0), 2) == [self.handle] == [world.first_hit((1000, 0, 0), (0, 0, 0), 2)]
             world.remove(self.handle)
+            ended.append(world.add(raw(2000)))
+            world.remove(ended[-1])
 
-    kept = [world.add(raw(0)) for _ in range(50)]
-    limits = gc.get_threshold()
-    gc.set_threshold(3)
+    ended, kept = [], [world.add(raw(0)) for _ in range(8)]
+    world.end_frame()
+    pairs, limits = world.pairs(), gc.get_threshold()
+    line = (world.hits, raw(0), 1), (world.ray_handles, (0, 0, 0), (1, 0, 0), 1)
+    calls = [lambda call=call, arguments=arguments: call(*arguments) == kept for call, *arguments in line]
+    calls.append(lambda: world.pairs() == pairs)
+    calls.append(lambda: world.get(kept[1]) == (raw(0), 1, ALL, 0, False))
+    calls.append(lambda: world.get(world.add(raw(3000), owner=7))[0::3] == (raw(3000), 7))
+    calls.append(lambda: world.first_hit((0, 0, 0), (1, 0, 0), 1) == kept[0])
+    calls.append(lambda: box_around((0, 0, 0), (1, 1, 1)) == cube(0) and world.info()[2] >= 8)
+    # What there is already is looked at no more, since it would take most of the time.
+    gc.freeze()
     try:
-        for x in range(1000, 4000, 30):
-            Body(x)
-            assert world.hits(raw(0), 1) == world.ray_handles((0, 0, 0), (1, 0, 0), 1) == kept
-            handle = world.add(raw(5000))
-            assert world.get(handle) == (raw(5000), 1, ALL, 0, False)
-            world.remove_all([handle])
+        for call in calls:
+            for wait in range(1, 40):
+                world.mark()
+                gc.collect()
+                gc.disable()
+                Body()
+                gc.set_threshold(wait)
+                gc.enable()
+                assert call()
+                gc.set_threshold(*limits)
+                gc.collect()
+                world.back()
     finally:
         gc.set_threshold(*limits)
-    gc.collect()
-    assert world.info().boxes == 50
+        gc.unfreeze()
+    assert len(ended) == 39 * len(calls)
 
 
 # What needs no world, or one.
@@ -521,7 +600,7 @@ def values():
     assert a == Handle(1, 2) != b and a < b and len({a, b, Handle(1, 2)}) == 2 and repr(a) == "Handle(slot=1, generation=2)"
     box = Box((1, 2, 3), Point(4, 5, 6))
     assert (box.lo, box.hi, box.lo.x, box.hi.z) == (Point(1, 2, 3), Point(4, 5, 6), 1, 6) and tuple(box) == (1, 2, 3, 4, 5, 6)
-    assert box == Box(box.lo, box.hi) and hash(box) == hash(Box(box.lo, box.hi)) and box != Box() and repr(Box()).startswith("Box(lo=Point(")
+    assert box == Box(box.lo, box.hi) != Box() and hash(box) == hash(Box(box.lo, box.hi)) and repr(Box()).startswith("Box(lo=Point(")
     told = Told(OVER, a, b)
     assert told.pair == Pair(a, b) and told == Told(Event.OVER, *Pair(a, b))
     for value in (box, a, told, Pair(a, b), Point(1, 2, 3), Ray(box.lo, box.hi), Live(box, 1, 2, 3, False)):
@@ -575,7 +654,11 @@ def types_of_the_library():
         if line.startswith("pw_status pw_"):
             function = getattr(library, line[len("pw_status ") : line.index("(")])
             assert function.argtypes and function.restype is ctypes.c_uint32, line
-    assert library.pw_close(held) == Status.OK
+    structs = "Point Box New Handle Live Pair Told Counts Query Ray Cast Near Info World".split()
+    sizes = [ctypes.sizeof(getattr(pungwelair._library, f"Raw{name}")) for name in structs]
+    assert sizes == [12, 24, 16, 8, 40, 16, 20, 24, 32, 28, 40, 20, 32, 16] or ctypes.sizeof(ctypes.c_void_p) != 8
+    pungwelair.call("pw_close", held)
+    refused(Status.CLOSED, pungwelair.call, "pw_close", held)
 
 
 def imports():
@@ -588,7 +671,8 @@ def imports():
 
     path = Path(library._name)
     assert imported(path).returncode == imported(path.parent).returncode == 0
-    for wrong, said in ((path.parent / "nowhere", "run bindings/build"), (Path(package), "PUNGWELAIR_LIB"), (Path(__file__), "isn't a library")):
+    nowhere = path.parent / "nowhere"
+    for wrong, said in ((nowhere, "run bindings/build"), (Path(package), "PUNGWELAIR_LIB"), (Path(__file__), "isn't a library")):
         ended = imported(wrong)
         last = ended.stderr.splitlines()[-1]
         assert ended.returncode and last.startswith("ImportError: ") and said in last and str(wrong) in last, ended.stderr
@@ -646,7 +730,8 @@ def arrays_of_numpy():
 
 OVER_EACH_STRUCTURE = (
     slots_of_frames, handles_of_frames, long_lists, live_boxes, wrong_types, wrong_numbers, questions, batches_of_values,
-    batches_of_buffers, wrong_buffers, nothing_is_copied, marks, closed_worlds, ends_of_worlds, threads, finalizers,
+    batches_of_buffers, wrong_buffers, nothing_is_copied, marks, closed_worlds, ends_of_worlds, threads,
+    threads_with_batches, turns, finalizers,
 )  # fmt: skip
 ONCE = (a_full_world, values, refusals, floats, types_of_the_library, imports, docs_and_types, arrays_of_numpy)
 

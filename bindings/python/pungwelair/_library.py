@@ -160,9 +160,10 @@ _takes("pw_box_around_64", _To(RawDoubles), _To(RawDoubles), _BOX)
 
 
 def unchecked(name: str) -> Any:
-    """The same function without a look at its arguments, which takes half the time of a short call.
+    """The same function without a look at its arguments, which would double the time of a short call.
 
-    It is for pointers to a workspace, for bytes that a `struct.Struct` below has just packed, and for the lengths below alone.
+    It is for pointers to a world's own memory or a workspace's, for structs and numbers of ctypes, and for bytes that a `struct.Struct`
+    below has just packed.
     """
     function = library[name]
     function.restype = c_uint32
@@ -185,7 +186,8 @@ class Workspace:
         self.count, self.number = c_size_t(), c_int32()
         # Room for the answer to any question, and for what is told of most frames.
         self.found = bytearray(SLOTS * ctypes.sizeof(RawHandle))
-        self.box_at, self.handle_at, self.count_at = map(ctypes.byref, (self.box, self.handle, self.count))
+        self.box_at, self.handle_at, self.live_at, self.info_at = map(ctypes.byref, (self.box, self.handle, self.live, self.info))
+        self.count_at, self.number_at = ctypes.byref(self.count), ctypes.byref(self.number)
         self.found_at = ctypes.byref(ctypes.c_char.from_buffer(self.found))
 
 

@@ -4,6 +4,7 @@ from __future__ import annotations
 
 import enum
 import struct
+from ctypes import c_uint64
 from operator import index
 from typing import Any, Iterable, List, NamedTuple, NoReturn, Tuple, Union
 
@@ -214,7 +215,10 @@ made: Any = tuple.__new__
 
 
 def call(name: str, *arguments: Any) -> None:
-    """Calls a function of pungwelair.h by its name, and raises `Refused` where it doesn't give PW_OK."""
+    """Calls a function of pungwelair.h by its name, and raises `Refused` where it doesn't give PW_OK.
+
+    A `World` has each of them: this is for the few that want its structs, which stand in `pungwelair._library`.
+    """
     status = getattr(library, name)(*arguments)
     if status:
         raise Refused(status)
@@ -245,7 +249,7 @@ def _refuse_floats(fault: Exception, *numbers: Any) -> NoReturn:
     raise TypeError(f"not numbers: {numbers}") from fault
 
 
-_pw_box_around_64 = unchecked("pw_box_around_64")
+_pw_box_around_64, _pw_fix_below_64, _pw_fix_above_64 = map(unchecked, ("pw_box_around_64", "pw_fix_below_64", "pw_fix_above_64"))
 
 
 def box_around(lo: Iterable[float], hi: Iterable[float]) -> Box:
@@ -269,10 +273,10 @@ def box_around(lo: Iterable[float], hi: Iterable[float]) -> Box:
     return box
 
 
-def _fixed(name: str, number: float) -> int:
+def _fixed(rounds: Any, number: float) -> int:
     work = workspace()
     (bits,) = struct.unpack("=Q", struct.pack("=d", float(number)))
-    status = getattr(library, name)(bits, work.number)
+    status = rounds(c_uint64(bits), work.number_at)
     fixed: int = work.number.value
     kept.append(work)
     if status:
@@ -282,9 +286,9 @@ def _fixed(name: str, number: float) -> int:
 
 def fix_below(number: float) -> int:
     """The greatest raw number that is at most 65,536 times a float. NOT_A_NUMBER, OUT_OF_RANGE."""
-    return _fixed("pw_fix_below_64", number)
+    return _fixed(_pw_fix_below_64, number)
 
 
 def fix_above(number: float) -> int:
     """The least raw number that is at least 65,536 times a float. NOT_A_NUMBER, OUT_OF_RANGE."""
-    return _fixed("pw_fix_above_64", number)
+    return _fixed(_pw_fix_above_64, number)

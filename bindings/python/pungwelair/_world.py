@@ -4,8 +4,7 @@ from __future__ import annotations
 
 import struct
 import threading
-import weakref
-from ctypes import byref, c_size_t
+from ctypes import byref, c_size_t, c_uint32
 from operator import index
 from typing import TYPE_CHECKING, Any, Callable, Iterable, List, NoReturn, Optional, Tuple, TypeVar
 
@@ -22,7 +21,7 @@ from ._values import (
 if TYPE_CHECKING:
     from typing_extensions import Buffer
 
-_Values = TypeVar("_Values")
+_Value = TypeVar("_Value")
 
 _EVENTS: Tuple[Event, ...] = (BEGIN, STAY, OVER)
 _SLOT, _SLOTS_TOLD = struct.Struct("=I4x"), struct.Struct("=II4xI4x")
@@ -30,15 +29,10 @@ _SLOT, _SLOTS_TOLD = struct.Struct("=I4x"), struct.Struct("=II4xI4x")
 _pack_box, _pack_handle, _pack_new, _pack_query = BOX.pack, HANDLE.pack, NEW.pack, QUERY.pack
 _pack_ray, _pack_cast, _pack_near, _handle_from = RAY.pack, CAST.pack, NEAR.pack, HANDLE.unpack_from
 
-_pw_add, _pw_move, _pw_remove, _pw_update = (unchecked(name) for name in ("pw_add", "pw_move", "pw_remove", "pw_update"))
-_pw_pairs, _pw_events, _pw_changes = (unchecked(name) for name in ("pw_pairs", "pw_events", "pw_changes"))
-_pw_hits, _pw_ray_hits, _pw_cast_hits = (unchecked(name) for name in ("pw_hits", "pw_ray_hits", "pw_cast_hits"))
-_pw_nearest = unchecked("pw_nearest")
-
-
-def _close(held: RawWorld, lock: Any) -> None:
-    with lock:
-        library.pw_close(held)
+_pw_open, _pw_close, _pw_mark, _pw_back, _pw_info = map(unchecked, ("pw_open", "pw_close", "pw_mark", "pw_back", "pw_info"))
+_pw_add, _pw_move, _pw_mask, _pw_remove, _pw_get = map(unchecked, ("pw_add", "pw_move", "pw_mask", "pw_remove", "pw_get"))
+_pw_update, _pw_pairs, _pw_events, _pw_changes = map(unchecked, ("pw_update", "pw_pairs", "pw_events", "pw_changes"))
+_pw_hits, _pw_ray_hits, _pw_cast_hits, _pw_nearest = map(unchecked, ("pw_hits", "pw_ray_hits", "pw_cast_hits", "pw_nearest"))
 
 
 def _from(start: int) -> int:
@@ -67,8 +61,12 @@ class World:
     other thread may write to a buffer while a call has it.
     """
 
+    # Of a world that didn't come to be, for `__del__`: a closed one.
+    _world: Any = byref(RawWorld())
+
     def __init__(self, structure: int = TREE) -> None:
         """An open world with no box, over one of the five structures. NO_MEMORY, or ARGUMENT where there is no such structure."""
+        structure = index(structure)
         refuse_words(structure=structure)
         self._held = RawWorld()
         self._world = byref(self._held)
@@ -78,15 +76,17 @@ class World:
         self._done = byref(c_size_t())
         self._counts = RawCounts()
         self._counts_at = byref(self._counts)
-        status = library.pw_open(self._held, index(structure))
+        status = _pw_open(self._world, c_uint32(structure))
         if status:
             raise Refused(status)
-        # Not at the interpreter's end, where other threads may still call.
-        weakref.finalize(self, _close, self._held, self._lock).atexit = False
 
     def close(self) -> None:
         """Frees the world's memory. A world that is closed stays so."""
-        _close(self._held, self._lock)
+        with self._lock:
+            _pw_close(self._world)
+
+    def __del__(self, close: Any = _pw_close) -> None:
+        close(self._world)
 
     @property
     def closed(self) -> bool:
@@ -146,7 +146,13 @@ class World:
 
     def remove(self, handle: Handle) -> None:
         """Removes a box. STALE; NO_MEMORY, only while a mark is held."""
-        name = packed_handle(handle)
+        if not isinstance(handle, Handle):
+            refuse_kind(handle, Handle)
+        try:
+            name = _pack_handle(handle.slot, handle.generation)
+        except struct.error:
+            refuse_words(slot=handle.slot, generation=handle.generation)
+            raise
         with self._lock:
             status = _pw_remove(self._world, name, ONE, self._done)
         if status:
@@ -157,7 +163,7 @@ class World:
         name = RawHandle.from_buffer_copy(packed_handle(handle))
         refuse_words(groups=groups, sees=sees)
         with self._lock:
-            status = library.pw_mask(self._held, name, RawMasks(index(groups), index(sees)))
+            status = _pw_mask(self._world, name, RawMasks(index(groups), index(sees)))
         if status:
             raise Refused(status)
 
@@ -165,7 +171,7 @@ class World:
         """The live box that has a handle. STALE."""
         name, work = RawHandle.from_buffer_copy(packed_handle(handle)), workspace()
         with self._lock:
-            status = library.pw_get(self._held, name, work.live)
+            status = _pw_get(self._world, name, work.live_at)
         numbers = LIVE.unpack_from(work.live)
         kept.append(work)
         if status:
@@ -242,7 +248,10 @@ class World:
             return self.events()
 
     def end_frame(self) -> None:
-        """Ends the frame: finds the pairs of the boxes as they stand, and reads nothing of it. EXHAUSTED, NO_MEMORY: all is as before."""
+        """Ends the frame: finds the pairs of the boxes as they stand, and reads nothing of it.
+
+        EXHAUSTED, NO_MEMORY: all is as before.
+        """
         with self._lock:
             status = _pw_update(self._world, self._counts_at)
         if status:
@@ -274,7 +283,7 @@ class World:
         """The same without the pairs that stayed. Take `pair_changes`, which gives the handles."""
         return self._read(_pw_changes, library.pw_changes, EVENTS, self._counts.changes, _slots_told)
 
-    def _read(self, short: Any, long: Any, kind: Kind, expected: int, values: Callable[[bytearray], _Values]) -> _Values:
+    def _read(self, short: Any, long: Any, kind: Kind, expected: int, values: Callable[[bytearray], List[_Value]]) -> List[_Value]:
         """All of a list that the frame has: `short` and `long` are the same call."""
         room = kind.found
         if expected < room.value:
@@ -285,12 +294,12 @@ class World:
                 raise Refused(status)
             count = work.count.value
             if count < room.value:
-                read = values(work.found[: count * kind.size])
+                read = values(work.found[: count * kind.size]) if count else []
                 kept.append(work)
                 return read
         return self._read_long(long, kind, expected, values)
 
-    def _read_long(self, copies: Any, kind: Kind, expected: int, values: Callable[[bytearray], _Values]) -> _Values:
+    def _read_long(self, copies: Any, kind: Kind, expected: int, values: Callable[[bytearray], List[_Value]]) -> List[_Value]:
         # A row more than is expected: where it stays free, all were read. Another thread or a way back may have made them more.
         start, room, parts = 0, expected + 1, []
         while True:
@@ -328,7 +337,7 @@ class World:
 
     def hits_into(self, out: Buffer, question: Question, mask: int = ALL) -> int:
         """Writes the first of them to a buffer, and tells how many there are, which may be more than it has room for."""
-        return _checked(*self._found_into(library.pw_hits, RawQuery.from_buffer_copy(_query(question, mask)), room_of(HANDLES, out)))
+        return self._found_into(library.pw_hits, RawQuery.from_buffer_copy(_query(question, mask)), out)
 
     def ray_hits(self, origin: Iterable[int], direction: Iterable[int], mask: int = ALL) -> List[int]:
         """The slots of the boxes that a ray of raw numbers meets, in the order in which it meets them. `ray_handles` gives handles."""
@@ -343,7 +352,7 @@ class World:
 
     def ray_handles_into(self, out: Buffer, origin: Iterable[int], direction: Iterable[int], mask: int = ALL) -> int:
         """Writes the first of them to a buffer, and tells how many there are, which may be more than it has room for."""
-        return _checked(*self._found_into(library.pw_ray_hits, RawRay.from_buffer_copy(_ray(origin, direction, mask)), room_of(HANDLES, out)))
+        return self._found_into(library.pw_ray_hits, RawRay.from_buffer_copy(_ray(origin, direction, mask)), out)
 
     def first_hit(self, origin: Iterable[int], direction: Iterable[int], mask: int = ALL) -> Optional[Handle]:
         """The box that a ray meets first, or None where it meets none. NO_MEMORY."""
@@ -360,7 +369,7 @@ class World:
 
     def cast_hits_into(self, out: Buffer, box: Box, by: Iterable[int], mask: int = ALL) -> int:
         """Writes the first of them to a buffer, and tells how many there are, which may be more than it has room for."""
-        return _checked(*self._found_into(library.pw_cast_hits, RawCast.from_buffer_copy(_cast(box, by, mask)), room_of(HANDLES, out)))
+        return self._found_into(library.pw_cast_hits, RawCast.from_buffer_copy(_cast(box, by, mask)), out)
 
     def nearest(self, at: Iterable[int], want: int = 1, mask: int = ALL) -> List[Handle]:
         """The boxes that are nearest to a place, at most `want`, in order of their distance and then of their slots. NO_MEMORY."""
@@ -368,7 +377,7 @@ class World:
 
     def nearest_into(self, out: Buffer, at: Iterable[int], want: int = 1, mask: int = ALL) -> int:
         """Writes the first of them to a buffer, and tells how many there are, which may be more than it has room for."""
-        return _checked(*self._found_into(library.pw_nearest, RawNear.from_buffer_copy(_near(at, want, mask)), room_of(HANDLES, out)))
+        return self._found_into(library.pw_nearest, RawNear.from_buffer_copy(_near(at, want, mask)), out)
 
     def _asked(self, asks: Any, question: bytes, room: c_size_t = MOST) -> Workspace:
         work = workspace()
@@ -384,7 +393,10 @@ class World:
         kept.append(work)
         return handles
 
-    def _found_into(self, asks: Any, question: Any, rows: Rows) -> Tuple[int, int]:
+    def _found_into(self, asks: Any, question: Any, out: Buffer) -> int:
+        return _checked(*self._asked_into(asks, question, room_of(HANDLES, out)))
+
+    def _asked_into(self, asks: Any, question: Any, rows: Rows) -> Tuple[int, int]:
         work = workspace()
         with self._lock:
             status = asks(self._held, question, rows.first, rows.count, work.count)
@@ -392,18 +404,18 @@ class World:
 
     def mark(self) -> None:
         """Marks the world as it stands, for rollback. FULL where MOST_MARKS are held."""
-        self._plain(library.pw_mark)
+        with self._lock:
+            status = _pw_mark(self._world)
+        if status:
+            raise Refused(status)
 
     def back(self) -> None:
         """Goes back to the newest mark, which is then gone: boxes, handles, the last frame's pairs and the numbers are what they were.
 
         NO_MARK, NO_MEMORY. Forget the handles of boxes that came since: they are given again. What `events` and `changes` tell stays.
         """
-        self._plain(library.pw_back)
-
-    def _plain(self, changes: Any) -> None:
         with self._lock:
-            status = changes(self._held)
+            status = _pw_back(self._world)
         if status:
             raise Refused(status)
 
@@ -411,7 +423,7 @@ class World:
         """What the world is."""
         work = workspace()
         with self._lock:
-            status = library.pw_info(self._held, work.info)
+            status = _pw_info(self._world, work.info_at)
         if status:
             raise Refused(status)
         structure, spent, *others = INFO.unpack_from(work.info)
