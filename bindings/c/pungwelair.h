@@ -40,6 +40,15 @@
 extern "C" {
 #endif
 
+/* The version, for #if and as a text. Another major number is another library for a program that is linked already, and the number of
+ * the shared library's soname. */
+#define PW_VERSION_MAJOR 0
+#define PW_VERSION_MINOR 1
+#define PW_VERSION_PATCH 0
+#define PW_VERSION_QUOTED(major, minor, patch) #major "." #minor "." #patch
+#define PW_VERSION_OF(major, minor, patch) PW_VERSION_QUOTED(major, minor, patch)
+#define PW_VERSION PW_VERSION_OF(PW_VERSION_MAJOR, PW_VERSION_MINOR, PW_VERSION_PATCH)
+
 /* The most boxes that live at once. Slots are below it, so an array of this length has room for the answer to any question (there may be
  * more pairs, events and changes). */
 #define PW_SLOTS 8192u
