@@ -1,9 +1,9 @@
 // Pungwelair's broad phase for C++17: what pungwelair.h does, with an owner, a status that is a type, and spans. It throws nothing
 // and takes no memory of its own. What each call means, and what it costs, stands in pungwelair.h.
 //
-//     pungwelair::World world(pungwelair::Structure::tree);
+//     pungwelair::World world(pungwelair::Structure::tree);   // world.status() tells whether it is open
 //     auto box = pungwelair::box_around(low, high);           // three floats each
-//     auto crate = box ? world.add(*box) : std::nullopt;      // a handle
+//     auto crate = box ? world.add(*box) : std::nullopt;      // a handle; try_add tells why there is none
 //     for (;;) {                                              // a tick
 //         auto moved = world.move(handles, boxes);            // moved.status, moved.done
 //         auto frame = world.update();                        // frame.status, frame.pairs, frame.events, frame.changes
@@ -14,7 +14,11 @@
 #define PUNGWELAIR_HPP
 
 #include "pungwelair.h"
+#include <array>
 #include <cstddef>
+#include <cstdint>
+#include <functional>
+#include <initializer_list>
 #include <iterator>
 #include <optional>
 #include <type_traits>
@@ -37,17 +41,63 @@ enum class [[nodiscard]] Status : pw_status {
     out_of_range = PW_OUT_OF_RANGE
 };
 
+// A status in words, for a log.
+[[nodiscard]] constexpr const char* text_of(Status status) noexcept {
+    switch (status) {
+        case Status::ok: return "ok";
+        case Status::stale: return "stale";
+        case Status::full: return "full";
+        case Status::no_memory: return "no memory";
+        case Status::inverted: return "inverted";
+        case Status::closed: return "closed";
+        case Status::argument: return "argument";
+        case Status::exhausted: return "exhausted";
+        case Status::no_mark: return "no mark";
+        case Status::not_a_number: return "not a number";
+        case Status::out_of_range: return "out of range";
+    }
+    return "no status";
+}
+
 enum class Structure : uint32_t { plain = PW_PLAIN, sap = PW_SAP, tree = PW_TREE, grid = PW_GRID, skin = PW_SKIN };
 
 enum class Event : uint32_t { begin = PW_BEGIN, stay = PW_STAY, over = PW_OVER };
 
-inline Event event_of(const pw_told& told) { return Event(told.event); }
+[[nodiscard]] constexpr Event event_of(const pw_told& told) noexcept { return Event(told.event); }
 
 // The handle of no box, stale in every world.
 inline constexpr pw_handle no_handle{0xffffffffu, 0xffffffffu};
 
-// Items that stand one behind the other, as std::span of C++20: of a vector, an array, or a pointer and a number. An empty
-// one leads to a place as well, since the library takes no null pointer.
+// How a box comes that nobody owns, that moves, and that every box sees, as pw_seen_by_all().
+inline constexpr pw_new seen_by_all{{1u, 0xffffffffu}, {0u, 0u}};
+
+// A value, or the status that says why there is none, in the form of std::expected of C++23. It has no value(), which would throw.
+template <class Value>
+class [[nodiscard]] Result {
+    Value kept{};
+    Status reason;
+
+public:
+    constexpr Result(const Value& value) noexcept : kept(value), reason(Status::ok) {}
+    // Of a status that isn't ok.
+    constexpr explicit Result(Status refusal) noexcept : reason(refusal) {}
+
+    [[nodiscard]] constexpr bool has_value() const noexcept { return reason == Status::ok; }
+    constexpr explicit operator bool() const noexcept { return has_value(); }
+    // Why there is no value, and ok where there is one.
+    constexpr Status error() const noexcept { return reason; }
+
+    // Where there is none, this is one of zeros.
+    [[nodiscard]] constexpr const Value& operator*() const noexcept { return kept; }
+    [[nodiscard]] constexpr Value& operator*() noexcept { return kept; }
+    constexpr const Value* operator->() const noexcept { return &kept; }
+    constexpr Value* operator->() noexcept { return &kept; }
+    [[nodiscard]] constexpr Value value_or(const Value& other) const noexcept { return has_value() ? kept : other; }
+    constexpr operator std::optional<Value>() const noexcept { return has_value() ? std::optional<Value>(kept) : std::nullopt; }
+};
+
+// Items that stand one behind the other, as std::span of C++20: of a vector, an array, a std::span, or a pointer and a number; of
+// items in braces too, where they are only read. An empty one leads to a place as well, since the library takes no null pointer.
 template <class Item>
 class Span {
     static inline std::remove_const_t<Item> nowhere{};
@@ -55,170 +105,289 @@ class Span {
     std::size_t length;
 
 public:
-    Span(Item* first, std::size_t count) : at(first ? first : &nowhere), length(first ? count : 0) {}
+    Span(Item* first, std::size_t count) noexcept : at(first ? first : &nowhere), length(first ? count : 0) {}
     template <class Items, class = std::enable_if_t<std::is_convertible_v<decltype(std::data(std::declval<Items&>())), Item*>>>
-    Span(Items&& items) : Span(std::data(items), std::size(items)) {}
+    Span(Items&& items) noexcept : Span(std::data(items), std::size(items)) {}
+    // They live until the call has ended.
+    template <class One, class = std::enable_if_t<std::is_convertible_v<const One*, Item*>>>
+    Span(std::initializer_list<One> items) noexcept : Span(items.begin(), items.size()) {}
 
-    Item* data() const { return at; }
-    std::size_t size() const { return length; }
+    [[nodiscard]] Item* data() const noexcept { return at; }
+    [[nodiscard]] std::size_t size() const noexcept { return length; }
 };
 
 // How many items of a batch were done before it ended, and why it did. `done` is all of them where the status is ok.
 struct [[nodiscard]] Batch {
     Status status;
     std::size_t done;
-    explicit operator bool() const { return status == Status::ok; }
+    explicit operator bool() const noexcept { return status == Status::ok; }
 };
 
 // How many there are, or were copied.
 struct [[nodiscard]] Count {
     Status status;
     std::size_t count;
-    explicit operator bool() const { return status == Status::ok; }
+    explicit operator bool() const noexcept { return status == Status::ok; }
 };
 
 // The frame that an update ended.
 struct [[nodiscard]] Frame {
     Status status;
     std::size_t pairs, events, changes;
-    explicit operator bool() const { return status == Status::ok; }
+    explicit operator bool() const noexcept { return status == Status::ok; }
 };
 
-// The least box in raw units that holds one of floats or doubles. None where a number is a NaN or out of range, or where the lower
-// corner is above the upper one.
-inline std::optional<pw_box> box_around(const float lo[3], const float hi[3]) {
-    pw_box out;
-    return pw_box_around(lo, hi, &out) == PW_OK ? std::optional(out) : std::nullopt;
+// What the calls named try_ share: a value where its status is ok.
+template <class Value>
+Result<Value> result_of(pw_status status, const Value& value) noexcept {
+    return status == PW_OK ? Result<Value>(value) : Result<Value>(Status(status));
 }
-inline std::optional<pw_box> box_around(const double lo[3], const double hi[3]) {
-    pw_box out;
-    return pw_box_around_double(lo, hi, &out) == PW_OK ? std::optional(out) : std::nullopt;
+
+// The least box in raw units that holds one of floats or doubles. Refused are a NaN, a number out of range, and a lower corner above the
+// upper one: try_box_around tells which.
+inline Result<pw_box> try_box_around(const float lo[3], const float hi[3]) noexcept {
+    pw_box out{};
+    pw_status status = pw_box_around(lo, hi, &out);
+    return result_of(status, out);
+}
+inline Result<pw_box> try_box_around(const double lo[3], const double hi[3]) noexcept {
+    pw_box out{};
+    pw_status status = pw_box_around_double(lo, hi, &out);
+    return result_of(status, out);
+}
+inline Result<pw_box> try_box_around(const std::array<float, 3>& lo, const std::array<float, 3>& hi) noexcept {
+    return try_box_around(lo.data(), hi.data());
+}
+inline Result<pw_box> try_box_around(const std::array<double, 3>& lo, const std::array<double, 3>& hi) noexcept {
+    return try_box_around(lo.data(), hi.data());
+}
+[[nodiscard]] inline std::optional<pw_box> box_around(const float lo[3], const float hi[3]) noexcept { return try_box_around(lo, hi); }
+[[nodiscard]] inline std::optional<pw_box> box_around(const double lo[3], const double hi[3]) noexcept { return try_box_around(lo, hi); }
+[[nodiscard]] inline std::optional<pw_box> box_around(const std::array<float, 3>& lo, const std::array<float, 3>& hi) noexcept {
+    return try_box_around(lo, hi);
+}
+[[nodiscard]] inline std::optional<pw_box> box_around(const std::array<double, 3>& lo, const std::array<double, 3>& hi) noexcept {
+    return try_box_around(lo, hi);
 }
 
 // The nearest raw numbers that are at most, and at least, a float or a double.
-inline std::optional<int32_t> fix_below(float number) {
-    int32_t out;
-    return pw_fix_below(number, &out) == PW_OK ? std::optional(out) : std::nullopt;
+inline Result<int32_t> try_fix_below(float number) noexcept {
+    int32_t out = 0;
+    pw_status status = pw_fix_below(number, &out);
+    return result_of(status, out);
 }
-inline std::optional<int32_t> fix_above(float number) {
-    int32_t out;
-    return pw_fix_above(number, &out) == PW_OK ? std::optional(out) : std::nullopt;
+inline Result<int32_t> try_fix_above(float number) noexcept {
+    int32_t out = 0;
+    pw_status status = pw_fix_above(number, &out);
+    return result_of(status, out);
 }
+inline Result<int32_t> try_fix_below(double number) noexcept {
+    int32_t out = 0;
+    pw_status status = pw_fix_below_double(number, &out);
+    return result_of(status, out);
+}
+inline Result<int32_t> try_fix_above(double number) noexcept {
+    int32_t out = 0;
+    pw_status status = pw_fix_above_double(number, &out);
+    return result_of(status, out);
+}
+[[nodiscard]] inline std::optional<int32_t> fix_below(float number) noexcept { return try_fix_below(number); }
+[[nodiscard]] inline std::optional<int32_t> fix_above(float number) noexcept { return try_fix_above(number); }
+[[nodiscard]] inline std::optional<int32_t> fix_below(double number) noexcept { return try_fix_below(number); }
+[[nodiscard]] inline std::optional<int32_t> fix_above(double number) noexcept { return try_fix_above(number); }
 
-inline std::optional<int32_t> fix_below(double number) {
-    int32_t out;
-    return pw_fix_below_double(number, &out) == PW_OK ? std::optional(out) : std::nullopt;
-}
-inline std::optional<int32_t> fix_above(double number) {
-    int32_t out;
-    return pw_fix_above_double(number, &out) == PW_OK ? std::optional(out) : std::nullopt;
-}
-
-// A world, which is closed where it ends. It can be moved and not copied; what it was moved from is a closed world.
+// A world, which is closed where it ends. It can be moved and not copied; what it was moved from is a closed world. Questions aren't
+// const: each takes the world out of its words and puts it back, so two threads may not ask at once either.
 class World {
     pw_world world = PW_WORLD_INIT;
+    Status opened = Status::closed;
 
 public:
     World() = default;
-    // An open world, or a closed one where memory ran out: `info` tells.
-    explicit World(Structure structure) { static_cast<void>(open(structure)); }
+    // An open world, or a closed one where memory ran out: `status` tells.
+    explicit World(Structure structure) noexcept { static_cast<void>(open(structure)); }
     ~World() { pw_close(&world); }
-    World(World&& other) noexcept : world(std::exchange(other.world, PW_WORLD_INIT)) {}
+    World(World&& other) noexcept : world(std::exchange(other.world, PW_WORLD_INIT)), opened(std::exchange(other.opened, Status::closed)) {}
     World& operator=(World&& other) noexcept {
         World taken(std::move(other));
         std::swap(world, taken.world);
+        std::swap(opened, taken.opened);
         return *this;
     }
 
-    Status open(Structure structure) { return Status(pw_open(&world, uint32_t(structure))); }
-    Status close() { return Status(pw_close(&world)); }
+    // An open world that would be opened stays open.
+    Status open(Structure structure) noexcept {
+        Status status = Status(pw_open(&world, uint32_t(structure)));
+        if (!is_open()) opened = status;
+        return status;
+    }
+    Status close() noexcept {
+        opened = Status::closed;
+        return Status(pw_close(&world));
+    }
+    // ok where the world is open, else why it isn't: what the last `open` or the constructor came to, or closed.
+    Status status() const noexcept { return opened; }
+    [[nodiscard]] bool is_open() const noexcept { return opened == Status::ok; }
+    // For calls of pungwelair.h, but for pw_open and pw_close. It is this world's, not another.
+    [[nodiscard]] pw_world* native() noexcept { return &world; }
 
-    Batch add(Span<const pw_box> boxes, const pw_new& how, Span<pw_handle> out) {
+    Batch add(Span<const pw_box> boxes, const pw_new& how, Span<pw_handle> out) noexcept {
         Batch batch{};
         batch.status = Status(pw_add(&world, boxes.data(), boxes.size(), &how, out.data(), out.size(), &batch.done));
         return batch;
     }
-    [[nodiscard]] std::optional<pw_handle> add(const pw_box& box, const pw_new& how = pw_seen_by_all()) {
-        pw_handle handle;
-        return add({&box, 1}, how, {&handle, 1}) ? std::optional(handle) : std::nullopt;
+    Result<pw_handle> try_add(const pw_box& box, const pw_new& how = seen_by_all) noexcept {
+        pw_handle handle{};
+        std::size_t done;
+        pw_status status = pw_add(&world, &box, 1, &how, &handle, 1, &done);
+        return result_of(status, handle);
     }
-    Batch move(Span<const pw_handle> handles, Span<const pw_box> boxes) {
+    [[nodiscard]] std::optional<pw_handle> add(const pw_box& box, const pw_new& how = seen_by_all) noexcept { return try_add(box, how); }
+    Batch move(Span<const pw_handle> handles, Span<const pw_box> boxes) noexcept {
         Batch batch{};
         batch.status = Status(pw_move(&world, handles.data(), handles.size(), boxes.data(), boxes.size(), &batch.done));
         return batch;
     }
-    Status move(pw_handle handle, const pw_box& box) { return move({&handle, 1}, {&box, 1}).status; }
-    Status mask(pw_handle handle, pw_masks masks) { return Status(pw_mask(&world, handle, masks)); }
-    Batch remove(Span<const pw_handle> handles) {
+    Status move(pw_handle handle, const pw_box& box) noexcept { return move({&handle, 1}, {&box, 1}).status; }
+    Status mask(pw_handle handle, pw_masks masks) noexcept { return Status(pw_mask(&world, handle, masks)); }
+    Batch remove(Span<const pw_handle> handles) noexcept {
         Batch batch{};
         batch.status = Status(pw_remove(&world, handles.data(), handles.size(), &batch.done));
         return batch;
     }
-    Status remove(pw_handle handle) { return remove({&handle, 1}).status; }
-    [[nodiscard]] std::optional<pw_live> get(pw_handle handle) {
-        pw_live live;
-        return pw_get(&world, handle, &live) == PW_OK ? std::optional(live) : std::nullopt;
+    Status remove(pw_handle handle) noexcept { return remove({&handle, 1}).status; }
+    Result<pw_live> try_get(pw_handle handle) noexcept {
+        pw_live live{};
+        pw_status status = pw_get(&world, handle, &live);
+        return result_of(status, live);
     }
+    [[nodiscard]] std::optional<pw_live> get(pw_handle handle) noexcept { return try_get(handle); }
 
-    Frame update() {
+    Frame update() noexcept {
         pw_counts counts{};
         Status status = Status(pw_update(&world, &counts));
         return {status, counts.pairs, counts.events, counts.changes};
     }
-    Count pairs(std::size_t from, Span<pw_pair> out) {
+    Count pairs(std::size_t from, Span<pw_pair> out) noexcept {
         Count copied{};
         copied.status = Status(pw_pairs(&world, from, out.data(), out.size(), &copied.count));
         return copied;
     }
-    Count events(std::size_t from, Span<pw_told> out) {
+    Count events(std::size_t from, Span<pw_told> out) noexcept {
         Count copied{};
         copied.status = Status(pw_events(&world, from, out.data(), out.size(), &copied.count));
         return copied;
     }
     // The same without the pairs that stayed, for which no step is taken.
-    Count changes(std::size_t from, Span<pw_told> out) {
+    Count changes(std::size_t from, Span<pw_told> out) noexcept {
         Count copied{};
         copied.status = Status(pw_changes(&world, from, out.data(), out.size(), &copied.count));
         return copied;
     }
 
     // Each tells how many boxes there are, which may be more than there was room for.
-    Count hits(const pw_query& query, Span<pw_handle> out) {
+    Count hits(const pw_query& query, Span<pw_handle> out) noexcept {
         Count found{};
         found.status = Status(pw_hits(&world, &query, out.data(), out.size(), &found.count));
         return found;
     }
-    Count ray_hits(const pw_ray& ray, Span<pw_handle> out) {
+    Count ray_hits(const pw_ray& ray, Span<pw_handle> out) noexcept {
         Count found{};
         found.status = Status(pw_ray_hits(&world, &ray, out.data(), out.size(), &found.count));
         return found;
     }
-    Count cast_hits(const pw_cast& cast, Span<pw_handle> out) {
+    Count cast_hits(const pw_cast& cast, Span<pw_handle> out) noexcept {
         Count found{};
         found.status = Status(pw_cast_hits(&world, &cast, out.data(), out.size(), &found.count));
         return found;
     }
-    Count nearest(const pw_near& near_to, Span<pw_handle> out) {
+    Count nearest(const pw_near& near_to, Span<pw_handle> out) noexcept {
         Count found{};
         found.status = Status(pw_nearest(&world, &near_to, out.data(), out.size(), &found.count));
         return found;
     }
-    // The box that a ray meets first. None where it meets none, and where the world is closed or memory ran out.
-    [[nodiscard]] std::optional<pw_handle> first_hit(const pw_ray& ray) {
-        pw_handle first;
+    // The box that a ray meets first, which is none where it meets none.
+    Result<std::optional<pw_handle>> try_first_hit(const pw_ray& ray) noexcept {
+        pw_handle first{};
         Count found = ray_hits(ray, {&first, 1});
-        return found && found.count > 0 ? std::optional(first) : std::nullopt;
+        return result_of(pw_status(found.status), found.count > 0 ? std::optional(first) : std::nullopt);
     }
+    // The same, and none also where the world is closed or memory ran out.
+    [[nodiscard]] std::optional<pw_handle> first_hit(const pw_ray& ray) noexcept { return *try_first_hit(ray); }
 
-    Status mark() { return Status(pw_mark(&world)); }
-    Status back() { return Status(pw_back(&world)); }
-    // None where the world is closed.
-    [[nodiscard]] std::optional<pw_world_info> info() {
-        pw_world_info info;
-        return pw_info(&world, &info) == PW_OK ? std::optional(info) : std::nullopt;
+    Status mark() noexcept { return Status(pw_mark(&world)); }
+    Status back() noexcept { return Status(pw_back(&world)); }
+    // Refused where the world is closed.
+    Result<pw_world_info> try_info() noexcept {
+        pw_world_info info{};
+        pw_status status = pw_info(&world, &info);
+        return result_of(status, info);
     }
+    [[nodiscard]] std::optional<pw_world_info> info() noexcept { return try_info(); }
 };
 
+// What the operators below compare: a handle by its slot and then its generation, a pair by its handles, a box by its corners.
+namespace compared {
+
+constexpr uint64_t key_of(const pw_handle& handle) noexcept { return uint64_t(handle.slot) << 32 | handle.generation; }
+constexpr auto key_of(const pw_pair& pair) noexcept { return std::pair(key_of(pair.a), key_of(pair.b)); }
+constexpr auto key_of(const pw_point& point) noexcept { return std::pair(std::pair(point.x, point.y), point.z); }
+constexpr auto key_of(const pw_box& box) noexcept { return std::pair(key_of(box.lo), key_of(box.hi)); }
+
+template <class Value>
+inline constexpr bool has_order = std::is_same_v<Value, pw_handle> || std::is_same_v<Value, pw_pair>;
+template <class Value>
+inline constexpr bool has_equality = has_order<Value> || std::is_same_v<Value, pw_point> || std::is_same_v<Value, pw_box>;
+
+// Bits that differ anywhere differ in the low ones too (the last steps of SplitMix64).
+constexpr uint64_t mixed(uint64_t bits) noexcept {
+    bits = (bits ^ bits >> 30) * 0xbf58476d1ce4e5b9u;
+    bits = (bits ^ bits >> 27) * 0x94d049bb133111ebu;
+    return bits ^ bits >> 31;
+}
+
+}  // namespace compared
 }  // namespace pungwelair
+
+// The structs of C are global, so their operators are too: there a look-up by arguments finds them, that of std's algorithms as well.
+// They are templates, so that a program's own operator for the same struct is preferred and nothing is ambiguous.
+template <class Value>
+constexpr std::enable_if_t<pungwelair::compared::has_equality<Value>, bool> operator==(const Value& a, const Value& b) noexcept {
+    return pungwelair::compared::key_of(a) == pungwelair::compared::key_of(b);
+}
+template <class Value>
+constexpr std::enable_if_t<pungwelair::compared::has_equality<Value>, bool> operator!=(const Value& a, const Value& b) noexcept {
+    return !(a == b);
+}
+template <class Value>
+constexpr std::enable_if_t<pungwelair::compared::has_order<Value>, bool> operator<(const Value& a, const Value& b) noexcept {
+    return pungwelair::compared::key_of(a) < pungwelair::compared::key_of(b);
+}
+template <class Value>
+constexpr std::enable_if_t<pungwelair::compared::has_order<Value>, bool> operator>(const Value& a, const Value& b) noexcept {
+    return b < a;
+}
+template <class Value>
+constexpr std::enable_if_t<pungwelair::compared::has_order<Value>, bool> operator<=(const Value& a, const Value& b) noexcept {
+    return !(b < a);
+}
+template <class Value>
+constexpr std::enable_if_t<pungwelair::compared::has_order<Value>, bool> operator>=(const Value& a, const Value& b) noexcept {
+    return !(a < b);
+}
+
+template <>
+struct std::hash<pw_handle> {
+    std::size_t operator()(const pw_handle& handle) const noexcept {
+        return std::size_t(pungwelair::compared::mixed(pungwelair::compared::key_of(handle)));
+    }
+};
+template <>
+struct std::hash<pw_pair> {
+    std::size_t operator()(const pw_pair& pair) const noexcept {
+        using namespace pungwelair::compared;
+        return std::size_t(mixed(mixed(key_of(pair.a)) + key_of(pair.b)));
+    }
+};
 
 #endif

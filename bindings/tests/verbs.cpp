@@ -1,9 +1,19 @@
-// Each call of the wrapper for C++ once: what it makes of a status, and of vectors, arrays and empty ones.
+// Each call of the wrapper for C++ once: what it makes of a status, and of vectors, arrays, spans, braces and empty ones.
 #include "expect.h"
 #include "pungwelair.hpp"
+#include <algorithm>
 #include <array>
+#include <limits>
+#include <set>
+#include <string>
+#include <string_view>
 #include <thread>
+#include <unordered_map>
+#include <unordered_set>
 #include <vector>
+#if __cplusplus >= 202002L
+#include <span>
+#endif
 
 using pungwelair::event_of;
 using pungwelair::Status;
@@ -18,8 +28,6 @@ constexpr pw_box inverted{{1, 0, 0}, {0, 0, 0}};
 
 pw_box cube(int32_t x) { return {{x, 0, 0}, {x + 10, 10, 10}}; }
 
-bool same(pw_handle a, pw_handle b) { return a.slot == b.slot && a.generation == b.generation; }
-
 void changes_and_frames(Structure structure) {
     World world(structure);
     std::vector<pw_handle> handles(3);
@@ -33,9 +41,9 @@ void changes_and_frames(Structure structure) {
     pw_pair pairs[4];
     std::array<pw_told, 4> events;
     EXPECT(frame && frame.pairs == 2 && frame.events == 2 && frame.changes == 2);
-    EXPECT(world.pairs(0, pairs).count == 2 && same(pairs[1].a, handles[2]) && same(pairs[1].b, *owned));
+    EXPECT(world.pairs(0, pairs).count == 2 && pairs[1].a == handles[2] && pairs[1].b == *owned);
     EXPECT(world.events(1, events).count == 1 && event_of(events[0]) == pungwelair::Event::begin);
-    EXPECT(world.changes(1, events).count == 1 && same(events[0].pair.b, *owned));
+    EXPECT(world.changes(1, events).count == 1 && events[0].pair.b == *owned);
 
     const pw_handle which[2] = {handles[1], *owned};
     EXPECT(world.move(handles[0], cube(100)) == Status::ok);
@@ -45,7 +53,7 @@ void changes_and_frames(Structure structure) {
     EXPECT(frame.pairs == 1 && frame.events == 2 && frame.changes == 1 && world.events(0, events).count == 2);
     EXPECT(event_of(events[0]) == pungwelair::Event::stay && event_of(events[1]) == pungwelair::Event::over);
     std::vector<pw_told> changes(frame.changes);
-    EXPECT(world.changes(0, changes).count == 1 && event_of(changes[0]) == pungwelair::Event::over && same(changes[0].pair.b, *owned));
+    EXPECT(world.changes(0, changes).count == 1 && event_of(changes[0]) == pungwelair::Event::over && changes[0].pair.b == *owned);
 
     EXPECT(world.remove(*owned) == Status::ok && world.remove(handles).done == 3);
     EXPECT(world.info() && world.info()->boxes == 0 && world.info()->frames == 2 && world.info()->structure == uint32_t(structure));
@@ -56,13 +64,13 @@ void questions(Structure structure) {
     std::vector<pw_handle> out(4);
     auto far = world.add(cube(50)), near = world.add(cube(0));
     EXPECT(far && near);
-    EXPECT(world.hits({PW_REGION, 1, cube(5).lo, cube(5).hi}, out).count == 1 && same(out[0], *near));
-    EXPECT(world.hits({PW_RAY, 1, {-5, 5, 5}, {2, 0, 0}}, out).count == 2 && same(out[0], *far));
-    EXPECT(world.ray_hits({1, {-5, 5, 5}, {2, 0, 0}}, out).count == 2 && same(out[0], *near));
-    EXPECT(world.cast_hits({1, cube(-20), {60, 0, 0}}, out).count == 2 && same(out[1], *far));
-    EXPECT(world.nearest({1, 1, {40, 5, 5}}, out).count == 1 && same(out[0], *far));
+    EXPECT(world.hits({PW_REGION, 1, cube(5).lo, cube(5).hi}, out).count == 1 && out[0] == *near);
+    EXPECT(world.hits({PW_RAY, 1, {-5, 5, 5}, {2, 0, 0}}, out).count == 2 && out[0] == *far);
+    EXPECT(world.ray_hits({1, {-5, 5, 5}, {2, 0, 0}}, out).count == 2 && out[0] == *near);
+    EXPECT(world.cast_hits({1, cube(-20), {60, 0, 0}}, out).count == 2 && out[1] == *far);
+    EXPECT(world.nearest({1, 1, {40, 5, 5}}, out).count == 1 && out[0] == *far);
     auto first = world.first_hit({1, {99, 5, 5}, {-1, 0, 0}});
-    EXPECT(first && same(*first, *far));
+    EXPECT(first && *first == *far);
     EXPECT(!world.first_hit({2, {99, 5, 5}, {-1, 0, 0}}));
 }
 
@@ -82,6 +90,163 @@ void marks_and_refusals() {
     EXPECT(world.changes(0, no_room).status == Status::ok && World().changes(0, no_room).status == Status::closed);
     EXPECT(world.open(Structure::tree) == Status::argument && world.close() == Status::ok && world.close() == Status::closed);
     EXPECT(!world.info() && world.open(Structure::tree) == Status::ok && world.info());
+}
+
+// A refusal keeps its reason, and the forms of std::optional say the same without it.
+void reasons() {
+    World world(Structure::tree);
+    auto kept = world.try_add(cube(0));
+    EXPECT(kept && kept.has_value() && kept.error() == Status::ok && kept->slot == 0 && (*kept == pw_handle{0, 0}));
+    auto refused = world.try_add(inverted);
+    EXPECT(!refused && !refused.has_value() && refused.error() == Status::inverted && refused.value_or(*kept) == *kept);
+    EXPECT(World().try_add(cube(0)).error() == Status::closed && world.try_add(cube(50), {{2, 0}, {7, 0}}).value_or(*kept).slot == 1);
+    EXPECT(world.try_get(*kept)->body == cube(0) && world.try_get(pungwelair::no_handle).error() == Status::stale);
+    EXPECT(world.try_info()->boxes == 2 && World().try_info().error() == Status::closed);
+
+    auto first = world.try_first_hit({1, {5, 5, -5}, {0, 0, 1}}), nothing = world.try_first_hit({1, {5, 50, -5}, {0, 0, 1}});
+    EXPECT(first && *first && **first == *kept && nothing && !*nothing);
+    EXPECT(World().try_first_hit({1, origin, origin}).error() == Status::closed && !World().first_hit({1, origin, origin}));
+
+    const std::array<double, 3> low{0, 0, 0}, high{1, 1, 1}, none{0, std::numeric_limits<double>::quiet_NaN(), 0}, far{0, 0, 40000};
+    EXPECT(pungwelair::try_box_around(low, high)->hi.z == 65536 && pungwelair::try_box_around(high, low).error() == Status::inverted);
+    EXPECT(pungwelair::try_box_around(none, high).error() == Status::not_a_number);
+    EXPECT(pungwelair::try_box_around(low, far).error() == Status::out_of_range);
+    EXPECT(*pungwelair::try_fix_below(0.1f) == 6553 && *pungwelair::try_fix_above(0.1f) == 6554);
+    EXPECT(*pungwelair::try_fix_below(0.1) == 6553 && *pungwelair::try_fix_above(0.1) == 6554);
+    EXPECT(pungwelair::try_fix_below(none[1]).error() == Status::not_a_number);
+    EXPECT(pungwelair::try_fix_above(1e9f).error() == Status::out_of_range && pungwelair::try_fix_above(1e9f).value_or(3) == 3);
+
+    std::optional<pw_handle> as_optional = world.try_add(cube(90)), without = world.try_add(inverted);
+    EXPECT(as_optional && as_optional->slot == 2 && !without);
+}
+
+// Status in words, each its own.
+void texts() {
+    std::set<std::string_view> words;
+    for (pw_status status = PW_OK; status <= PW_OUT_OF_RANGE; status++) words.insert(text_of(Status(status)));
+    EXPECT(words.size() == PW_OUT_OF_RANGE + 1 && words.count("no memory") == 1 && words.count("no status") == 0);
+    static_assert(std::string_view(text_of(Status::stale)) == "stale" && std::string_view(text_of(Status(99))) == "no status");
+}
+
+// A world with no throw says by itself whether it opened.
+void open_worlds() {
+    World world(Structure::grid), refused(Structure(99)), closed;
+    EXPECT(world.is_open() && world.status() == Status::ok && !refused.is_open() && refused.status() == Status::argument);
+    EXPECT(!closed.is_open() && closed.status() == Status::closed && refused.open(Structure::sap) == Status::ok && refused.is_open());
+    EXPECT(world.open(Structure::tree) == Status::argument && world.is_open());
+    World taken(std::move(world));
+    EXPECT(taken.is_open() && !world.is_open() && world.status() == Status::closed);
+    world = std::move(taken);
+    EXPECT(world.is_open() && !taken.is_open() && world.close() == Status::ok && !world.is_open());
+
+    // Calls of C go to the same world.
+    pw_world_info info;
+    EXPECT(refused.add(cube(0)) && pw_info(refused.native(), &info) == PW_OK && info.boxes == 1 && info.structure == PW_SAP);
+}
+
+// Handles, pairs and boxes are compared and hashed as values, by std's algorithms too.
+void values() {
+    const pw_handle low{1, 7}, later{1, 8}, high{2, 0};
+    EXPECT(low == pw_handle{low} && low != later && low < later && later < high && high > low);
+    EXPECT(low <= low && low >= low && low <= later && !(low >= later) && !(low < low) && !(low > low));
+    const pw_pair pair{low, high}, other{low, later};
+    EXPECT(pair == pw_pair{pair} && pair != other && other < pair && pair >= other && !(pair < pair));
+    EXPECT((pw_pair{low, {9, 0}} < pw_pair{later, high}));
+    EXPECT(cube(3) == cube(3) && cube(3) != cube(4) && cube(3).lo != cube(3).hi && cube(3).lo == pw_point(cube(3).lo));
+    for (const pw_point& point : {pw_point{1, 0, 0}, pw_point{0, 1, 0}, pw_point{0, 0, 1}})
+        EXPECT(point != origin && (pw_box{origin, point} != pw_box{origin, origin}) && (pw_box{point, point} != pw_box{origin, point}));
+    static_assert(pungwelair::no_handle == pungwelair::no_handle && pungwelair::no_handle > pw_handle{PW_SLOTS, 0});
+
+    std::vector<pw_handle> handles{high, later, low};
+    std::sort(handles.begin(), handles.end());
+    EXPECT(handles.front() == low && std::find(handles.begin(), handles.end(), high) == handles.end() - 1);
+    EXPECT(std::set<pw_pair>({pair, other, pair}).size() == 2 && std::optional(low) == low);
+    std::unordered_map<pw_handle, int> numbers{{low, 1}, {later, 2}, {high, 3}};
+    EXPECT(numbers.size() == 3 && numbers[later] == 2 && numbers.at(pw_handle{2, 0}) == 3);
+    std::unordered_set<pw_pair> pairs{pair, other, pair, {high, low}};
+    EXPECT(pairs.size() == 3 && pairs.count(other) == 1);
+    // Slots that follow each other and pairs of them spread over the buckets, by their low bits too.
+    std::set<std::size_t> low_bits, of_pairs;
+    for (uint32_t slot = 0; slot < 1000; slot++) {
+        low_bits.insert(std::hash<pw_handle>()({slot * 4096, 0}) % 1024);
+        of_pairs.insert(std::hash<pw_pair>()({{slot % 32, 0}, {slot / 32, 0}}));
+    }
+    EXPECT(low_bits.size() > 500 && of_pairs.size() == 1000);
+#if __cplusplus >= 202002L
+    std::ranges::sort(handles, std::ranges::greater());
+    EXPECT(handles.back() == low && std::ranges::find(handles, later) != handles.end());
+#endif
+}
+
+// What is taken wherever a vector is.
+void lists() {
+    World world(Structure::tree);
+    std::array<pw_handle, 4> out{};
+    EXPECT(world.add({cube(0), cube(5)}, pungwelair::seen_by_all, out).done == 2);
+    EXPECT(world.move({out[0], out[1]}, {cube(20), cube(25)}).done == 2 && world.get(out[1])->body == cube(25));
+    const pw_handle first = out[0];
+    EXPECT(world.remove({first, out[1]}).done == 2 && world.remove({first, out[1]}).status == Status::stale);
+    // One handle in braces is that handle, as before there were lists.
+    auto alone = world.add(cube(0));
+    Status removed = world.remove({*alone});
+    EXPECT(removed == Status::ok && world.info()->boxes == 0);
+    EXPECT(world.remove({out.data(), 1}).status == Status::stale && world.add({nullptr, 0}, pungwelair::seen_by_all, out));
+    const std::array<float, 3> low{0, 0, 0}, high{1, 2, 3};
+    EXPECT(pungwelair::box_around(low, high) == pungwelair::box_around(low.data(), high.data()) && !pungwelair::box_around(high, low));
+    auto box = pungwelair::box_around(std::array{0.0, 0.0, 0.0}, std::array{1.0, 2.0, 3.0});
+    EXPECT(box && (*box == pw_box{origin, {65536, 131072, 196608}}));
+#if __cplusplus >= 202002L
+    const std::vector boxes{cube(0), cube(5), cube(10)};
+    EXPECT(world.add(std::span(boxes), pungwelair::seen_by_all, std::span(out).first(3)).done == 3);
+    EXPECT(world.move(std::span<const pw_handle>(out).first(2), std::span<const pw_box, 2>(boxes.data(), 2)).done == 2);
+    std::array<pw_pair, 4> pairs{};
+    EXPECT(world.update().pairs == 3 && world.pairs(1, std::span(pairs)).count == 2 && pairs[1].b == out[2]);
+    EXPECT(world.hits({PW_REGION, 1, cube(0).lo, cube(0).hi}, std::span<pw_handle>()).count == 3);
+#endif
+}
+
+// Nothing throws, and says so.
+static_assert(noexcept(World(Structure::tree)) && noexcept(World().open(Structure::tree)) && noexcept(World().close()));
+static_assert(noexcept(World().is_open()) && noexcept(World().status()) && noexcept(World().native()));
+static_assert(noexcept(World().add(inverted)) && noexcept(World().try_add(inverted)) && noexcept(World().move({}, inverted)));
+static_assert(noexcept(World().add(std::declval<std::vector<pw_box>&>(), {}, std::declval<std::vector<pw_handle>&>())));
+static_assert(noexcept(World().move(std::declval<std::vector<pw_handle>&>(), std::declval<std::vector<pw_box>&>())));
+static_assert(noexcept(World().mask({}, {})));
+static_assert(noexcept(World().remove(pw_handle{})) && noexcept(World().remove({pw_handle{}, pw_handle{}})));
+static_assert(noexcept(World().get({})) && noexcept(World().try_get({})) && noexcept(World().info()) && noexcept(World().try_info()));
+static_assert(noexcept(World().update()) && noexcept(World().mark()) && noexcept(World().back()));
+static_assert(noexcept(World().pairs(0, std::declval<std::vector<pw_pair>&>())));
+static_assert(noexcept(World().events(0, std::declval<std::vector<pw_told>&>())));
+static_assert(noexcept(World().changes(0, std::declval<std::vector<pw_told>&>())));
+static_assert(noexcept(World().hits({}, std::declval<std::vector<pw_handle>&>())));
+static_assert(noexcept(World().ray_hits({}, std::declval<std::vector<pw_handle>&>())));
+static_assert(noexcept(World().cast_hits({}, std::declval<std::vector<pw_handle>&>())));
+static_assert(noexcept(World().nearest({}, std::declval<std::vector<pw_handle>&>())));
+static_assert(noexcept(World().first_hit({})) && noexcept(World().try_first_hit({})));
+static_assert(noexcept(event_of({})) && noexcept(text_of(Status::ok)));
+static_assert(noexcept(pungwelair::fix_below(1.0f)) && noexcept(pungwelair::fix_above(1.0)) && noexcept(pungwelair::try_fix_below(1.0)));
+static_assert(noexcept(pungwelair::box_around(std::array{0.0f, 0.0f, 0.0f}, std::array{0.0f, 0.0f, 0.0f})));
+static_assert(std::is_nothrow_move_constructible_v<World> && std::is_nothrow_move_assignable_v<World>);
+static_assert(!std::is_copy_constructible_v<World>);
+
+// A program that had operators of its own for the structs of C keeps them.
+namespace program {
+
+bool operator==(pw_handle a, pw_handle b) { return a.slot % 10 == b.slot % 10; }
+bool operator<(const pw_pair& a, const pw_pair& b) { return a.b.slot < b.b.slot; }
+
+void own_operators() {
+    EXPECT((pw_handle{3, 0} == pw_handle{13, 1}) && !(pw_handle{3, 0} == pw_handle{4, 0}));
+    EXPECT((pw_pair{{9, 0}, {1, 0}} < pw_pair{{0, 0}, {2, 0}}));
+}
+
+}  // namespace program
+
+void version() {
+    static_assert(PW_VERSION_MAJOR == 0 && PW_VERSION_MINOR >= 1 && PW_VERSION_PATCH >= 0);
+    std::string numbers = std::to_string(PW_VERSION_MAJOR);
+    for (int part : {PW_VERSION_MINOR, PW_VERSION_PATCH}) numbers += "." + std::to_string(part);
+    EXPECT(numbers == PW_VERSION);
 }
 
 void moved_worlds() {
@@ -126,6 +291,13 @@ int main() {
         questions(structure);
     }
     marks_and_refusals();
+    reasons();
+    texts();
+    open_worlds();
+    values();
+    lists();
+    program::own_operators();
+    version();
     moved_worlds();
     floats();
     several_threads();
