@@ -27,8 +27,9 @@
  *     its own, takes no lock and starts no thread;
  *   - malloc, realloc and free are those of one allocator, which aligns to 16, and no call comes from a signal handler.
  *
- * Link libpungwelair.a and pungwelair_heap.c (three functions over malloc, realloc and free). Costs are told for n live boxes
- * and k answers. */
+ * Link by `pkg-config --libs pungwelair` or CMake's `pungwelair::pungwelair` where bindings/install has put the library, and else
+ * libpungwelair.a and pungwelair_heap.c (three functions over malloc, realloc and free). Costs are told for n live boxes and k
+ * answers. */
 #ifndef PUNGWELAIR_H
 #define PUNGWELAIR_H
 
