@@ -28,10 +28,10 @@
 //!
 //! # The library
 //!
-//! What this crate calls is `libpungwelair.a`, and `libpungwelair_heap.a` beside it. `bindings/build` of Pungwelair's repository makes both
-//! and puts them into `bindings/out`, where the crate finds them if it stands in that repository. Elsewhere the variable `PUNGWELAIR_LIB`
-//! names the folder that has them, by an absolute path. Without them the crate is checked and documented all the same, and a linker asks
-//! in vain for `pungwelair_of_bindings_build_or_PUNGWELAIR_LIB`.
+//! What this crate calls is `libpungwelair.a`. `bindings/build` of Pungwelair's repository makes it and puts it into `bindings/out`, where
+//! the crate finds it if it stands in that repository. Elsewhere the variable `PUNGWELAIR_LIB` names the folder that has it, by an
+//! absolute path, as the `lib` of where `bindings/install` puts it. Without it the crate is checked and documented all the same, and a
+//! linker asks in vain for `pungwelair_of_bindings_build_or_PUNGWELAIR_LIB`.
 
 #![deny(missing_docs)]
 
