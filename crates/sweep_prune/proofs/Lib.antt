@@ -5,8 +5,8 @@ pub mod CoreLemmas
 pub mod EnterLemmas
 pub mod QuitLemmas
 pub mod RisingLemmas
+pub mod WayLemmas
 pub mod WalkLemmas
-pub mod HeldLemmas
 pub mod RekeyLemmas
 pub mod MoveLemmas
 pub mod NumberLemmas

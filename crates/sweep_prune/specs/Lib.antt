@@ -5,6 +5,7 @@ pub mod Core
 pub mod State
 pub mod CoreKeeps
 pub mod KeyNumbers
+pub mod Ways
 pub mod Walks
 pub mod HeldWalks
 pub mod Endpoints

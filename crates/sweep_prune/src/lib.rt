@@ -3,13 +3,15 @@
 #![tactic(auto)]
 
 mod axis;
+mod counted_lists;
+mod direction;
 mod key_number;
 mod laws;
 mod lists;
 mod moves;
-mod recount;
+mod passing;
 mod sap;
-mod steps;
+mod sweep;
 pub mod walk;
 
 pub use axis::Axis;

@@ -9,9 +9,9 @@ ghost use Rattle.sweep_prune.specs.Overlaps.{axes};
 ghost use Rattle.sweep_prune.specs.Places.{on, places};
 ghost use Rattle.sweep_prune.specs.declared.axis.Axis.{Axis};
 
+use crate::counted_lists::{Core, clear, enter, quit};
 use crate::lists::push_nodes;
 use crate::moves::{Keys, move_box, place_box};
-use crate::walk::{Core, clear, enter, quit};
 use crate::{Axis, overlap_laws};
 use broad_index::{BroadPhase, NoSeeker, Pair, PlainIndex, Query, member_laws};
 use endpoint_list::NODES;
