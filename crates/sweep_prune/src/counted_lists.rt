@@ -21,8 +21,8 @@ use std::marker::Model;
 
 /// Three lists of endpoints, the number of lists in which each two slots overlap, and the number of exchanges.
 ///
-/// Two slots overlap in a list where each one's minimum node stands before the other's maximum node. Nothing but the
-/// calls of this module changes a core, and the counts are those of the lists after each of them.
+/// Two slots overlap in a list where each one's minimum node stands before the other's maximum node. Nothing but exchanges,
+/// walks, and slots that come and go changes a core, and the counts are those of the lists after each of them.
 #[derive(Drop)]
 pub struct Core {
     pub(crate) lists: Lists,

@@ -14,8 +14,9 @@ ghost use Rattle.endpoint_list.specs.NodeList.{has};
 
 use crate::Axis;
 use crate::counted_lists::Core;
+use crate::direction::Direction;
 use crate::key_number::key_numbers;
-use crate::sweep::rekey;
+use crate::sweep::walk;
 use endpoint_list::NODES;
 use fixed_box::{FBox, NoMemory, SLOTS};
 
@@ -174,4 +175,33 @@ fn rekey_two(
 {
     rekey(core, axis, keys, first.0, first.1)?;
     rekey(core, axis, keys, second.0, second.1)
+}
+
+// A node gets another key and walks to its place. Its direction is a constant at each call, so that no step asks for it.
+pub(crate) fn rekey(
+    core: &mut Core,
+    axis: Axis,
+    keys: &mut [u64],
+    node: u32,
+    key: u64,
+) -> Result<(), NoMemory>
+    requires keys { length keys.old ≡ NODES }
+    requires node { node < NODES }
+    requires rising { Rising (λ n. slice_index keys.old n) (on axis core.old.lists) }
+    requires present { has node (on axis core.old.lists) ≡ true }
+    requires free { IsFreeKey (λ n. slice_index keys.old n) node key (on axis core.old.lists) }
+    requires countable { core.old.exchanged + length (on axis core.old.lists) < 2 ^ 64 - 1 }
+    ensures counted { OnOk result (core.old.exchanged ≤ core.new.exchanged) }
+    ensures keys { keys.new ≡ slice_set keys.old node key }
+    ensures rekeyed { OnOk result (Rekeyed (λ n. slice_index keys.old n) (λ n. slice_index (slice_set keys.old node key) n)
+        node (on axis core.old.lists) (on axis core.new.lists) (core.new.exchanged - core.old.exchanged)) }
+    ensures others { OnOk result (core.new.lists ≡ with_on axis (on axis core.new.lists) core.old.lists) }
+{
+    let down = key < keys[node as usize];
+    keys[node as usize] = key;
+    if down {
+        walk(core, axis, keys, node, Direction::Down)
+    } else {
+        walk(core, axis, keys, node, Direction::Up)
+    }
 }
