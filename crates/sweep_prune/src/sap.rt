@@ -13,7 +13,7 @@ use crate::counted_lists::{Core, clear, enter, quit};
 use crate::lists::push_nodes;
 use crate::moves::{Keys, move_box, place_box};
 use crate::{Axis, overlap_laws};
-use broad_index::{BroadPhase, NoSeeker, Pair, PlainIndex, Query, member_laws};
+use broad_index::{BroadPhase, NoSeeker, Pair, PlainIndex, Query};
 use endpoint_list::NODES;
 use fixed_box::{FBox, NoMemory};
 use std::alloc::Global;
@@ -167,7 +167,6 @@ impl BroadPhase for Sap {
         if self.spent {
             return Err(NoMemory);
         }
-        member_laws();
         overlap_laws();
         self.core.push_full(out)
     }
