@@ -4,7 +4,7 @@
  * them), whatever structure it keeps them in.
  *
  *     pw_world world = PW_WORLD_INIT;
- *     pw_open(&world, PW_TREE);
+ *     pw_open(&world, PW_TREE);                             // PW_GRID if most boxes move, PW_SKIN if by little in each tick
  *     pw_add(&world, boxes, n, &how, handles, n, &done);
  *     for (;;) {                                            // a tick
  *         pw_move(&world, moved, m, bodies, m, &done);      // what is elsewhere now
@@ -90,7 +90,7 @@ enum {
 /* How a world keeps its boxes. The answers are the same; the costs are not. */
 enum {
     PW_PLAIN = 0, /* tests every two: for a few hundred boxes */
-    PW_SAP = 1,   /* sweep and prune: if you want exchanges counted; slow by far if boxes go far or are added often */
+    PW_SAP = 1,   /* sweep and prune, for its count of exchanges: slow by far if boxes go far or are added often */
     PW_TREE = 2,  /* a dynamic tree of enlarged boxes that keeps its pairs: where few boxes move, or much is asked */
     PW_GRID = 3,  /* a hashed grid of levels: where most boxes move */
     PW_SKIN = 4   /* boxes in skins, a margin around each, over the tree, which hears only of those that leave it: where boxes move by
