@@ -265,9 +265,9 @@ leaf_alone slab keys inner d w l =
 pub others_built : {old : Slab NodeView} {ns inner : List ℕ} {at : ℕ} {front back li ri : List ℕ} (mid new last : Slab NodeView)
     → Halves old ns inner at front back li ri
     → ((k : ℕ) → uses li k ≡ 0 → get mid k ≡ get old k) → ((k : ℕ) → uses ri k ≡ 0 → get new k ≡ get mid k)
-    → ((k : ℕ) → (k ≡ at → ⊥) → get last k ≡ get new k) → (k : ℕ) → uses inner k ≡ 0 → get last k ≡ get old k
+    → ((k : ℕ) → one at k ≡ 0 → get last k ≡ get new k) → (k : ℕ) → uses inner k ≡ 0 → get last k ≡ get old k
 others_built {old} {ns} {inner} {at} {front} {back} {li} {ri} mid new last h first second third k none =
     let b = uses_parted at li ri k in
     let i : uses inner k ≡ uses (at ∷ (li ++ ri)) k = ap (λ xs. uses xs k) h.inner_is in
-    third k (λ e. let o : one k k ≡ 1 = one_same k in let m : one at k ≡ 1 = subst (λ x. one x k ≡ 1) e o in absurd (omega (arith, b, i, none, m)))
+    third k (omega (arith, b, i, none))
     ∙ (second k (omega (arith, b, i, none)) ∙ first k (omega (arith, b, i, none)))

@@ -42,9 +42,9 @@ pub ready_to_remove : (slab : Slab NodeView) (root node next : ℕ) (rest path :
     → path ≡ next ∷ rest → ToRemove slab root node next rest t
 ready_to_remove slab root node next rest path t is s leads e = record {
   kept = record { holds = s.holds; is_at = sym is };
-  balanced = s.balanced;
-  low = let l : height t ≤ 18 = low t s.balanced s.few in omega arith;
-  apart = s.apart;
+  balanced = s.is_tree.balanced;
+  low = let l : height t ≤ 18 = s.is_tree.low in omega arith;
+  apart = s.is_tree.apart;
   leads = subst (λ q. Leads t q node) e leads;
 }
 
@@ -55,21 +55,24 @@ pub rest_sound : (old cut mid new : Slab NodeView) (root node freed : ℕ) (t u 
 rest_sound old cut mid new root node freed t u s p same a la b lb =
     let e1 : one node node ≡ 1 = one_same node in
     let e2 : one freed freed ≡ 1 = one_same freed in
-    let f1 : count_of u node ≡ 0 = let w = p.counts_are node in let q = s.apart node in omega arith in
-    let f2 : count_of u freed ≡ 0 = let w = p.counts_are freed in let q = s.apart freed in omega arith in
+    let f1 : count_of u node ≡ 0 = let w = p.counts_are node in let q = s.is_tree.apart node in omega arith in
+    let f2 : count_of u freed ≡ 0 = let w = p.counts_are freed in let q = s.is_tree.apart freed in omega arith in
     let many : length (leaves t) ≡ suc (length (leaves u)) = length_permutation (p.leaf ∷ leaves u) (leaves t) p.leaves_are in
     let c = s.counted in
     let st = size_leaves t in
     let su = size_leaves u in
-    let few = s.few in
+    let few = s.is_tree.few in
     record {
       holds = frame mid new freed b.others u f2 (frame cut mid node a.others u f1 p.kept.holds);
-      apart = λ k. let w = p.counts_are k in let q = s.apart k in omega arith;
-      balanced = p.balanced;
-      few = omega arith;
       counted = omega arith;
-      slots = λ k. let w : sum_by (λ x. one x.slot k) (leaves t) ≡ one p.leaf.slot k + sum_by (λ x. one x.slot k) (leaves u) =
-          sum_by_pushed (λ (x : LeafOf). one x.slot k) p.leaf (leaves u) (leaves t) p.leaves_are in let q = s.slots k in omega arith;
+      is_tree = record {
+        apart = λ k. let w = p.counts_are k in let q = s.is_tree.apart k in omega arith;
+        slots = λ k. let w : sum_by (λ x. one x.slot k) (leaves t) ≡ one p.leaf.slot k + sum_by (λ x. one x.slot k) (leaves u) =
+            sum_by_pushed (λ (x : LeafOf). one x.slot k) p.leaf (leaves u) (leaves t) p.leaves_are in let q = s.is_tree.slots k in omega arith;
+        balanced = p.balanced;
+        few = omega arith;
+        low = low u p.balanced (omega arith);
+      };
     }
 
 -- both nodes that go are held
@@ -80,7 +83,7 @@ both_held old cut root node freed t u s p =
     let e2 : one freed freed ≡ 1 = one_same freed in (
       held old t node s.holds (let w = p.counts_are node in omega arith),
       held old t freed s.holds (let w = p.counts_are freed in omega arith),
-      λ e. let w = p.counts_are node in let q = s.apart node in let o : one freed node ≡ 1 = subst (λ k. one freed k ≡ 1) e e2 in absurd (omega arith),
+      λ e. let w = p.counts_are node in let q = s.is_tree.apart node in let o : one freed node ≡ 1 = subst (λ k. one freed k ≡ 1) e e2 in absurd (omega arith),
     )
 
 pub still : (mid new : Slab NodeView) (node freed : ℕ) → IsSome (get mid freed) → Updates mid new node None → freed ≢ node → IsSome (get new freed)

@@ -16,8 +16,9 @@ use Rattle.tree_nodes.specs.Stored.{Holds, Sound}
 use Rattle.tree_nodes.specs.Tree.{Tree, tip, fork, height, leaves, count_of, one, Leaf as LeafOf}
 use Rattle.tree_nodes.proofs.BuiltTrees.{many, uses_cons, uses_append, uses_parted}
 use Rattle.tree_nodes.proofs.Halving.{least_of_all}
-use Rattle.tree_nodes.proofs.Inserting.{one_cases, size_leaves}
-use Rattle.tree_nodes.proofs.Heights.{some_leaf}
+use Rattle.tree_nodes.proofs.Frames.{one_cases}
+use Rattle.tree_nodes.proofs.Inserting.{size_leaves}
+use Rattle.tree_nodes.proofs.Heights.{low, some_leaf}
 
 abbrev pub leaf_numbers : Tree → List ℕ
 leaf_numbers t = map (λ (x : LeafOf). x.node) (leaves t)
@@ -111,12 +112,12 @@ pub ready_to_build : (slab : Slab NodeView) (t : Tree) (ns inner : List ℕ) →
 ready_to_build slab t ns inner s e p =
     let l : length (leaf_numbers t) ≡ length (leaves t) = length-map (leaves t) (λ (x : LeafOf). x.node) in
     let i : length inner ≡ length (inner_numbers t) = length_permutation (inner_numbers t) inner p in
-    let few = s.few in
+    let few = s.is_tree.few in
     let c = inner_count t in
     subst (λ xs. ToBuild slab xs inner) (sym e) (record {
       leaves_there = λ n u. leaves_shown slab t n s.holds u;
       room = λ n u. inner_there slab t n s.holds (subst (λ m. 1 ≤ m) (same_uses t inner p n) u);
-      apart = λ k. let a = parts_counted t k in let b = s.apart k in let g = same_uses t inner p k in omega (arith, a, b, g);
+      apart = λ k. let a = parts_counted t k in let b = s.is_tree.apart k in let g = same_uses t inner p k in omega (arith, a, b, g);
       count = omega (arith, l, c, i);
       few = omega (arith, l, few);
     })
@@ -141,24 +142,27 @@ pub built_sound : (old new : Slab NodeView) (at : ℕ) (ns inner : List ℕ) (t 
 built_sound old new at ns inner t u s e i b len =
     let p = same_leaves old new at ns inner t u s e b in
     let many : length (leaves u) ≡ length (leaves t) = length_permutation (leaves t) (leaves u) p in
-    let few = s.few in
+    let few = s.is_tree.few in
     record {
       holds = b.kept.holds;
       counted = let c = s.counted in let x = size_leaves t in let y = size_leaves u in omega (arith, c, x, y, many, len);
-      apart = λ k.
-          let a = parts_counted t k in
-          let c = b.counts_are k in
-          let d = s.apart k in
-          let f : uses ns k ≡ uses (leaf_numbers t) k = ap (λ xs. uses xs k) e in
-          let g = same_uses t inner i k in
-          omega (arith, a, c, d, f, g);
-      slots = λ k.
-          let a : sum_by (λ x. one x.slot k) (leaves u) ≡ sum_by (λ x. one x.slot k) (leaves t) =
-          sum_by-IsPermutation (λ (x : LeafOf). one x.slot k) (leaves t) (leaves u) p in
-          let d = s.slots k in
-          omega (arith, a, d);
-      balanced = b.balanced;
-      few = omega (arith, many, few);
+      is_tree = record {
+        apart = λ k.
+            let a = parts_counted t k in
+            let c = b.counts_are k in
+            let d = s.is_tree.apart k in
+            let f : uses ns k ≡ uses (leaf_numbers t) k = ap (λ xs. uses xs k) e in
+            let g = same_uses t inner i k in
+            omega (arith, a, c, d, f, g);
+        slots = λ k.
+            let a : sum_by (λ x. one x.slot k) (leaves u) ≡ sum_by (λ x. one x.slot k) (leaves t) =
+            sum_by-IsPermutation (λ (x : LeafOf). one x.slot k) (leaves t) (leaves u) p in
+            let d = s.is_tree.slots k in
+            omega (arith, a, d);
+        balanced = b.balanced;
+        few = omega (arith, many, few);
+        low = low u b.balanced (omega (arith, many, few));
+      };
     }
 
 -- no lower tree has room for the leaves

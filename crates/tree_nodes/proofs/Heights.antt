@@ -60,15 +60,13 @@ low t h few = ⊎_elim
 pub under_root : (slab : Slab NodeView) (n : ℕ) (t : Option Tree) → SoundIn slab (Some n) t → (u : Tree) × (t ≡ Some u) × (n ≡ top u) × Sound slab u ×
     (height u ≤ 18)
 under_root slab n None h = absurd h
-under_root slab n (Some t) h = (t, refl, h.0, h.1, low t h.1.balanced h.1.few)
+under_root slab n (Some t) h = (t, refl, h.0, h.1, h.1.is_tree.low)
 
 -- what a slab keeps under a root is a tree
 pub is_tree_in : (slab : Slab NodeView) (root : Option ℕ) (o : Option Tree) → SoundIn slab root o → IsTreeIn o
 is_tree_in slab root None s = tt
 is_tree_in slab None (Some t) s = absurd s.0
-is_tree_in slab (Some n) (Some t) s =
-    let kept = s.1 in
-    record { apart = kept.apart; slots = kept.slots; balanced = kept.balanced; few = kept.few; low = low t kept.balanced kept.few }
+is_tree_in slab (Some n) (Some t) s = s.1.is_tree
 
 pub seen_tree : (slab : Slab NodeView) (root : Option ℕ) (o p : Option Tree) → SoundIn slab root o → o ≡ p → IsTreeIn p
 seen_tree slab root o p s e = subst IsTreeIn e (is_tree_in slab root o s)

@@ -1,8 +1,7 @@
 -- A leaf goes into a slab and its tree.
-use Rattle.std.proofs.Common.{◌≡◌, ◌≢◌, ℕ, zero, suc, ◌+◌, ◌*◌, ◌/◌, ◌<◌, ◌≤◌, max, true, false, cond, eqb, Option, None, Some, IsSome, List, [], ◌∷◌, length}
-use Rattle.std.proofs.Common.{length-append, refl, sym, ap, ◌∙◌, subst, arith, inl, inr, ⊎_elim, ◌⊎◌, All}
+use Rattle.std.proofs.Common.{◌≡◌, ◌≢◌, ℕ, zero, suc, ◌+◌, ◌*◌, ◌/◌, ◌<◌, ◌≤◌, max, Option, None, Some, IsSome, List, [], ◌∷◌, length}
+use Rattle.std.proofs.Common.{length-append, refl, sym, ap, ◌∙◌, subst, arith, ⊎_elim, All}
 use Rattle.std.specs.List.{sum_by}
-use Rattle.std.proofs.lemmas.Bool.Decides.{nat_tests}
 use Rattle.std.proofs.lemmas.List.Sorted.{length_permutation, sum_by_pushed}
 use Rattle.std.proofs.lemmas.List.Sums.{sum_by-cons}
 use Rattle.slab.specs.Slab.{Slab, get, slab_len, Updates}
@@ -13,13 +12,8 @@ use Rattle.tree_nodes.specs.declared.node_view.NodeView.TheVariants.{Leaf}
 use Rattle.tree_nodes.specs.Insertion.{ToInsert, Inserted}
 use Rattle.tree_nodes.specs.Stored.{size, Holds, tree_at, tree_of, tree_under, below_node, inner_of, Sound, SoundIn}
 use Rattle.tree_nodes.specs.Tree.{Tree, tip, fork, top, count_of, one, height, Balanced, leaves, leaves_in, Leaf as LeafOf}
-use Rattle.tree_nodes.proofs.Frames.{one_same, frame}
+use Rattle.tree_nodes.proofs.Frames.{one_same, one_cases, frame}
 use Rattle.tree_nodes.proofs.Heights.{low}
-
-pub one_cases : (n k : ℕ) → (n ≡ k) ⊎ (one n k ≡ 0)
-one_cases n k =
-    elim (eqb n k) as (λ b. eqb n k ≡ b → (n ≡ k) ⊎ (◌≡◌ {A = ℕ} (cond b 1 0) 0))
-    [ true ↦ λ e. inl (let s : n ≡ k = grind (arith, nat_tests) in s) | false ↦ λ e. inr refl ] refl
 
 pub one_other : (n k : ℕ) → n ≢ k → one n k ≡ 0
 one_other n k ne = ⊎_elim (λ e. absurd (ne e)) (λ e. e) (one_cases n k)
@@ -50,7 +44,7 @@ tree_found (suc fuel) slab (fork n hu k l r) h bal lt =
 
 pub kept_tree : (slab : Slab NodeView) (n : ℕ) (t : Tree) → n ≡ top t → Sound slab t → tree_of slab (Some n) ≡ Some t
 unfolding tree_under
-kept_tree slab n t e s = ap (tree_at 19 slab) e ∙ tree_found 19 slab t s.holds s.balanced (let l : height t ≤ 18 = low t s.balanced s.few in omega arith)
+kept_tree slab n t e s = ap (tree_at 19 slab) e ∙ tree_found 19 slab t s.holds s.is_tree.balanced (let l : height t ≤ 18 = s.is_tree.low in omega arith)
 
 pub kept_sound : (slab : Slab NodeView) (n : ℕ) (t : Tree) → n ≡ top t → Sound slab t → SoundIn slab (Some n) (tree_of slab (Some n))
 kept_sound slab n t e s = subst (SoundIn slab (Some n)) (sym (kept_tree slab n t e s)) (e, s)
@@ -67,11 +61,14 @@ pub first_sound : (old new : Slab NodeView) (leaf slot : ℕ) (fat : Bounds) →
     → slab_len new ≡ slab_len old + 1 → Sound new (tip leaf slot fat)
 first_sound old new leaf slot fat none u len = record {
   holds = u.changed;
-  apart = λ k. ⊎_elim (λ e. let o : one leaf k ≡ 1 = subst (λ x. one leaf x ≡ 1) e (one_same leaf) in omega arith) (λ e. omega arith) (one_cases leaf k);
-  balanced = tt;
-  few = omega arith;
   counted = omega arith;
-  slots = λ k. ⊎_elim (λ e. let o : one slot k ≡ 1 = subst (λ x. one slot x ≡ 1) e (one_same slot) in omega arith) (λ e. omega arith) (one_cases slot k);
+  is_tree = record {
+    apart = λ k. ⊎_elim (λ e. let o : one leaf k ≡ 1 = subst (λ x. one leaf x ≡ 1) e (one_same leaf) in omega arith) (λ e. omega arith) (one_cases leaf k);
+    slots = λ k. ⊎_elim (λ e. let o : one slot k ≡ 1 = subst (λ x. one slot x ≡ 1) e (one_same slot) in omega arith) (λ e. omega arith) (one_cases slot k);
+    balanced = tt;
+    few = omega arith;
+    low = low (tip leaf slot fat) tt (omega arith);
+  };
 }
 
 pub ready_to_insert : (old mid new : Slab NodeView) (at leaf new_parent slot : ℕ) (fat : Bounds) (v : NodeView) (t : Tree) → Sound old t → top t ≡ at
@@ -83,10 +80,10 @@ ready_to_insert old mid new at leaf new_parent slot fat v t s is none u gone w =
     let f2 : count_of t new_parent ≡ 0 = fresh mid t new_parent h1 gone in
     let c = u.changed in
     let ne : leaf ≢ new_parent = λ e. let g : get mid leaf ≡ None = ap (get mid) e ∙ gone in cc in
-    let l : height t ≤ 18 = low t s.balanced s.few in
+    let l : height t ≤ 18 = s.is_tree.low in
     record {
       kept = record { holds = frame mid new new_parent w.others t f2 h1; is_at = is };
-      balanced = s.balanced;
+      balanced = s.is_tree.balanced;
       low = omega arith;
       leaf_there = w.others leaf ne ∙ u.changed;
       room = subst IsSome (sym w.changed) refl;
@@ -96,7 +93,7 @@ ready_to_insert old mid new at leaf new_parent slot fat v t s is none u gone w =
           let o : one leaf k ≡ 1 = subst (λ x. one leaf x ≡ 1) e (one_same leaf) in omega arith)
           (λ z. ⊎_elim (λ e. let a : count_of t k ≡ 0 = subst (λ x. count_of t x ≡ 0) e f2 in let o : one new_parent k ≡ 1 =
           subst (λ x. one new_parent x ≡ 1) e (one_same new_parent) in omega arith)
-          (λ y. let a = s.apart k in omega arith) (one_cases new_parent k)) (one_cases leaf k);
+          (λ y. let a = s.is_tree.apart k in omega arith) (one_cases new_parent k)) (one_cases leaf k);
     }
 
 pub inserted_sound : (old ready new : Slab NodeView) (at leaf new_parent result slot : ℕ) (fat : Bounds) (t u : Tree) → Sound old t
@@ -111,18 +108,21 @@ inserted_sound old ready new at leaf new_parent result slot fat t u s few absent
     let b = size_leaves u in
     record {
       holds = g.kept.holds;
-      apart = λ k. let w = g.counts_are k in let p = r.apart k in omega arith;
-      balanced = g.good.balanced;
-      few = omega arith;
       counted = omega arith;
-      slots = λ k.
-          let sums : sum_by (λ x. one x.slot k) (leaves u) ≡ one slot k + sum_by (λ x. one x.slot k) (leaves t) =
-          sum_by_pushed (λ (x : LeafOf). one x.slot k) (record { node = leaf; slot = slot; fat = fat }) (leaves t) (leaves u) g.leaves_are in
-          let before = s.slots k in
-          ⊎_elim (λ e. let z : sum_by (λ x. one x.slot k) (leaves t) ≡ 0 =
-          subst (λ y. sum_by (λ x. one x.slot y) (leaves t) ≡ 0) e (none_of (leaves t) slot absent) in let o : one slot k ≡ 1 =
-          subst (λ x. one slot x ≡ 1) e (one_same slot) in omega arith)
-          (λ z. omega arith) (one_cases slot k);
+      is_tree = record {
+        apart = λ k. let w = g.counts_are k in let p = r.apart k in omega arith;
+        slots = λ k.
+            let sums : sum_by (λ x. one x.slot k) (leaves u) ≡ one slot k + sum_by (λ x. one x.slot k) (leaves t) =
+            sum_by_pushed (λ (x : LeafOf). one x.slot k) (record { node = leaf; slot = slot; fat = fat }) (leaves t) (leaves u) g.leaves_are in
+            let before = s.is_tree.slots k in
+            ⊎_elim (λ e. let z : sum_by (λ x. one x.slot k) (leaves t) ≡ 0 =
+            subst (λ y. sum_by (λ x. one x.slot y) (leaves t) ≡ 0) e (none_of (leaves t) slot absent) in let o : one slot k ≡ 1 =
+            subst (λ x. one slot x ≡ 1) e (one_same slot) in omega arith)
+            (λ z. omega arith) (one_cases slot k);
+        balanced = g.good.balanced;
+        few = omega arith;
+        low = low u g.good.balanced (omega arith);
+      };
     }
 
 pub halved : (nodes n : ℕ) → 2 * n ≤ nodes + 1 → nodes ≤ 2 * n → (nodes + 1) / 2 ≡ n
@@ -137,7 +137,7 @@ leaves_counted slab (Some n) None s = absurd s
 leaves_counted slab (Some n) (Some t) s =
     let e = s.1.counted in
     let z = size_leaves t in
-    (omega arith, omega arith, s.1.few)
+    (omega arith, omega arith, s.1.is_tree.few)
 
 -- a sound slab has room for inner_of more nodes below 8,192 leaves
 pub room_two : (slab : Slab NodeView) (root : Option ℕ) (t : Option Tree) → SoundIn slab root t → length (leaves_in t) < 8192 → slab_len slab + 2 ≤ 16383

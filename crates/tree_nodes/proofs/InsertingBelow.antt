@@ -1,5 +1,5 @@
 -- Steps of an insertion down a tree and up again.
-use Rattle.std.proofs.Common.{◌≡◌, ◌≢◌, ◌⊎◌, ℕ, ◌+◌, ◌<◌, ◌≤◌, max, Some, IsSome, [], ◌∷◌, ◌++◌, refl, sym, ap, ◌∙◌, subst}
+use Rattle.std.proofs.Common.{◌≡◌, ◌⊎◌, ℕ, ◌+◌, ◌<◌, ◌≤◌, max, Some, IsSome, [], ◌∷◌, ◌++◌, refl, sym, ap, ◌∙◌, subst}
 use Rattle.std.proofs.Common.{arith, ⊎_elim}
 use Rattle.std.proofs.lemmas.Bool.{cases_lt}
 use Rattle.std.specs.List.Sorted.{IsPermutation}
@@ -12,12 +12,12 @@ use Rattle.tree_nodes.specs.declared.node_view.NodeView.TheVariants.{Leaf, Inner
 use Rattle.tree_nodes.specs.Parts.{Opened, SameLeaves, height_shown}
 use Rattle.tree_nodes.specs.Insertion.{ToInsert, Inserted, IsSame, Alike}
 use Rattle.tree_nodes.specs.Moved.{refitted}
-use Rattle.tree_nodes.specs.Rotation.{Children, ToRebalance, rebalanced, BalancedNear, ToAdjust}
+use Rattle.tree_nodes.specs.Rotation.{Children, FitsByte, ToRebalance, rebalanced, BalancedNear, ToAdjust}
 use Rattle.tree_nodes.specs.Stored.{Holds, StandsAt}
 use Rattle.tree_nodes.specs.Tree.{Tree, tip, fork, top, bounds, count_of, one, height, Balanced, IsRefitted, leaves, Leaf as LeafOf}
 use Rattle.tree_nodes.proofs.Balance.{refitted_balanced, rebalanced_balanced}
-use Rattle.tree_nodes.proofs.Frames.{one_same}
-use Rattle.tree_nodes.proofs.Opened.{top_counted, height_in_slab}
+use Rattle.tree_nodes.proofs.Frames.{top_free}
+use Rattle.tree_nodes.proofs.Opened.{height_in_slab}
 use Rattle.tree_nodes.proofs.Rebalanced.{rebalanced_counts, rebalanced_leaves, rebalanced_unrotated}
 
 -- one child grew by at most one
@@ -89,8 +89,8 @@ step_rebalance old new at down stay below leaf new_parent slot fat t d s u p o g
     let most = g.good.most in
     let low = p.low in
     let e = o.height_is in
-    let du : height u ≤ 31 = grind (arith) in
-    let ds : height s ≤ 31 = grind (arith) in
+    let du : FitsByte (height u) 2 = grind (arith) in
+    let ds : FitsByte (height s) 2 = grind (arith) in
     record {
       parts = record {
         room = here;
@@ -143,19 +143,6 @@ step_adjust new old at down stay below leaf new_parent slot fat t d s u o g n =
     let f = o.stay_low in
     record { near = n; left_low = omega arith; right_low = omega arith }
 
--- a tree that shares no number with this one and what goes into it
-pub elsewhere : (old new : Slab NodeView) (at down stay below leaf new_parent slot : ℕ) (fat : Bounds) (t d s u v : Tree) → Opened old at down stay t d s
-    → Inserted new below leaf new_parent slot fat d u → ((k : ℕ) → (count_of t k + (one leaf k + one new_parent k)) + count_of v k ≤ 1)
-    → ((k : ℕ) → (count_of d k + (one leaf k + one new_parent k)) + count_of v k ≤ 1) × (count_of v at ≡ 0) × (count_of v below ≡ 0) × (count_of v stay ≡ 0)
-elsewhere old new at down stay below leaf new_parent slot fat t d s u v o g free = (
-  λ k. let f = free k in let e = o.counts_are k in omega arith,
-  (let f = free at in let e = o.counts_are at in let one : one at at ≡ 1 = one_same at in omega arith),
-  (let f = free below in let e = o.counts_are below in let w = g.counts_are below in let t : 1 ≤ count_of u below =
-      subst (λ k. 1 ≤ count_of u k) g.kept.is_at (top_counted u) in omega arith),
-  (let f = free stay in let e = o.counts_are stay in let t : 1 ≤ count_of s stay = subst (λ k. 1 ≤ count_of s k) o.stay_kept.is_at (top_counted s) in
-      omega arith),
-)
-
 pub below_low : (slab : Slab NodeView) (at down stay : ℕ) (t d s : Tree) → StandsAt slab at t → Opened slab at down stay t d s
     → height_shown (get slab down) < height_shown (get slab at)
 below_low slab at down stay t d s p o =
@@ -176,15 +163,13 @@ alike_of at k hu t d s w e i =
 -- a number that neither the tree nor what goes into it has
 pub untouched : (old new : Slab NodeView) (at down stay below leaf new_parent slot : ℕ) (fat : Bounds) (t d s u : Tree) → Opened old at down stay t d s
     → Inserted new below leaf new_parent slot fat d u → (k : ℕ) → count_of t k + (one leaf k + one new_parent k) ≡ 0
-    → (count_of d k + (one leaf k + one new_parent k) ≡ 0) × (k ≢ at) × (k ≢ below) × (k ≢ stay)
+    → (count_of d k + (one leaf k + one new_parent k) ≡ 0) × (one at k + (one below k + one stay k) ≡ 0)
 untouched old new at down stay below leaf new_parent slot fat t d s u o g k none =
     let e = o.counts_are k in
-    let w = g.counts_are k in (
-      omega arith,
-      (λ same. let one_at : one at k ≡ 1 = subst (λ x. one at x ≡ 1) (sym same) (one_same at) in omega arith),
-      (λ same. let top_there : 1 ≤ count_of u k = subst (λ x. 1 ≤ count_of u x) (g.kept.is_at ∙ sym same) (top_counted u) in omega arith),
-      (λ same. let top_there : 1 ≤ count_of s k = subst (λ x. 1 ≤ count_of s x) (o.stay_kept.is_at ∙ sym same) (top_counted s) in omega arith),
-    )
+    let w = g.counts_are k in
+    let b : one below k ≡ 0 = subst (λ n. one n k ≡ 0) g.kept.is_at (top_free u k (omega arith)) in
+    let c : one stay k ≡ 0 = subst (λ n. one n k ≡ 0) o.stay_kept.is_at (top_free s k (omega arith)) in
+    (omega arith, omega arith)
 
 -- The child that the leaf went into has the number, the bounds and the height that it had, so the node stays as it is.
 refitted_alike : (hu : Bounds) (k : ℕ) (d s u : Tree) → IsRefitted hu k d s → Alike d u → IsRefitted hu k u s

@@ -1,5 +1,5 @@
 -- Steps of a move down a tree and up again.
-use Rattle.std.proofs.Common.{◌≡◌, ◌≢◌, ℕ, ◌+◌, ◌≤◌, max, Option, None, Some, IsSome, List, ◌∷◌, map, option_map, refl, sym, ap, ◌∙◌}
+use Rattle.std.proofs.Common.{◌≡◌, ℕ, ◌+◌, ◌≤◌, max, Option, None, Some, IsSome, List, ◌∷◌, map, option_map, refl, sym, ap, ◌∙◌}
 use Rattle.std.proofs.Common.{subst, arith, inl, inr, ⊎_elim, ◌⊎◌}
 use Rattle.std.specs.List.{sum_by}
 use Rattle.slab.specs.Slab.{Slab, get, slab_len}
@@ -8,14 +8,14 @@ use Rattle.tree_nodes.specs.declared.node_view.NodeView.{NodeView}
 use Rattle.tree_nodes.specs.declared.node_view.NodeView.TheVariants.{Inner}
 use Rattle.tree_nodes.specs.Moved.{with_fat, leaf_moved, refitted}
 use Rattle.tree_nodes.specs.Path.{Leads, ToMove}
-use Rattle.tree_nodes.specs.Rotation.{Children}
-use Rattle.tree_nodes.specs.Stored.{Holds, Sound, SoundIn, StandsAt}
+use Rattle.tree_nodes.specs.Rotation.{Children, FitsByte}
+use Rattle.tree_nodes.specs.Stored.{Holds, Sound, SoundIn, StandsAt, Writes}
 use Rattle.tree_nodes.specs.Tree.{Tree, fork, top, bounds, height, count_of, one, Balanced, leaves, leaves_in, height_in}
 use Rattle.tree_nodes.proofs.Detaching.{end_counted}
-use Rattle.tree_nodes.proofs.Frames.{one_same, one_apart, frame}
+use Rattle.tree_nodes.proofs.Frames.{one_same, top_free, apart_held, writes_fewer}
+use Rattle.tree_nodes.proofs.Heights.{low}
 use Rattle.tree_nodes.proofs.Inserting.{size_leaves}
 use Rattle.tree_nodes.proofs.MovedTrees.{moved_top, moved_counts, moved_size, moved_height, moved_balanced, moved_slots, unmoved, moved_leaves}
-use Rattle.tree_nodes.proofs.Opened.{top_counted}
 use Rattle.tree_nodes.proofs.Rotations.{children}
 
 -- one step of a path
@@ -27,8 +27,8 @@ pub record OneStep (slab : Slab NodeView) (at left right next k : ℕ) (hu : Bou
   pub right_kept : StandsAt slab right g
   pub left_balanced : Balanced f
   pub right_balanced : Balanced g
-  pub left_low : height f ≤ 60
-  pub right_low : height g ≤ 60
+  pub left_low : FitsByte (height f) 2
+  pub right_low : FitsByte (height g) 2
   pub apart : (x : ℕ) → one at x + (count_of f x + count_of g x) ≤ 1
   pub on : ToMove slab next node rest f ⊎ ToMove slab next node rest g
 
@@ -39,10 +39,10 @@ down slab at left right next k hu node path rest t w e p =
     let f = c.0 in
     let g = c.1 in
     let b : Balanced (fork at hu k f g) = subst Balanced c.2 w.balanced in
-    let low : k ≤ 60 = subst (λ t. height t ≤ 60) c.2 w.low in
+    let low : FitsByte k 2 = subst (λ t. FitsByte (height t) 2) c.2 w.low in
     let hi : k ≡ 1 + max (height f) (height g) = b.0.height_is in
-    let fl : height f ≤ 60 = grind (arith) in
-    let gl : height g ≤ 60 = grind (arith) in
+    let fl : FitsByte (height f) 2 = grind (arith) in
+    let gl : FitsByte (height g) 2 = grind (arith) in
     let apart : (x : ℕ) → one at x + (count_of f x + count_of g x) ≤ 1 = subst (λ t. (x : ℕ) → count_of t x ≤ 1) c.2 w.apart in
     let leads : ((top f ≡ next) × Leads f rest node) ⊎ ((top g ≡ next) × Leads g rest node) =
     subst (λ q. Leads (fork at hu k f g) q node) p (subst (λ t. Leads t path node) c.2 w.leads) in
@@ -76,9 +76,9 @@ down slab at left right next k hu node path rest t w e p =
 
 pub children_moved : (old new : Slab NodeView) (at left right next k : ℕ) (hu : Bounds) (node : ℕ) (rest : List ℕ) (t : Tree) (fat : Bounds)
     → ((m : ℕ) (u : Tree) → ToMove old next m rest u → StandsAt new next (with_fat m fat u))
-    → ((m : ℕ) (u v : Tree) → ToMove old next m rest u → ((x : ℕ) → count_of u x + count_of v x ≤ 1) → Holds old v → Holds new v)
-    → IsSome (get new at) → (d : OneStep old at left right next k hu node rest t) → Children new at left right (with_fat node fat d.f) (with_fat node fat d.g)
-children_moved old new at left right next k hu node rest t fat there kept some d =
+    → ((m : ℕ) (u : Tree) → ToMove old next m rest u → Writes old new (λ x. count_of u x)) → IsSome (get old at)
+    → (d : OneStep old at left right next k hu node rest t) → Children new at left right (with_fat node fat d.f) (with_fat node fat d.g)
+children_moved old new at left right next k hu node rest t fat there writes some d =
     let apart : (x : ℕ) → one at x + (count_of (with_fat node fat d.f) x + count_of (with_fat node fat d.g) x) ≤ 1 = λ x. let a = d.apart x in let p =
     moved_counts node fat d.f x in let q = moved_counts node fat d.g x in omega arith in
     let hf = moved_height node fat d.f d.left_balanced in
@@ -90,10 +90,10 @@ children_moved old new at left right next k hu node rest t fat there kept some d
     let used = end_counted d.f rest node on.leads in
     let z : count_of d.g node ≡ 0 = let a = d.apart node in omega arith in
     record {
-      room = some;
+      room = (writes node d.f on).kept.here at some;
       left_kept = record { holds = (there node d.f on).holds; is_at = moved_top node fat d.f ∙ d.left_kept.is_at };
       right_kept = subst (StandsAt new right) (sym (unmoved node fat d.g d.right_balanced z))
-          (record { holds = kept node d.f d.g on (λ x. let a = d.apart x in omega arith) d.right_kept.holds; is_at = d.right_kept.is_at });
+          (record { holds = apart_held old new (λ x. count_of d.f x) (writes node d.f on) d.g (λ x. let a = d.apart x in omega arith) d.right_kept.holds; is_at = d.right_kept.is_at });
       apart = apart;
       left_small = omega arith;
       right_small = omega arith;
@@ -102,9 +102,9 @@ children_moved old new at left right next k hu node rest t fat there kept some d
     let used = end_counted d.g rest node on.leads in
     let z : count_of d.f node ≡ 0 = let a = d.apart node in omega arith in
     record {
-      room = some;
+      room = (writes node d.g on).kept.here at some;
       left_kept = subst (StandsAt new left) (sym (unmoved node fat d.f d.left_balanced z))
-          (record { holds = kept node d.g d.f on (λ x. let a = d.apart x in omega arith) d.left_kept.holds; is_at = d.left_kept.is_at });
+          (record { holds = apart_held old new (λ x. count_of d.g x) (writes node d.g on) d.f (λ x. let a = d.apart x in omega arith) d.left_kept.holds; is_at = d.left_kept.is_at });
       right_kept = record { holds = (there node d.g on).holds; is_at = moved_top node fat d.g ∙ d.right_kept.is_at };
       apart = apart;
       left_small = omega arith;
@@ -142,16 +142,16 @@ bounds_stay old at left right next k hu node rest t fat same bal d =
 
 pub node_stays : (old new : Slab NodeView) (at left right next k : ℕ) (hu : Bounds) (node : ℕ) (rest : List ℕ) (t : Tree) (fat : Bounds)
     → ((m : ℕ) (u : Tree) → ToMove old next m rest u → bounds (with_fat m fat u) ≡ bounds u)
-    → ((m j : ℕ) (u : Tree) → ToMove old next m rest u → count_of u j ≡ 0 → get new j ≡ get old j) → get old at ≡ Some (Inner left right hu k) → Balanced t
+    → ((m : ℕ) (u : Tree) → ToMove old next m rest u → Writes old new (λ x. count_of u x)) → get old at ≡ Some (Inner left right hu k) → Balanced t
     → (d : OneStep old at left right next k hu node rest t) → Children new at left right (with_fat node fat d.f) (with_fat node fat d.g)
     → StandsAt new at (with_fat node fat t)
-node_stays old new at left right next k hu node rest t fat same others e bal d p =
+node_stays old new at left right next k hu node rest t fat same writes e bal d p =
     let f = with_fat node fat d.f in
     let g = with_fat node fat d.g in
     let a = d.apart at in
     let o : one at at ≡ 1 = one_same at in
     let z : (count_of d.f at ≡ 0) × (count_of d.g at ≡ 0) = (omega arith, omega arith) in
-    let still : get new at ≡ get old at = ⊎_elim (λ on. others node at d.f on z.0) (λ on. others node at d.g on z.1) d.on in
+    let still : get new at ≡ get old at = ⊎_elim (λ on. (writes node d.f on).others at z.0) (λ on. (writes node d.g on).others at z.1) d.on in
     let lf : top f ≡ left = p.left_kept.is_at in
     let rg : top g ≡ right = p.right_kept.is_at in
     let here : get new at ≡ Some (Inner (top f) (top g) hu k) = cc in
@@ -166,34 +166,19 @@ same_bounds old at left right next k hu node rest t fat same bal d =
     subst (λ x. bounds (with_fat node fat x) ≡ bounds x) (sym d.is) (ap bounds (bounds_stay old at left right next k hu node rest t fat same bal d))
 
 -- what the path does not use stays
-pub others_stay : (old new : Slab NodeView) (at left right next k j : ℕ) (hu : Bounds) (node : ℕ) (rest : List ℕ) (t : Tree)
-    → ((m j : ℕ) (u : Tree) → ToMove old next m rest u → count_of u j ≡ 0 → get new j ≡ get old j)
-    → (d : OneStep old at left right next k hu node rest t) → count_of t j ≡ 0 → (get new j ≡ get old j) × (j ≢ at)
-others_stay old new at left right next k j hu node rest t others d free =
-    let none : one at j + (count_of d.f j + count_of d.g j) ≡ 0 = subst (λ x. count_of x j ≡ 0) d.is free in
-    let z : (count_of d.f j ≡ 0) × (count_of d.g j ≡ 0) × (one at j ≡ 0) = (omega arith, omega arith, omega arith) in
-    (⊎_elim (λ on. others node j d.f on z.0) (λ on. others node j d.g on z.1) d.on, λ e. one_apart at j z.2 (sym e))
+pub path_writes : (old new : Slab NodeView) (at left right next k : ℕ) (hu : Bounds) (node : ℕ) (rest : List ℕ) (t : Tree)
+    → ((m : ℕ) (u : Tree) → ToMove old next m rest u → Writes old new (λ x. count_of u x)) → (d : OneStep old at left right next k hu node rest t)
+    → Writes old new (λ x. count_of t x)
+path_writes old new at left right next k hu node rest t writes d =
+    let none : (x : ℕ) → count_of t x ≡ 0 → one at x + (count_of d.f x + count_of d.g x) ≡ 0 = λ x free. subst (λ t. count_of t x ≡ 0) d.is free in
+    ⊎_elim
+    (λ on. writes_fewer old new (λ x. count_of d.f x) (λ x. count_of t x) (writes node d.f on) (λ x free. let z = none x free in omega arith))
+    (λ on. writes_fewer old new (λ x. count_of d.g x) (λ x. count_of t x) (writes node d.g on) (λ x free. let z = none x free in omega arith))
+    d.on
 
--- a tree that shares no number with this one
-pub moved_elsewhere : (old new : Slab NodeView) (at left right next k : ℕ) (hu : Bounds) (node : ℕ) (rest : List ℕ) (t v : Tree)
-    → (d : OneStep old at left right next k hu node rest t)
-    → ((m : ℕ) (u v : Tree) → ToMove old next m rest u → ((x : ℕ) → count_of u x + count_of v x ≤ 1) → Holds old v → Holds new v)
-    → ((x : ℕ) → count_of t x + count_of v x ≤ 1) → Holds old v → (count_of v at ≡ 0) × Holds new v
-moved_elsewhere old new at left right next k hu node rest t v d kept free held =
-    let free2 : (x : ℕ) → (one at x + (count_of d.f x + count_of d.g x)) + count_of v x ≤ 1 =
-    subst (λ t. (x : ℕ) → count_of t x + count_of v x ≤ 1) d.is free in
-    let o : one at at ≡ 1 = one_same at in
-    let a = free2 at in (
-      omega arith,
-      ⊎_elim (λ on. kept node d.f v on (λ x. let a = free2 x in omega arith) held) (λ on. kept node d.g v on (λ x. let a = free2 x in omega arith) held) d.on,
-    )
-
-pub leaf_elsewhere : (old new : Slab NodeView) (at node : ℕ) (path : List ℕ) (t v : Tree) → ToMove old at node path t
-    → ((x : ℕ) → count_of t x + count_of v x ≤ 1) → ((k : ℕ) → k ≢ at → get new k ≡ get old k) → Holds old v → Holds new v
-leaf_elsewhere old new at node path t v w free kept held =
-    let u : 1 ≤ count_of t at = subst (λ k. 1 ≤ count_of t k) w.kept.is_at (top_counted t) in
-    let a = free at in
-    frame old new at kept v (omega arith) held
+-- the number that the path begins at is one of the tree's
+pub start_free : (old : Slab NodeView) (at node : ℕ) (path : List ℕ) (t : Tree) → ToMove old at node path t → (x : ℕ) → count_of t x ≡ 0 → one at x ≡ 0
+start_free old at node path t w x none = subst (λ n. one n x ≡ 0) w.kept.is_at (top_free t x none)
 
 pub sound_moved : (old new : Slab NodeView) (node : ℕ) (fat : Bounds) (t : Tree) → Sound old t → Holds new (with_fat node fat t) → slab_len new ≡ slab_len old
     → Sound new (with_fat node fat t)
@@ -201,16 +186,19 @@ sound_moved old new node fat t s h len =
     let sz = moved_size node fat t in
     let a = size_leaves t in
     let b = size_leaves (with_fat node fat t) in
-    let few = s.few in
+    let few = s.is_tree.few in
     let c = s.counted in
     record {
       holds = h;
-      apart = λ k. let x = s.apart k in let y = moved_counts node fat t k in omega arith;
-      balanced = moved_balanced node fat t s.balanced;
-      few = omega arith;
       counted = omega arith;
-      slots = λ k. let x = s.slots k in let y : sum_by (λ x. one x.slot k) (leaves (with_fat node fat t)) ≡ sum_by (λ x. one x.slot k) (leaves t) =
-          moved_slots node fat t k in omega arith;
+      is_tree = record {
+        apart = λ k. let x = s.is_tree.apart k in let y = moved_counts node fat t k in omega arith;
+        slots = λ k. let x = s.is_tree.slots k in let y : sum_by (λ x. one x.slot k) (leaves (with_fat node fat t)) ≡ sum_by (λ x. one x.slot k) (leaves t) =
+            moved_slots node fat t k in omega arith;
+        balanced = moved_balanced node fat t s.is_tree.balanced;
+        few = omega arith;
+        low = low (with_fat node fat t) (moved_balanced node fat t s.is_tree.balanced) (omega arith);
+      };
     }
 
 pub moved_in : (slab : Slab NodeView) (root : Option ℕ) (o p q : Option Tree) (node : ℕ) (fat : Bounds) → SoundIn slab root o → o ≡ p
@@ -221,4 +209,4 @@ moved_in slab None (Some u) (Some t) q node fat s e is = absurd s.0
 moved_in slab (Some n) None (Some t) q node fat s e is = absurd s
 moved_in slab (Some n) (Some u) (Some t) q node fat s e is =
     let same : u ≡ t = cc in
-    rw is (moved_leaves node fat t, moved_height node fat t (subst Balanced same s.1.balanced))
+    rw is (moved_leaves node fat t, moved_height node fat t (subst Balanced same s.1.is_tree.balanced))

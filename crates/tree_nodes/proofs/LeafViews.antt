@@ -82,7 +82,7 @@ same_leaf t x us node s b apart is p e =
     (subst (λ k. IsPermutation (record { node = k; slot = x.slot; fat = x.fat } ∷ us) (leaves t)) is p))
 
 pub ready_to_search : (slab : Slab NodeView) (at : ℕ) (t : Tree) → at ≡ top t → Sound slab t → height t ≤ 18 → ToSearch slab at t
-ready_to_search slab at t e s l = record { kept = record { holds = s.holds; is_at = sym e }; balanced = s.balanced; low = l }
+ready_to_search slab at t e s l = record { kept = record { holds = s.holds; is_at = sym e }; balanced = s.is_tree.balanced; low = l }
 
 pub shows : (o : Option Tree) (t : Tree) (node : ℕ) → o ≡ Some t → IsLeafOf o node → (s : ℕ) × (b : Bounds) × (view_at t node ≡ Some (Leaf s b))
 shows o t node e h = (h.0, h.1, subst (λ x. view_in x node ≡ Some (Leaf h.0 h.1)) e h.2)
@@ -90,4 +90,4 @@ shows o t node e h = (h.0, h.1, subst (λ x. view_in x node ≡ Some (Leaf h.0 h
 pub ready_to_move : (slab : Slab NodeView) (at node : ℕ) (path : List ℕ) (t : Tree) → at ≡ top t → Sound slab t → height t ≤ 18 → Leads t path node
     → ToMove slab at node path t
 ready_to_move slab at node path t e s l w =
-    record { kept = record { holds = s.holds; is_at = sym e }; balanced = s.balanced; low = omega arith; apart = s.apart; leads = w }
+    record { kept = record { holds = s.holds; is_at = sym e }; balanced = s.is_tree.balanced; low = omega arith; apart = s.is_tree.apart; leads = w }

@@ -12,8 +12,7 @@ use Rattle.tree_nodes.specs.Resized.{Raises}
 use Rattle.tree_nodes.specs.Stored.{Holds, Sound, size}
 use Rattle.tree_nodes.specs.Tree.{Tree, tip, fork, top, bounds, count_of, one, Within}
 use Rattle.tree_nodes.proofs.Detaching.{held}
-use Rattle.tree_nodes.proofs.Frames.{one_same, one_apart}
-use Rattle.tree_nodes.proofs.Inserting.{one_cases}
+use Rattle.tree_nodes.proofs.Frames.{one_same, one_apart, one_cases}
 use Rattle.tree_nodes.proofs.Rotations.{children}
 use Rattle.tree_nodes.proofs.TreeLaws.{within_itself}
 
@@ -90,7 +89,7 @@ pub occupied : (slab : Slab NodeView) (t : Tree) (k : ℕ) → Sound slab t → 
 occupied slab t k s there = ⊎_elim
     (λ lt.
     let z : count_of t k ≡ 0 = omega arith in
-    let all = stripped_count t slab.slots s.apart (λ j u. held slab t j s.holds u) in
+    let all = stripped_count t slab.slots s.is_tree.apart (λ j u. held slab t j s.holds u) in
     let left = counted_one (stripped t slab.slots) k (subst IsSome (sym (stripped_others t slab.slots k z)) there) in
     let c = s.counted in
     absurd (omega arith))

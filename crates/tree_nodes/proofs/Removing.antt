@@ -10,11 +10,11 @@ use Rattle.tree_nodes.specs.declared.node_view.NodeView.{NodeView}
 use Rattle.tree_nodes.specs.declared.node_view.NodeView.TheVariants.{Inner}
 use Rattle.tree_nodes.specs.Parts.{Opened, SameLeaves}
 use Rattle.tree_nodes.specs.Path.{ToRemove, Removed, Leads}
-use Rattle.tree_nodes.specs.Rotation.{ToRebalance, rebalanced, BalancedNear, ToAdjust}
+use Rattle.tree_nodes.specs.Rotation.{FitsByte, ToRebalance, rebalanced, BalancedNear, ToAdjust}
 use Rattle.tree_nodes.specs.Stored.{Holds}
 use Rattle.tree_nodes.specs.Tree.{Tree, tip, fork, top, count_of, one, height, Balanced, leaves}
 use Rattle.tree_nodes.proofs.Balance.{refitted_balanced, rebalanced_balanced}
-use Rattle.tree_nodes.proofs.Frames.{one_same}
+use Rattle.tree_nodes.proofs.Frames.{top_free}
 use Rattle.tree_nodes.proofs.Opened.{as_it_is, opened_reversed, top_counted}
 use Rattle.tree_nodes.proofs.Rebalanced.{rebalanced_counts, rebalanced_leaves, rebalanced_unrotated}
 use Rattle.tree_nodes.proofs.Rotations.{children}
@@ -112,8 +112,8 @@ removed_rebalance old new at down stay below freed node next rest t d s u c o p 
     let low = c.low in
     let e = o.height_is in
     let least = p.least in
-    let du : height u ≤ 30 = grind (arith) in
-    let ds : height s ≤ 30 = grind (arith) in
+    let du : FitsByte (height u) 2 = grind (arith) in
+    let ds : FitsByte (height s) 2 = grind (arith) in
     record {
       parts = record {
         room = here;
@@ -160,15 +160,12 @@ step_removed old mid new at down stay below freed result node t d s u w o p z =
       most = let e = z.height_is in omega arith;
     }
 
--- a tree that shares no number with this one
-pub removed_elsewhere : (old new : Slab NodeView) (at down stay below freed node : ℕ) (t d s u v : Tree) → Opened old at down stay t d s
-    → Removed new below node freed d u → ((k : ℕ) → count_of t k + count_of v k ≤ 1)
-    → ((k : ℕ) → count_of d k + count_of v k ≤ 1) × (count_of v at ≡ 0) × (count_of v below ≡ 0) × (count_of v stay ≡ 0)
-removed_elsewhere old new at down stay below freed node t d s u v o p free = (
-  λ k. let f = free k in let e = o.counts_are k in omega arith,
-  (let f = free at in let e = o.counts_are at in let one : one at at ≡ 1 = one_same at in omega arith),
-  (let f = free below in let e = o.counts_are below in let w = p.counts_are below in let t : 1 ≤ count_of u below =
-      subst (λ k. 1 ≤ count_of u k) p.kept.is_at (top_counted u) in omega arith),
-  (let f = free stay in let e = o.counts_are stay in let t : 1 ≤ count_of s stay = subst (λ k. 1 ≤ count_of s k) o.stay_kept.is_at (top_counted s) in
-      omega arith),
-)
+-- a number that the tree doesn't have
+pub removed_untouched : (old new : Slab NodeView) (at down stay below freed node : ℕ) (t d s u : Tree) → Opened old at down stay t d s
+    → Removed new below node freed d u → (k : ℕ) → count_of t k ≡ 0 → (count_of d k ≡ 0) × (one at k + (one below k + one stay k) ≡ 0)
+removed_untouched old new at down stay below freed node t d s u o p k none =
+    let e = o.counts_are k in
+    let w = p.counts_are k in
+    let b : one below k ≡ 0 = subst (λ n. one n k ≡ 0) p.kept.is_at (top_free u k (omega arith)) in
+    let c : one stay k ≡ 0 = subst (λ n. one n k ≡ 0) o.stay_kept.is_at (top_free s k (omega arith)) in
+    (omega arith, omega arith)

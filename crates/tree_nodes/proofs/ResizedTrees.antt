@@ -262,8 +262,8 @@ written_below mid new at parent b hu raised t bal apart w r held =
 pub written_inside : (old new : Slab NodeView) (at parent : ℕ) (b hu : Bounds) (t : Tree) → Sound old t → Rebounded old new at b
     → Raises t at parent b hu hu → Holds new (resized at b t)
 written_inside old new at parent b hu t s w r =
-    written_below old new at parent b hu hu t s.balanced s.apart w r
-    (subst (Holds old) (sym (unchanged t (fork parent hu r.height r.left r.right) r.inside s.balanced s.apart)) s.holds)
+    written_below old new at parent b hu hu t s.is_tree.balanced s.is_tree.apart w r
+    (subst (Holds old) (sym (unchanged t (fork parent hu r.height r.left r.right) r.inside s.is_tree.balanced s.is_tree.apart)) s.holds)
 
 -- a number that shows something is used
 pub viewed_counted : (t : Tree) (k : ℕ) (v : NodeView) → view_at t k ≡ Some v → 1 ≤ count_of t k
@@ -299,4 +299,4 @@ leaf_resized node s b c (fork n h k l r) bal apart e =
 pub sound_resized : (old new : Slab NodeView) (node s : ℕ) (b c : Bounds) (t : Tree) → Sound old t → view_at t node ≡ Some (Leaf s c)
     → Holds new (resized node b t) → slab_len new ≡ slab_len old → Sound new (with_fat node b t)
 sound_resized old new node s b c t sound e held len =
-    sound_moved old new node b t sound (subst (Holds new) (leaf_resized node s b c t sound.balanced sound.apart e) held) len
+    sound_moved old new node b t sound (subst (Holds new) (leaf_resized node s b c t sound.is_tree.balanced sound.is_tree.apart e) held) len

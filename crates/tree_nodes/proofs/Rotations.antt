@@ -5,10 +5,10 @@ use Rattle.fixed_box.specs.Bounds.{Bounds}
 use Rattle.tree_nodes.specs.declared.node_view.NodeView.{NodeView}
 use Rattle.tree_nodes.specs.declared.node_view.NodeView.TheVariants.{Inner}
 use Rattle.tree_nodes.specs.Moved.{refitted}
-use Rattle.tree_nodes.specs.Rotation.{Children, RotationParts, rotated, lower, higher}
-use Rattle.tree_nodes.specs.Stored.{Holds, StandsAt}
+use Rattle.tree_nodes.specs.Rotation.{Children, FitsByte, RotationParts, rotated, lower, higher}
+use Rattle.tree_nodes.specs.Stored.{Holds, StandsAt, Writes}
 use Rattle.tree_nodes.specs.Tree.{Tree, tip, fork, top, count_of, one, height, Balanced}
-use Rattle.tree_nodes.proofs.Frames.{one_same}
+use Rattle.tree_nodes.proofs.Frames.{one_same, one_free, elsewhere_held}
 
 -- the tree that stays does not use the node that is written first
 pub mid_free : (high at : ℕ) (l f g : Tree) → ((k : ℕ) → count_of (rotated high at l f g) k ≤ 1) → count_of g at ≡ 0
@@ -28,12 +28,12 @@ split slab at left right k hu (fork n hv j f g) p e =
     (f, g, cc, cc, cc)
 
 pub three : (slab : Slab NodeView) (at low high left right k : ℕ) (hu : Bounds) (l f g : Tree) → Children slab at low high l (fork high hu k f g)
-    → height l ≤ 100 → height (fork high hu k f g) ≤ 100 → Balanced (fork high hu k f g)
+    → FitsByte (height l) 2 → FitsByte (height (fork high hu k f g)) 2 → Balanced (fork high hu k f g)
     → RotationParts slab high at low (top (lower f g)) (top (higher f g)) l (lower f g) (higher f g)
 three slab at low high left right k hu l f g p ls hs bal =
     let e : k ≡ 1 + max (height f) (height g) = bal.0.height_is in
-    let sf : height f ≤ 100 = grind (arith) in
-    let sg : height g ≤ 100 = grind (arith) in
+    let sf : FitsByte (height f) 2 = grind (arith) in
+    let sg : FitsByte (height g) 2 = grind (arith) in
     let whole : (x : ℕ) → one at x + (count_of l x + (one high x + (count_of f x + count_of g x))) ≤ 1 = p.apart in
     elim (nat_lt (height f) (height g)) as (λ b. RotationParts slab high at low (top (cond b f g)) (top (cond b g f)) l (cond b f g) (cond b g f)) [
       | true ↦ record {
@@ -72,13 +72,15 @@ three slab at low high left right k hu l f g p ls hs bal =
       }
     ]
 
-pub second : (old new : Slab NodeView) (high at low left right : ℕ) (l f g : Tree) → ((k : ℕ) → IsSome (get old k) → IsSome (get new k))
-    → Holds new (refitted at l f) → ((t : Tree) → count_of t at ≡ 0 → Holds old t → Holds new t)
+pub second : (old new : Slab NodeView) (high at low left right : ℕ) (l f g : Tree) → Writes old new (λ k. one at k) → Holds new (refitted at l f)
     → RotationParts old high at low left right l f g → Children new high at right (refitted at l f) g
-second old new high at low left right l f g here there kept p = record {
-  room = here high p.room;
+second old new high at low left right l f g w there p = record {
+  room = w.kept.here high p.room;
   left_kept = record { holds = there; is_at = refl };
-  right_kept = record { holds = kept g (mid_free high at l f g p.apart) p.right_kept.holds; is_at = p.right_kept.is_at };
+  right_kept = record {
+    holds = elsewhere_held old new (λ k. one at k) w g (λ k u. one_free at g k (mid_free high at l f g p.apart) u) p.right_kept.holds;
+    is_at = p.right_kept.is_at;
+  };
   apart = p.apart;
   left_small = let a = p.left_small in let b = p.mid_small in grind (arith);
   right_small = let a = p.right_small in omega arith;
@@ -94,12 +96,12 @@ children slab at left right k hu h p e =
 
 -- what is rotated
 pub rotation_up : (slab : Slab NodeView) (at low high left right k : ℕ) (hu : Bounds) (l h : Tree) (r : ℕ × ℕ) → Children slab at low high l h
-    → height l ≤ 100 → height h ≤ 100 → Balanced h → get slab high ≡ Some (Inner left right hu k)
+    → FitsByte (height l) 2 → FitsByte (height h) 2 → Balanced h → get slab high ≡ Some (Inner left right hu k)
     → ((f g : Tree) → StandsAt slab left f → StandsAt slab right g → r ≡ (top (lower f g), top (higher f g)))
     → (f : Tree) × (g : Tree) × (h ≡ fork high hu k f g) × RotationParts slab high at low r.0 r.1 l (lower f g) (higher f g)
 rotation_up slab at low high left right k hu l h r p ls hs bal e picks =
     let s = children slab high left right k hu h p.right_kept e in
     let picked = picks s.0 s.1 s.3 s.4 in
-    let t = three slab at low high left right k hu l s.0 s.1 (subst (λ h. Children slab at low high l h) s.2 p) ls (subst (λ h. height h ≤ 100) s.2 hs)
+    let t = three slab at low high left right k hu l s.0 s.1 (subst (λ h. Children slab at low high l h) s.2 p) ls (subst (λ h. FitsByte (height h) 2) s.2 hs)
     (subst Balanced s.2 bal) in
     (s.0, s.1, s.2, subst (λ (q : ℕ × ℕ). RotationParts slab high at low q.0 q.1 l (lower s.0 s.1) (higher s.0 s.1)) (sym picked) t)

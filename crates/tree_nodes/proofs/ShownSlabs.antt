@@ -50,7 +50,7 @@ shown_taken : (x : Option Node) → taken (option_map shown x) ≡ taken x
 shown_taken None = refl
 shown_taken (Some n) = refl
 
-shown_count : (xs : List (Option Node)) → count_by is_some (map (option_map shown) xs) ≡ count_by is_some xs
+pub shown_count : (xs : List (Option Node)) → count_by is_some (map (option_map shown) xs) ≡ count_by is_some xs
 shown_count [] = refl
 shown_count (x ∷ xs) =
     let a = count_cons (option_map shown x) (map (option_map shown) xs) in
@@ -89,7 +89,6 @@ written_keeps s k n h = record {
   here = λ j there. subst IsSome (sym (shown_at (with_value s k n) j))
       (some_shown (get (with_value s k n) j) (set_some s.slots k j n (stored s j there)));
   len = shown_count (set s.slots k (Some n)) ∙ set_count s.slots k n h ∙ sym (shown_count s.slots);
-  capacity = refl;
 }
 
 other_bounds : (b c : Bounds) (r : Role) → shown_as c r ≡ with_bounds c (shown_as b r)

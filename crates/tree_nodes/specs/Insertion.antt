@@ -7,13 +7,13 @@ use Rattle.tree_nodes.specs.declared.node_view.NodeView.{NodeView}
 use Rattle.tree_nodes.specs.declared.node_view.NodeView.TheVariants.{Leaf as LeafNode}
 use Rattle.tree_nodes.specs.Tree.{Tree, top, bounds, height, count_of, one, leaves, Balanced}
 use Rattle.tree_nodes.specs.Stored.{StandsAt}
-use Rattle.tree_nodes.specs.Rotation.{BalancedNear}
+use Rattle.tree_nodes.specs.Rotation.{BalancedNear, FitsByte}
 
 -- a tree that a leaf and a new parent may go into
 pub record ToInsert (slab : Slab NodeView) (at leaf new_parent slot : ℕ) (fat : Bounds) (t : Tree) : Type 0 where
   pub kept : StandsAt slab at t
   pub balanced : Balanced t
-  pub low : height t ≤ 30
+  pub low : FitsByte (height t) 2
   pub leaf_there : get slab leaf ≡ Some (LeafNode slot fat)
   pub room : IsSome (get slab new_parent)
   pub apart : (k : ℕ) → count_of t k + (one leaf k + one new_parent k) ≤ 1

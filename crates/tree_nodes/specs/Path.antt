@@ -7,6 +7,7 @@ use Rattle.tree_nodes.specs.declared.TheConstants.{MOST_HEIGHT}
 use Rattle.tree_nodes.specs.declared.node_view.NodeView.{NodeView}
 use Rattle.tree_nodes.specs.declared.node_view.NodeView.TheVariants.{Leaf as LeafNode}
 use Rattle.tree_nodes.specs.Tree.{Tree, Leaf, tip, fork, top, height, count_of, one, leaves, view_at, Balanced}
+use Rattle.tree_nodes.specs.Rotation.{FitsByte}
 use Rattle.tree_nodes.specs.Stored.{StandsAt}
 
 -- a path down to a leaf: at each inner node the child that is next, and nothing at the leaf
@@ -33,7 +34,7 @@ pub record PathFound (node : ℕ) (fat : Bounds) (t : Tree) (found : Bool) (path
 pub record ToMove (slab : Slab NodeView) (at node : ℕ) (path : List ℕ) (t : Tree) : Type 0 where
   pub kept : StandsAt slab at t
   pub balanced : Balanced t
-  pub low : height t ≤ 60
+  pub low : FitsByte (height t) 2
   pub apart : (k : ℕ) → count_of t k ≤ 1
   pub leads : Leads t path node
 
@@ -41,7 +42,7 @@ pub record ToMove (slab : Slab NodeView) (at node : ℕ) (path : List ℕ) (t : 
 pub record ToRemove (slab : Slab NodeView) (at node next : ℕ) (rest : List ℕ) (t : Tree) : Type 0 where
   pub kept : StandsAt slab at t
   pub balanced : Balanced t
-  pub low : height t ≤ 30
+  pub low : FitsByte (height t) 2
   pub apart : (k : ℕ) → count_of t k ≤ 1
   pub leads : Leads t (next ∷ rest) node
 

@@ -28,14 +28,18 @@ rebalanced n l r =
     then rotated_up n r l
     else (if nat_lt (height l + 1) (height r) then rotated_up n l r else refitted n l r)
 
--- Two trees that may go below a node. Here as below, a bound on a height says that it fits a byte after some steps.
+-- a height that is so many levels below the greatest that fits a byte
+abbrev pub FitsByte : ℕ → ℕ → Type 0
+FitsByte h levels = h + levels ≤ 255
+
+-- two trees that may go below a node
 pub record Children (slab : Slab NodeView) (at left right : ℕ) (l r : Tree) : Type 0 where
   pub room : IsSome (get slab at)
   pub left_kept : StandsAt slab left l
   pub right_kept : StandsAt slab right r
   pub apart : (k : ℕ) → count_of (refitted at l r) k ≤ 1
-  pub left_small : height l ≤ 200
-  pub right_small : height r ≤ 200
+  pub left_small : FitsByte (height l) 1
+  pub right_small : FitsByte (height r) 1
 
 -- three trees that may go below two nodes
 pub record RotationParts (slab : Slab NodeView) (high at low left right : ℕ) (l f g : Tree) : Type 0 where
@@ -43,17 +47,17 @@ pub record RotationParts (slab : Slab NodeView) (high at low left right : ℕ) (
   pub below : Children slab at low left l f
   pub right_kept : StandsAt slab right g
   pub apart : (k : ℕ) → count_of (rotated high at l f g) k ≤ 1
-  pub left_small : height l ≤ 100
-  pub mid_small : height f ≤ 100
-  pub right_small : height g ≤ 100
+  pub left_small : FitsByte (height l) 2
+  pub mid_small : FitsByte (height f) 2
+  pub right_small : FitsByte (height g) 2
 
 -- two balanced trees that may go below a node, which is then rebalanced
 pub record ToRebalance (slab : Slab NodeView) (at left right : ℕ) (l r : Tree) : Type 0 where
   pub parts : Children slab at left right l r
   pub left_balanced : Balanced l
   pub right_balanced : Balanced r
-  pub left_low : height l ≤ 40
-  pub right_low : height r ≤ 40
+  pub left_low : FitsByte (height l) 2
+  pub right_low : FitsByte (height r) 2
 
 -- and whose heights differ by at most two
 pub record ToAdjust (slab : Slab NodeView) (at left right : ℕ) (l r : Tree) : Type 0 where

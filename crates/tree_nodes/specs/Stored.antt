@@ -1,12 +1,10 @@
 -- How a slab keeps a tree: what ties the nodes of a `Nodes` to the tree that clauses see.
-use Rattle.std.specs.Prelude.{◌≡◌, ℕ, zero, suc, ◌+◌, ◌≤◌, Option, None, Some, IsSome, length}
-use Rattle.std.specs.List.{sum_by}
+use Rattle.std.specs.Prelude.{◌≡◌, ℕ, zero, suc, ◌+◌, Option, None, Some, IsSome}
 use Rattle.slab.specs.Slab.{Slab, get, slab_len}
-use Rattle.fixed_box.specs.declared.TheConstants.{SLOTS}
 use Rattle.fixed_box.specs.Bounds.{Bounds}
 use Rattle.tree_nodes.specs.declared.node_view.NodeView.{NodeView}
 use Rattle.tree_nodes.specs.declared.node_view.NodeView.TheVariants.{Leaf, Inner}
-use Rattle.tree_nodes.specs.Tree.{Tree, tip, fork, top, leaves, count_of, one, Balanced}
+use Rattle.tree_nodes.specs.Tree.{Tree, tip, fork, top, IsTree}
 
 -- each node stands under its number
 abbrev pub Holds : Slab NodeView → Tree → Type 0
@@ -48,10 +46,7 @@ size (fork n h j l r) = 1 + (size l + size r)
 pub record Sound (slab : Slab NodeView) (t : Tree) : Type 0 where
   pub holds : Holds slab t
   pub counted : slab_len slab ≡ size t
-  pub apart : (k : ℕ) → count_of t k ≤ 1
-  pub slots : (k : ℕ) → sum_by (λ x. one x.slot k) (leaves t) ≤ 1
-  pub balanced : Balanced t
-  pub few : length (leaves t) ≤ SLOTS
+  pub is_tree : IsTree t
 
 -- the same under a root, where there may be no tree
 abbrev pub SoundIn : Slab NodeView → Option ℕ → Option Tree → Type 0
@@ -65,12 +60,12 @@ pub record StandsAt (slab : Slab NodeView) (at : ℕ) (t : Tree) : Type 0 where
   pub holds : Holds slab t
   pub is_at : top t ≡ at
 
--- no number occurs in both trees
-abbrev pub Apart : Tree → Tree → Type 0
-Apart t v = (k : ℕ) → count_of t k + count_of v k ≤ 1
-
--- no key is freed, none is taken, and the room stays
+-- no key is freed, and none is taken
 pub record KeepsKeys (old new : Slab NodeView) : Type 0 where
   pub here : (k : ℕ) → IsSome (get old k) → IsSome (get new k)
   pub len : slab_len new ≡ slab_len old
-  pub capacity : new.capacity ≡ old.capacity
+
+-- What is written stands under these keys, given by how often each is one of them. So a tree that has none of them stays.
+pub record Writes (old new : Slab NodeView) (keys : ℕ → ℕ) : Type 0 where
+  pub others : (k : ℕ) → keys k ≡ 0 → get new k ≡ get old k
+  pub kept : KeepsKeys old new

@@ -4,19 +4,21 @@ ghost use Rattle.std.specs.Prelude.{◌≡◌, ◌<◌, ◌^◌, ◌⊎◌};
 ghost use Rattle.tree_nodes.specs.Stored.{StandsAt};
 ghost use Rattle.tree_nodes.specs.Tree.{Tree};
 
-use crate::node_slab::{NodeSlab, bounds_at};
+use crate::linked_nodes::LinkedNodes;
 use fixed_box::FBox;
 
-// Of two trees the one whose centre lies nearer to that of a box, and the other: the sum of the distances on the three axes
-// decides, as in the dynamic tree of the Bullet engine. It is cheaper to tell than growth.
-pub(crate) fn by_distance(slab: &NodeSlab, left: usize, right: usize, fat: &FBox) -> (usize, usize)
-    requires { (f g : Tree) × StandsAt slab.now left f × StandsAt slab.now right g }
-    ensures { (result ≡ (left, right)) ⊎ (result ≡ (right, left)) }
-{
-    if distance(&bounds_at(slab, left), fat) <= distance(&bounds_at(slab, right), fat) {
-        (left, right)
-    } else {
-        (right, left)
+impl LinkedNodes {
+    // Of two trees the one whose centre lies nearer to that of a box, and the other: the sum of the distances on the three axes
+    // decides, as in the dynamic tree of the Bullet engine. It is cheaper to tell than growth.
+    pub(crate) fn by_distance(&self, left: usize, right: usize, fat: &FBox) -> (usize, usize)
+        requires { (f g : Tree) × StandsAt self.now left f × StandsAt self.now right g }
+        ensures { (result ≡ (left, right)) ⊎ (result ≡ (right, left)) }
+    {
+        if distance(&self.bounds_at(left), fat) <= distance(&self.bounds_at(right), fat) {
+            (left, right)
+        } else {
+            (right, left)
+        }
     }
 }
 

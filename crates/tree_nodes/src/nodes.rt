@@ -9,14 +9,9 @@ ghost use Rattle.tree_nodes.specs.Moved.{with_fat, leaf_moved};
 ghost use Rattle.tree_nodes.specs.Shown.{shown};
 ghost use Rattle.tree_nodes.specs.declared.node_view.NodeView.TheVariants.{Leaf as LeafNode};
 
-use crate::insertion::insert_leaf;
-use crate::kin::Kin;
 use crate::leaf_key::LeafKey;
-use crate::moving::move_in_place;
-use crate::node_slab::{NodeSlab, height_at};
-use crate::rebuilding::rebuild_tree;
-use crate::removal::remove_leaf;
-use crate::{MOST_HEIGHT, MOST_NODES, Node, NodeView};
+use crate::linked_nodes::LinkedNodes;
+use crate::{MOST_HEIGHT, Node, NodeView};
 use fixed_box::{FBox, NoMemory, SLOTS};
 use std::alloc::Global;
 use std::marker::Model;
@@ -33,12 +28,9 @@ use std::marker::Model;
 /// overlap: a rebuild now and then, from the top down, keeps searches short.
 #[derive(Drop)]
 pub struct Nodes {
-    // Each node is a key of the slab.
-    slab: NodeSlab,
+    links: LinkedNodes,
     root: Option<usize>,
     alloc: Global,
-    // For each node where its parent and its sibling stand.
-    kin: Vec<Kin>,
     // Room for a rebuild: the leaves, and the numbers of the inner nodes.
     keys: Vec<LeafKey>,
     inner: Vec<usize>,
@@ -50,16 +42,15 @@ impl Model for Nodes {
     ghost use Rattle.tree_nodes.specs.Tree.{Tree};
     ghost use Rattle.tree_nodes.specs.TreeCode.{coded_tree};
     ghost use Rattle.tree_nodes.specs.Stored.{tree_of, SoundIn};
-    ghost use Rattle.tree_nodes.specs.declared.TheConstants.{MOST_NODES};
 
     ghost Value = { Option Tree };
 
     ghost coded = { coded_tree };
 
-    ghost view = { λ s. tree_of s.slab s.root };
+    ghost view = { λ s. tree_of s.links s.root };
 
-    ghost invariant = { λ s. ((MOST_NODES ≤ s.slab.capacity) × (SLOTS ≤ vec_capacity s.keys) × (SLOTS ≤ vec_capacity s.inner)) ×
-        SoundIn s.slab s.root (tree_of s.slab s.root) };
+    ghost invariant = { λ s. ((SLOTS ≤ vec_capacity s.keys) × (SLOTS ≤ vec_capacity s.inner)) ×
+        SoundIn s.links s.root (tree_of s.links s.root) };
 }
 
 impl Nodes {
@@ -68,10 +59,9 @@ impl Nodes {
         ensures { IfOk result (λ nodes. nodes ≡ None) }
     {
         Ok(Nodes {
-            slab: NodeSlab::new(alloc)?,
+            links: LinkedNodes::new(alloc)?,
             root: None,
             alloc,
-            kin: vec![in alloc; Kin::new(0, 0); MOST_NODES]?,
             keys: Vec::with_capacity(alloc, SLOTS as usize)?,
             inner: Vec::with_capacity(alloc, SLOTS as usize)?,
         })
@@ -88,7 +78,7 @@ impl Nodes {
             view_in self.new other ≡ Some (LeafNode s b) }
         ensures tree { IsTreeIn self.new }
     {
-        let (leaf, root) = insert_leaf(&mut self.slab, &mut self.kin, self.root, slot, fat);
+        let (leaf, root) = self.links.insert_leaf(self.root, slot, fat);
         self.root = Some(root);
         leaf
     }
@@ -102,7 +92,7 @@ impl Nodes {
             other ≢ node → view_in self.new other ≡ Some (LeafNode s b) }
         ensures tree { IsTreeIn self.new }
     {
-        self.root = remove_leaf(&mut self.slab, &mut self.kin, self.root, node, self.alloc);
+        self.root = self.links.remove_leaf(self.root, node, self.alloc);
     }
 
     /// Gives a leaf another box in its place: each node keeps its number, its place and its height. The hulls above the
@@ -119,14 +109,7 @@ impl Nodes {
             other ≢ node → view_in self.new other ≡ Some (LeafNode s b) }
         ensures tree { IsTreeIn self.new }
     {
-        move_in_place(
-            &mut self.slab,
-            &mut self.kin,
-            self.root,
-            node,
-            &fat,
-            self.alloc,
-        );
+        self.links.move_in_place(self.root, node, &fat, self.alloc);
     }
 
     /// Links all inner nodes anew, so that a search looks at few nodes after many changes, and answers how many leaves
@@ -142,13 +125,9 @@ impl Nodes {
         ensures count { result ≡ length (leaves_in self.new) }
         ensures tree { IsTreeIn self.new }
     {
-        let (root, count) = rebuild_tree(
-            &mut self.slab,
-            &mut self.kin,
-            self.root,
-            &mut self.keys,
-            &mut self.inner,
-        );
+        let (root, count) = self
+            .links
+            .rebuild_tree(self.root, &mut self.keys, &mut self.inner);
         self.root = root;
         count
     }
@@ -169,7 +148,7 @@ impl Nodes {
         ensures most { result ≤ SLOTS }
     {
         // a tree has one inner node fewer than leaves
-        (self.slab.len() + 1) / 2
+        (self.links.len() + 1) / 2
     }
 
     /// The height of the top node, 0 for a leaf and where there is none, and at most 18.
@@ -180,7 +159,7 @@ impl Nodes {
     {
         match self.root {
             None => 0,
-            Some(at) => height_at(&self.slab, at),
+            Some(at) => self.links.height_at(at),
         }
     }
 
@@ -201,6 +180,6 @@ impl Nodes {
         ensures children { ChildrenShown self.now (shown result.now) }
         ensures tree { IsTreeIn self.now }
     {
-        self.slab.node(node)
+        self.links.node(node)
     }
 }

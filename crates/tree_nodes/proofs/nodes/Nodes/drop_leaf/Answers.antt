@@ -9,14 +9,14 @@ use Rattle.tree_nodes.proofs.nodes.Nodes.drop_leaf.Goals as goal
 
 pub returns-clause-tree : goal.returns-clause-tree
 returns-clause-tree c =
-    let new = c.remove_leaf-self-inside.new.slab in
+    let new = c.remove_leaf-self-inside.new.self in
     let root = c.remove_leaf-self-inside.result in
     is_tree_in new root (tree_of new root) c.remove_leaf-self-inside.ensures.sound
 
 pub returns-clause-others : goal.returns-clause-others
 returns-clause-others c other s b e differ =
-    let old = tree_of c.self.inside.slab c.self.inside.root in
-    let new = tree_of c.remove_leaf-self-inside.new.slab c.remove_leaf-self-inside.result in
+    let old = tree_of c.self.inside.links c.self.inside.root in
+    let new = tree_of c.remove_leaf-self-inside.new.self c.remove_leaf-self-inside.result in
     let gone = c.requires in
     let before = subst (λ t. view_in t other ≡ Some (Leaf s b)) (sym c.self.view_is) e in
     let it = subst (λ t. view_in t c.args.node ≡ Some (Leaf gone.0 gone.1)) (sym c.self.view_is) gone.2 in

@@ -18,16 +18,16 @@ found slab root t u k h e some =
 
 pub node-requires : goal.node-requires
 node-requires c =
-    let p = found c.self.inside.slab c.self.inside.root _ c.args.self.now c.args.node c.self.invariant.1 c.self.view_is c.requires in
+    let p = found c.self.inside.links c.self.inside.root _ c.args.self.now c.args.node c.self.invariant.1 c.self.view_is c.requires in
     subst IsSome (sym p.1) refl
 
 pub returns-clause-value : goal.returns-clause-value
 returns-clause-value c =
-    let p = found c.self.inside.slab c.self.inside.root _ c.args.self.now c.args.node c.self.invariant.1 c.self.view_is c.requires in
+    let p = found c.self.inside.links c.self.inside.root _ c.args.self.now c.args.node c.self.invariant.1 c.self.view_is c.requires in
     cc
 
 pub returns-clause-tree : goal.returns-clause-tree
-returns-clause-tree c = seen_tree c.self.inside.slab c.self.inside.root _ _ c.self.invariant.1 c.self.view_is
+returns-clause-tree c = seen_tree c.self.inside.links c.self.inside.root _ _ c.self.invariant.1 c.self.view_is
 
 pub returns-clause-children : goal.returns-clause-children
 returns-clause-children c = children_shown c.args.self.now c.args.node (shown c.node.result.now) (returns-clause-value c)

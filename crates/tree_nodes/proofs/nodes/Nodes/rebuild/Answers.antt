@@ -9,13 +9,13 @@ use Rattle.tree_nodes.proofs.nodes.Nodes.rebuild.Goals as goal
 
 pub returns-clause-tree : goal.returns-clause-tree
 returns-clause-tree c =
-    let new = c.rebuild_tree-root.new.slab in
+    let new = c.rebuild_tree-root.new.self in
     let root = c.rebuild_tree-root.result.0 in
     is_tree_in new root (tree_of new root) c.rebuild_tree-root.ensures.sound
 
 pub returns-clause-others : goal.returns-clause-others
 returns-clause-others c other s b e =
-    let old = tree_of c.self.inside.slab c.self.inside.root in
-    let new = tree_of c.rebuild_tree-root.new.slab c.rebuild_tree-root.result.0 in
+    let old = tree_of c.self.inside.links c.self.inside.root in
+    let new = tree_of c.rebuild_tree-root.new.self c.rebuild_tree-root.result.0 in
     let before = subst (λ t. view_in t other ≡ Some (Leaf s b)) (sym c.self.view_is) e in
     all_there old new other s b (returns-clause-tree c) c.rebuild_tree-root.ensures.leaves before

@@ -1,6 +1,0 @@
-use Rattle.slab.specs.Slab.{get}
-use Rattle.tree_nodes.specs.Parts.{height_shown}
-use Rattle.tree_nodes.proofs.insertion.+insert_below.Given as goal
-
-abbrev pub decreases-insert_below : goal.decreases-insert_below
-decreases-insert_below l = height_shown (get l.slab.now l.at)

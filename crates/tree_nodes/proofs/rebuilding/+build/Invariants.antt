@@ -1,5 +1,0 @@
-use Rattle.std.proofs.Common.{length}
-use Rattle.tree_nodes.proofs.rebuilding.+build.Given as goal
-
-abbrev pub decreases-build : goal.decreases-build
-decreases-build l = length l.inner.now

@@ -1,6 +1,0 @@
-use Rattle.slab.specs.Slab.{get}
-use Rattle.tree_nodes.specs.Parts.{height_shown}
-use Rattle.tree_nodes.proofs.rebuilding.+gather.Given as goal
-
-abbrev pub decreases-gather : goal.decreases-gather
-decreases-gather l = height_shown (get l.slab.now l.at)

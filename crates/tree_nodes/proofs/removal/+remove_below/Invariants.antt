@@ -1,5 +1,0 @@
-use Rattle.std.proofs.Common.{length}
-use Rattle.tree_nodes.proofs.removal.+remove_below.Given as goal
-
-abbrev pub decreases-remove_below : goal.decreases-remove_below
-decreases-remove_below l = length l.path.now
