@@ -1,16 +1,14 @@
-//! One descent for each touched slot, and the slots that one box reaches.
+//! The touched slots that are present, and the slots that one box reaches.
 
-ghost use Rattle.std.specs.Prelude.{◌≡◌, ◌≤◌, ◌++◌, [], length, None, OnOk, IfOk, slice_index_or};
+ghost use Rattle.std.specs.Prelude.{◌≡◌, ◌≤◌, [], length, None, OnOk, IfOk, slice_index_or};
 ghost use Rattle.fixed_box.specs.declared.TheConstants.{SLOTS};
-ghost use Rattle.broad_index.specs.Touched.{gathered_with};
 ghost use Rattle.box_tree.specs.Boxes.{visits_for};
-ghost use Rattle.box_tree.specs.Searches.{sought_from, reached_in, searches, looked_for};
+ghost use Rattle.box_tree.specs.Searches.{sought_from, reached_in};
 
 use crate::tree_boxes::TreeBoxes;
-use broad_index::push_ordered_pairs;
 use fixed_box::{FBox, NoMemory, SLOTS};
 use slot_lists::SlotMarks;
-use tree_search::{TreeFindings, descend_with_box, push_others};
+use tree_search::{descend_with_box, push_others};
 
 // Appends the touched slots that are present, in rising order.
 pub(crate) fn push_sought(
@@ -54,26 +52,4 @@ pub(crate) fn reach(
     let count = descend_with_box(&boxes.boxed_tree(), &body, met)?;
     push_others(slot, met, out)?;
     Ok(count)
-}
-
-// Appends the pairs of some slots with what each of them reaches, and answers a number raised by how many nodes it looked
-// at.
-pub(crate) fn search_all(
-    boxes: &TreeBoxes,
-    slots: &[u32],
-    looked: u64,
-    found: &mut TreeFindings,
-) -> Result<u64, NoMemory>
-    ensures ok { OnOk result (found.new.pairs.items ≡ found.old.pairs.items ++ gathered_with (searches boxes.now.bodies boxes.now.tree slots.now)) }
-    ensures count { IfOk result (λ n. n ≡ looked_for boxes.now.tree boxes.now.bodies slots.now looked) }
-{
-    let mut rest = slots;
-    let mut number = looked;
-    'slots: while let Some((slot, more)) = rest.split_first() {
-        let count = reach(boxes, *slot, &mut found.met, &mut found.others)?;
-        push_ordered_pairs(*slot, &found.others, &mut found.pairs)?;
-        number = number.saturating_add(u64::from(count));
-        rest = more;
-    }
-    Ok(number)
 }

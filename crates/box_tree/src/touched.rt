@@ -17,13 +17,13 @@ ghost use Rattle.box_tree.specs.Whole.{AreListed};
 
 use crate::marked::{push_marked, push_marked_slots};
 use crate::room::Room;
-use crate::search::{push_sought, search_all};
+use crate::search::push_sought;
 use crate::tree_boxes::TreeBoxes;
 use crate::tree_listing::{TreeListing, list_nodes};
 use broad_index::{holding_laws, keeping_laws};
 use fixed_box::{FBox, NoMemory};
 use slot_lists::{SlotMarks, push_filter_mapped};
-use tree_search::{ListedNode, SearchRoom, TreeFindings, listing_law, search_boxes};
+use tree_search::{ListedNode, SearchRoom, TreeFindings, listing_law, search_boxes, search_each};
 
 // From how many touched slots on they are searched for in groups. For fewer it doesn't pay to walk over the tree.
 const FEWEST_GROUPED: usize = 1_024;
@@ -51,7 +51,13 @@ pub(crate) fn search_touched(
     room.slots.clear();
     push_sought(boxes.bodies(), marks, &mut room.slots)?;
     if room.slots.len() < FEWEST_GROUPED {
-        let few = search_all(boxes, &room.slots, looked, &mut room.found)?;
+        let few = search_few(
+            boxes,
+            &room.slots,
+            looked,
+            &mut room.search,
+            &mut room.found,
+        )?;
         return Ok(few);
     }
     listing.refresh(boxes)?;
@@ -108,13 +114,31 @@ pub(crate) fn search_run(
     ensures count { IfOk result (λ n. n ≡ looked_for boxes.now.tree boxes.now.bodies slots.now looked) }
 {
     let Some(preorder) = listing.if_fresh() else {
-        let few = search_all(boxes, slots, looked, found)?;
+        let few = search_few(boxes, slots, looked, room, found)?;
         return Ok(few);
     };
     room.touched.clear();
     push_boxes(boxes, slots, &mut room.touched)?;
     let many = search_groups(boxes, preorder, looked, room, found)?;
     Ok(many)
+}
+
+// Appends the pairs of some slots with the boxes that theirs meet, by one descent each, and answers a number raised by how
+// many nodes these look at.
+fn search_few(
+    boxes: &TreeBoxes,
+    slots: &[u32],
+    looked: u64,
+    room: &mut SearchRoom,
+    found: &mut TreeFindings,
+) -> Result<u64, NoMemory>
+    ensures ok { OnOk result (found.new.pairs.items ≡ found.old.pairs.items ++ gathered_with (searches boxes.now.bodies boxes.now.tree slots.now)) }
+    ensures count { IfOk result (λ n. n ≡ looked_for boxes.now.tree boxes.now.bodies slots.now looked) }
+{
+    room.touched.clear();
+    push_boxes(boxes, slots, &mut room.touched)?;
+    let number = search_each(&boxes.boxed_tree(), &room.touched, looked, found)?;
+    Ok(number)
 }
 
 // Appends each slot that has a box with it. After an `Err` `out` is as before.

@@ -1,12 +1,14 @@
 //! The broad phase over the tree: boxes come, move and go, and pairs are sought for touched slots alone.
 
-ghost use Rattle.std.specs.Prelude.{◌≡◌, ◌↔◌, ℕ, ◌≤◌, ◌<◌, ◌^◌, true, false, None, Some, is_some, Ok, IfOk, IfSome};
+ghost use Rattle.std.specs.Prelude.{◌≡◌, ◌↔◌, ℕ, ◌≤◌, ◌<◌, ◌^◌, ◌++◌, true, false, None, Some, is_some, Ok, IfOk, IfSome, OnOk, OnErr};
 ghost use Rattle.std.specs.Prelude.{IsTrue, count_by, length, map as mapped, slice_set, refl};
 ghost use Rattle.std.specs.FinMap as map;
 ghost use Rattle.std.specs.List.{All};
 ghost use Rattle.fixed_box.specs.Bounds.{Bounds, encloses, fattened};
+ghost use Rattle.broad_index.specs.Found.{found};
 ghost use Rattle.broad_index.specs.Fresh.{IsFresh};
 ghost use Rattle.broad_index.specs.Held.{Holds};
+ghost use Rattle.tree_search.specs.Visits.{visits_by_in};
 ghost use Rattle.tree_nodes.specs.Tree.{height_in, leaves_in, IsTreeIn};
 ghost use Rattle.fixed_box.specs.declared.TheConstants.{SLOTS};
 ghost use Rattle.box_tree.specs.declared.TheConstants.{MARGIN};
@@ -107,6 +109,21 @@ impl BoxTree {
         let moved = self.boxes.set(slot, body);
         self.marks.set(slot);
         moved
+    }
+
+    /// Does what `hits` does, and answers how many nodes it looked at: the top, and the children of each node whose hull the query
+    /// meets.
+    pub fn hits_told(&self, query: &Query, out: &mut Vec<u32>) -> Result<u32, NoMemory>
+        ensures ok { OnOk result (out.new.items ≡ out.old.items ++ found self.now.bodies query.now) }
+        ensures count { IfOk result (λ n. n ≡ visits_by_in self.now.tree query.now) }
+        ensures err { OnErr result (out.new.items ≡ out.old.items) }
+    {
+        holding_laws();
+        self.boxes.kept_law();
+        let mut met = Vec::new(*out.allocator());
+        let count = push_hits(&self.boxes.boxed_tree(), query, &mut met)?;
+        push_rising_slots(&mut met, out)?;
+        Ok(count)
     }
 
     /// The fat box of a slot, and `None` exactly where the slot is absent.
@@ -230,11 +247,8 @@ impl BroadPhase for BoxTree {
     }
 
     fn hits(&self, query: &Query, out: &mut Vec<u32>) -> Result<(), NoMemory> {
-        holding_laws();
-        self.boxes.kept_law();
-        let mut met = Vec::new(*out.allocator());
-        push_hits(&self.boxes.boxed_tree(), query, &mut met)?;
-        push_rising_slots(&mut met, out)
+        self.hits_told(query, out)?;
+        Ok(())
     }
 
     fn box_of(&self, slot: u32) -> Option<FBox> {

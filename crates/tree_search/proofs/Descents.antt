@@ -11,7 +11,8 @@ use Rattle.broad_index.specs.Members.{meets_query}
 use Rattle.tree_nodes.specs.declared.node_view.NodeView.{NodeView}
 use Rattle.tree_nodes.specs.declared.node_view.NodeView.TheVariants.{Leaf as LeafNode, Inner}
 use Rattle.tree_nodes.specs.Tree.{Tree, tip, fork, top, leaves, Leaf, height, bounds, view_of, view_in, IsTree, Balanced, Within}
-use Rattle.tree_search.specs.Descent.{visits_by, visits_by_in, all_leaves, owed, all_owed, views, Wait, Stands, Popped, Laws, met_in, found_at, meets_node}
+use Rattle.tree_search.specs.Descent.{all_leaves, owed, all_owed, views, Wait, Stands, Popped, Laws, met_in, found_at, meets_node}
+use Rattle.tree_search.specs.Visits.{visits_by, visits_by_in}
 use Rattle.tree_search.specs.Exact.{entry_of, exact, exact_in, IsInside, IsLeafInside}
 
 pub found_append : (q : Query) (es fs : List (ℕ × Bounds)) → found_of (es ++ fs) q ≡ found_of es q ++ found_of fs q

@@ -9,15 +9,7 @@ use Rattle.tree_nodes.specs.declared.node_view.NodeView.TheVariants.{Leaf as Lea
 use Rattle.tree_nodes.specs.declared.TheConstants.{MOST_HEIGHT}
 use Rattle.tree_nodes.specs.Tree.{Tree, tip, fork, top, bounds, leaves, Leaf, height, count_of, view_of, view_at, IsTree, Balanced, Within}
 use Rattle.tree_search.specs.Exact.{exact, IsInside}
-
--- how many nodes a descent with a query looks at: it goes on below a hull that is met
-abbrev pub visits_by : Tree → Query → ℕ
-visits_by (tip n s b) q = 1
-visits_by (fork n h k l r) q = 1 + (if query_meets q h then visits_by l q + visits_by r q else 0)
-
-abbrev pub visits_by_in : Option Tree → Query → ℕ
-visits_by_in None q = 0
-visits_by_in (Some t) q = visits_by t q
+use Rattle.tree_search.specs.Visits.{visits_by}
 
 -- what is known of trees and queries
 pub record Laws (q : Query) : Type 0 where

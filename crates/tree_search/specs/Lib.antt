@@ -6,3 +6,4 @@ pub mod Group
 pub mod Looked
 pub mod Preorder
 pub mod Reading
+pub mod Visits

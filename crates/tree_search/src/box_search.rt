@@ -97,8 +97,9 @@ fn set_mark(slot: u32, done: &mut SlotMarks)
     done.set(slot);
 }
 
-// Searches for touched boxes one by one.
-fn search_each(
+/// Appends the pairs of some boxes with those that they meet, by one descent each, and answers a number raised by how many nodes
+/// these look at.
+pub fn search_each(
     boxes: &BoxedTree,
     touched: &[(u32, FBox)],
     looked: u64,

@@ -6,9 +6,10 @@ ghost use Rattle.broad_index.specs.declared.query.Query.{Query};
 ghost use Rattle.broad_index.specs.declared.query.Query.TheVariants.{Region};
 ghost use Rattle.broad_index.specs.Found.{found_of};
 ghost use Rattle.broad_index.specs.Members.{meets_query};
-ghost use Rattle.tree_search.specs.Descent.{visits_by_in, Laws, met_in, found_at};
+ghost use Rattle.tree_search.specs.Descent.{Laws, met_in, found_at};
 ghost use Rattle.tree_search.specs.Exact.{exact_in, IsInside};
 ghost use Rattle.tree_search.specs.Group.{BoxLaws};
+ghost use Rattle.tree_search.specs.Visits.{visits_by_in};
 ghost use Rattle.tree_search.specs.declared.waiting.TheConstants.{MOST_WAITING};
 
 use crate::BoxedTree;

@@ -1,9 +1,10 @@
 //! A query of each kind asked of a tree: as a box, or as a prepared line.
 
-ghost use Rattle.std.specs.Prelude.{◌≡◌, ◌++◌, OnOk};
+ghost use Rattle.std.specs.Prelude.{◌≡◌, ◌++◌, IfOk, OnOk};
 ghost use Rattle.fixed_box.specs.Bounds.{Bounds, holds, meets};
 ghost use Rattle.broad_index.specs.Found.{found_of};
 ghost use Rattle.tree_search.specs.Exact.{exact_in};
+ghost use Rattle.tree_search.specs.Visits.{visits_by_in};
 
 use crate::BoxedTree;
 use crate::descent::descend;
@@ -11,18 +12,18 @@ use broad_index::Query;
 use fixed_box::{FBox, NoMemory, Point, box_laws};
 use prepared_query::LineTest;
 
-/// Appends the slots whose boxes meet a query, in the order of the leaves. What kind it is is told here, once for all nodes:
-/// a region and a spot are asked as boxes, and a line whose numbers fit 32 bits is prepared. After an `Err` there may be some
-/// of them.
-pub fn push_hits(boxes: &BoxedTree, query: &Query, out: &mut Vec<u32>) -> Result<(), NoMemory>
-    ensures { OnOk result (out.new.items ≡ out.old.items ++ found_of (exact_in boxes.now.bodies boxes.now.tree) query.now) }
+/// Appends the slots whose boxes meet a query, in the order of the leaves, and answers how many nodes it looked at. What kind it
+/// is is told here, once for all nodes: a region and a spot are asked as boxes, and a line whose numbers fit 32 bits is prepared.
+/// After an `Err` there may be some of them.
+pub fn push_hits(boxes: &BoxedTree, query: &Query, out: &mut Vec<u32>) -> Result<u32, NoMemory>
+    ensures ok { OnOk result (out.new.items ≡ out.old.items ++ found_of (exact_in boxes.now.bodies boxes.now.tree) query.now) }
+    ensures count { IfOk result (λ n. n ≡ visits_by_in boxes.now.tree query.now) }
 {
     match query {
-        Query::Region(region) => descend(boxes, region, out)?,
-        Query::Spot(at) => descend(boxes, &flat_box(at), out)?,
-        Query::Along(_) | Query::Between(_) => descend_along(boxes, query, out)?,
-    };
-    Ok(())
+        Query::Region(region) => descend(boxes, region, out),
+        Query::Spot(at) => descend(boxes, &flat_box(at), out),
+        Query::Along(_) | Query::Between(_) => descend_along(boxes, query, out),
+    }
 }
 
 // The box that is a point: what holds the point is what meets it.
@@ -36,7 +37,8 @@ fn flat_box(at: &Point) -> FBox
 
 // A descent with a line, prepared where its numbers fit.
 fn descend_along(boxes: &BoxedTree, query: &Query, out: &mut Vec<u32>) -> Result<u32, NoMemory>
-    ensures { OnOk result (out.new.items ≡ out.old.items ++ found_of (exact_in boxes.now.bodies boxes.now.tree) query.now) }
+    ensures count { IfOk result (λ n. n ≡ visits_by_in boxes.now.tree query.now) }
+    ensures ok { OnOk result (out.new.items ≡ out.old.items ++ found_of (exact_in boxes.now.bodies boxes.now.tree) query.now) }
 {
     if let Some(line) = LineTest::of(query) {
         return descend(boxes, &line, out);

@@ -13,7 +13,7 @@ mod search_room;
 mod tree_findings;
 mod waiting;
 
-pub use box_search::{push_others, search_boxes};
+pub use box_search::{push_others, search_boxes, search_each};
 pub use boxed_tree::BoxedTree;
 pub use descent::descend_with_box;
 pub use hits::push_hits;

@@ -18,7 +18,7 @@ returns-then-len-lt-FEWEST_GROUPED-clause-ok c kept are =
     let bs = c.args.boxes.now.bodies in
     let slots = sought_from c.args.marks.now 0 bs in
     renewed_run o bs c.args.boxes.now.fats s c.args.marks.now c.holding_laws.ensures.reach c.keeping_laws.ensures.renewing
-    slots c.clear.new.self.items c.search_all.new.found.pairs.items (sought_marked o bs c.args.boxes.now.fats s c.args.marks.now) c.clear.ensures.items
+    slots c.clear.new.self.items c.search_few.new.found.pairs.items (sought_marked o bs c.args.boxes.now.fats s c.args.marks.now) c.clear.ensures.items
     (λ p. ap (λ ps. has_pair ps p) (c.in_ok-few.ensures.ok
     ∙ ap (λ l. c.clear.new.self.items ++ gathered_with (searches bs o l)) (c.deref.ensures.value ∙ c.in_ok-push_sought.ensures.ok
     ∙ ap (sought_from c.args.marks.now 0) c.bodies.ensures))

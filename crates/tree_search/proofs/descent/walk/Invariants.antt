@@ -1,5 +1,6 @@
 use Rattle.std.proofs.Common.{◌+◌, ◌-◌, length}
-use Rattle.tree_search.specs.Descent.{Stands, visits_by_in}
+use Rattle.tree_search.specs.Descent.{Stands}
+use Rattle.tree_search.specs.Visits.{visits_by_in}
 use Rattle.tree_search.proofs.descent.walk.Given as goal
 
 abbrev pub invariant-walk : goal.invariant-walk
