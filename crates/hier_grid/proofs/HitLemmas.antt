@@ -10,10 +10,11 @@ use Rattle.fixed_box.specs.Bounds.{Bounds}
 use Rattle.broad_index.specs.declared.query.Query.{Query}
 use Rattle.broad_index.specs.Members.{has_slot, both_meet, is_found, is_reached, meets_query}
 use Rattle.broad_index.specs.Searched.{AreAllIn}
-use Rattle.hier_grid.specs.Search.{HasHitsBelow, HasMetIn, meets_at, is_partner}
+use Rattle.grid_boxes.specs.Candidates.{HasHitsBelow, HasMetIn}
+use Rattle.hier_grid.specs.Search.{meets_at, is_partner}
 use Rattle.slot_lists.specs.Present.{present}
-use Rattle.hier_grid.proofs.GridLemmas.{low_level, tie_is}
-use Rattle.hier_grid.proofs.SlotLemmas.{all_among}
+use Rattle.grid_boxes.specs.LevelLaws.{low_level, tie_is}
+use Rattle.grid_cells.specs.SlotLaws.{all_among}
 
 hit_at : (bodies : FinMap nat_cmp Bounds) (query : Query) (slots : List ℕ) → HasHitsBelow bodies 11 query slots
     → (q : ℕ) (o : Option Bounds) → get bodies q ≡ o → meets_query query o ≡ true → has_slot slots q ≡ true

@@ -1,14 +1,6 @@
-mod AppendLemmas
 mod BucketLemmas
-mod CellLemmas
-mod CornerLemmas
-mod ColumnLemmas
-mod GridLemmas
+mod DueLemmas
 mod HitLemmas
-mod LeveledLemmas
-mod MapLemmas
 mod PairLemmas
 mod PartnerLemmas
 mod RunLemmas
-mod SlotLemmas
-mod StandingLemmas

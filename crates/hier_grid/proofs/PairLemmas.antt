@@ -12,7 +12,7 @@ use Rattle.broad_index.specs.Members.{has_pair, has_slot, same_pair, both_meet, 
 use Rattle.broad_index.specs.Touched.{ordered, ordered_pairs}
 use Rattle.cell_table.specs.declared.cell_key.CellKey.{CellKey}
 use Rattle.hier_grid.specs.Search.{meets_at, is_partner, AreReached, IsDue, IsSound, HasPairs, FindsAll, FindsFor}
-use Rattle.hier_grid.proofs.CellLemmas.{cell_order}
+use Rattle.grid_cells.specs.CellLaws.{cell_order}
 use Rattle.broad_index.specs.PairLaws.{is_same, self_same}
 use Rattle.fixed_box.proofs.Bools.{or_true, same_bool}
 use Rattle.fixed_box.proofs.BoxLaws.{meets_either_way}

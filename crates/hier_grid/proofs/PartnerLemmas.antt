@@ -13,7 +13,7 @@ use Rattle.broad_index.specs.Members.{has_pair, has_slot, both_meet}
 use Rattle.broad_index.specs.Touched.{ordered, ordered_pairs}
 use Rattle.hier_grid.specs.Search.{meets_at, is_partner, AreReached, IsSound}
 use Rattle.hier_grid.proofs.PairLemmas.{sound_more, found_more}
-use Rattle.hier_grid.proofs.SlotLemmas.{has_filtered, more_right}
+use Rattle.grid_cells.specs.SlotLaws.{has_filtered, more_right}
 
 any_partner : (bodies : FinMap nat_cmp Bounds) (slot : ℕ) (body : Bounds) (any : Bool) (q : ℕ) → is_partner bodies slot body any q ≡ true
     → is_partner bodies slot body true q ≡ true

@@ -14,7 +14,7 @@ use Rattle.broad_index.specs.declared.pair.Pair.{Pair}
 use Rattle.broad_index.specs.Members.{has_pair, has_slot, is_near, same_pair}
 use Rattle.broad_index.specs.Touched.{ordered}
 use Rattle.cell_table.specs.declared.cell_key.CellKey.{CellKey}
-use Rattle.hier_grid.specs.Cells.{cell_of}
+use Rattle.grid_cells.specs.Cells.{cell_of}
 use Rattle.hier_grid.specs.Search.{FindsAll, FindsFor, FindsRun, HasPairs}
 use Rattle.slot_lists.specs.Present.{present}
 use Rattle.hier_grid.proofs.HitLemmas.{all_present}

@@ -1,6 +1,2 @@
-pub mod Buckets
-pub mod Cells
-pub mod Grid
-pub mod Leveled
+pub mod Listing
 pub mod Search
-pub mod Standing

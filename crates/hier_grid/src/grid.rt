@@ -4,22 +4,21 @@ ghost use Rattle.std.specs.Prelude.{◌≡◌, ◌↔◌, ◌<◌, ◌≤◌, �
 ghost use Rattle.std.specs.FinMap as map;
 ghost use Rattle.std.specs.List.{All};
 ghost use Rattle.broad_index.specs.Fresh.{IsFresh};
-ghost use Rattle.hier_grid.specs.Grid.{AreKeyed};
+ghost use Rattle.grid_boxes.specs.Grid.{AreKeyed};
 ghost use Rattle.hier_grid.specs.Search.{FindsRun};
 ghost use Rattle.slot_lists.specs.Present.{present};
 
-use crate::grid_boxes::GridBoxes;
 use crate::grid_findings::GridFindings;
 use crate::grid_listing::GridListing;
 use crate::hits::{push_hits, push_reach};
 use crate::pair_search::PairSearch;
-use crate::slot_box::SlotBox;
 use broad_index::{
     BroadPhase, FEWEST_SOUGHT, Pair, PairSeeker, Query, Seeker, join_pieces, push_rising_pairs,
     settle_pairs,
 };
 use cell_table::CellTable;
 use fixed_box::{FBox, NoMemory, SLOTS};
+use grid_boxes::{GridBoxes, SlotBox};
 use std::alloc::Global;
 use std::marker::Model;
 
@@ -66,7 +65,7 @@ impl Model for HierGrid {
     ghost use Rattle.std.specs.Coded.{coded_ℕ};
     ghost use Rattle.std.specs.FinMap.{FinMap, code};
     ghost use Rattle.fixed_box.specs.Bounds.{Bounds, coded_bounds};
-    ghost use Rattle.hier_grid.specs.Buckets.{IsListing};
+    ghost use Rattle.hier_grid.specs.Listing.{IsListing};
 
     ghost Value = { FinMap nat_cmp Bounds };
 
@@ -129,7 +128,7 @@ impl PairSeeker for HierGrid {
     fn seek_pairs(&self, alloc: Global, slots: &[u32]) -> Result<(Vec<Pair>, u64), NoMemory> {
         let mut found = GridFindings::new(alloc);
         let search = PairSearch::new(&self.kept, &self.listing);
-        let looked = search.find_run(slots, &mut found)?;
+        let looked = search.pairs_of_run(slots, &mut found)?;
         // in this thread, so that the pieces are only merged behind
         settle_pairs(&mut found.pairs);
         Ok((found.pairs, looked))
@@ -170,7 +169,7 @@ impl BroadPhase for HierGrid {
         ensures answer { result ≡ Ok tt }
         ensures bodies { self.new ≡ map.insert self.old slot body }
     {
-        self.listing.put(slot, &body);
+        self.listing.note_box(slot, &body);
         self.kept.put(slot, body);
         Ok(())
     }
@@ -182,7 +181,7 @@ impl BroadPhase for HierGrid {
         ensures answer { result ≡ Ok tt }
         ensures bodies { self.new ≡ map.insert self.old slot body }
     {
-        self.listing.put(slot, &body);
+        self.listing.note_box(slot, &body);
         self.kept.set(slot, body);
         Ok(())
     }
@@ -191,7 +190,7 @@ impl BroadPhase for HierGrid {
         requires present { map.contains_key self.old slot ≡ true }
         ensures gone { self.new ≡ map.remove self.old slot }
     {
-        self.listing.take(slot);
+        self.listing.note_gone(slot);
         self.kept.take(slot);
     }
 
@@ -199,7 +198,7 @@ impl BroadPhase for HierGrid {
         let many = self.kept.boxes().len() >= LISTED_FROM;
         self.listing.renew(&self.kept, many)?;
         let search = PairSearch::new(&self.kept, &self.listing);
-        let looked = search.find_all(&mut self.slots, &mut self.found)?;
+        let looked = search.all_pairs(&mut self.slots, &mut self.found)?;
         push_rising_pairs(&mut self.found.pairs, out)?;
         self.looked = self.looked.saturating_add(looked);
         Ok(())

@@ -5,9 +5,9 @@ ghost use Rattle.broad_index.specs.Members.{has_slot};
 ghost use Rattle.hier_grid.specs.Search.{Finds};
 
 use crate::partners::push_pairs;
-use crate::slot_box::SlotBox;
 use broad_index::Pair;
 use fixed_box::NoMemory;
+use grid_boxes::SlotBox;
 use slot_lists::SlotBoxes;
 use std::alloc::Global;
 
@@ -40,7 +40,7 @@ impl GridFindings {
 
     /// Finds the pairs of a slot with its partners among the slots that are near. Each of them is compared, and counted.
     #[inline(always)]
-    pub(crate) fn find_among(
+    pub(crate) fn pairs_among(
         &mut self,
         boxes: &SlotBoxes,
         own: &SlotBox,

@@ -4,11 +4,10 @@ ghost use Rattle.std.specs.Prelude.{◌≡◌, ◌<◌, is_some, IfSome};
 ghost use Rattle.std.specs.FinMap as map;
 ghost use Rattle.std.specs.Ordering.{nat_cmp};
 ghost use Rattle.fixed_box.specs.Bounds.{Bounds};
-ghost use Rattle.hier_grid.specs.Buckets.{IsListing};
+ghost use Rattle.hier_grid.specs.Listing.{IsListing};
 
-use crate::bucket_boxes::BucketBoxes;
-use crate::grid_boxes::GridBoxes;
 use fixed_box::{FBox, NoMemory, SLOTS};
+use grid_boxes::{BucketBoxes, GridBoxes};
 use std::alloc::Global;
 
 /// All boxes by bucket, and whether they are the boxes as they are now.
@@ -30,20 +29,20 @@ impl GridListing {
     }
 
     /// A slot gets a box, in place of one that it may have.
-    pub(crate) fn put(&mut self, slot: u32, body: &FBox)
+    pub(crate) fn note_box(&mut self, slot: u32, body: &FBox)
         requires { slot < SLOTS }
         ensures { (bodies : map.FinMap nat_cmp Bounds) → IsListing bodies self.old → IsListing (map.insert bodies slot body.now) self.new }
     {
         self.fresh = false;
-        self.boxes.put(slot, body);
+        self.boxes.note_box(slot, body);
     }
 
     /// A slot has no box any more.
-    pub(crate) fn take(&mut self, slot: u32)
+    pub(crate) fn note_gone(&mut self, slot: u32)
         ensures { (bodies : map.FinMap nat_cmp Bounds) → IsListing bodies self.old → IsListing (map.remove bodies slot) self.new }
     {
         self.fresh = false;
-        self.boxes.take(slot);
+        self.boxes.note_gone(slot);
     }
 
     /// Copies all boxes where that pays, if any has changed since it was done last.

@@ -5,15 +5,14 @@ ghost use Rattle.std.specs.FinMap as map;
 ghost use Rattle.broad_index.specs.Found.{found};
 ghost use Rattle.broad_index.specs.Members.{is_found};
 ghost use Rattle.broad_index.specs.Reach.{reach};
-ghost use Rattle.hier_grid.specs.Search.{HasHitsBelow, HasMetIn, IsRegionOf};
+ghost use Rattle.grid_boxes.specs.Candidates.{HasHitsBelow, HasMetIn, IsRegionOf};
 
-use crate::grid_boxes::GridBoxes;
-use crate::line_path::LinePath;
 use crate::partners::is_partner;
-use crate::slot_box::SlotBox;
 use broad_index::{Query, settle_slots_from};
 use cell_table::LEVELS;
 use fixed_box::{FBox, NoMemory};
+use grid_boxes::{GridBoxes, SlotBox};
+use grid_cells::LinePath;
 use prepared_query::{BoxTest, LineTest};
 use slot_lists::{SlotBoxes, keep_passing};
 
@@ -25,14 +24,14 @@ pub(crate) fn push_hits(kept: &GridBoxes, query: &Query, out: &mut Vec<u32>) -> 
     kept.space_law();
     let region = query.region();
     match query {
-        Query::Region(body) => push_near(kept, body, body, out),
-        Query::Spot(_) => push_near(kept, &region, query, out),
-        Query::Along(_) | Query::Between(_) => push_line(kept, &region, query, out),
+        Query::Region(body) => push_region_hits(kept, body, body, out),
+        Query::Spot(_) => push_region_hits(kept, &region, query, out),
+        Query::Along(_) | Query::Between(_) => push_line_hits(kept, &region, query, out),
     }
 }
 
 // The same for a query that is tested against the boxes near its region.
-fn push_near<T: BoxTest>(
+fn push_region_hits<T: BoxTest>(
     kept: &GridBoxes,
     region: &FBox,
     test: &T,
@@ -52,7 +51,7 @@ fn push_near<T: BoxTest>(
 }
 
 // The same for a line, which is prepared if its numbers fit 32 bits.
-fn push_line(
+fn push_line_hits(
     kept: &GridBoxes,
     region: &FBox,
     line: &Query,
@@ -64,13 +63,13 @@ fn push_line(
 {
     let path = LinePath::of(line, region);
     match LineTest::of(line) {
-        Some(prepared) => push_crossed(kept, region, &path, &prepared, out),
-        None => push_crossed(kept, region, &path, line, out),
+        Some(prepared) => push_path_hits(kept, region, &path, &prepared, out),
+        None => push_path_hits(kept, region, &path, line, out),
     }
 }
 
 // The same for a line as it is asked, which is followed by the cells that it crosses.
-fn push_crossed<T: BoxTest>(
+fn push_path_hits<T: BoxTest>(
     kept: &GridBoxes,
     region: &FBox,
     path: &LinePath,
@@ -82,7 +81,7 @@ fn push_crossed<T: BoxTest>(
     ensures err { OnErr result (out.new.items ≡ out.old.items) }
 {
     let before = out.len();
-    if let Err(e) = kept.push_crossed(region, path, test, out) {
+    if let Err(e) = kept.push_along(region, path, test, out) {
         out.truncate(before);
         return Err(e);
     }

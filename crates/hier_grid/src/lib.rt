@@ -1,30 +1,17 @@
 //! A hashed hierarchical grid: boxes in cells of eleven levels, by how long they are and where (Ericson, *Real-Time
 //! Collision Detection*, 2005, 7.2).
+//!
+//! `grid` has the broad phase. Its pairs come from `pair_search`: along copies of all boxes in the order of buckets
+//! (`list_search`, `copy_search`), or along the rings of links; its queries from `hits`.
 #![tactic(auto)]
 
-mod block_cut;
-mod bucket_boxes;
-mod cell;
-mod cell_block;
-mod cell_row;
-mod crossed_cells;
-mod floor;
+mod copy_search;
 mod grid;
-mod grid_boxes;
 mod grid_findings;
 mod grid_listing;
 mod hits;
-mod hull;
-mod later_cells;
-mod level_columns;
-mod leveled_boxes;
-mod line_path;
 mod list_search;
-mod merged_cells;
-mod near_cells;
 mod pair_search;
 mod partners;
-mod slot_box;
-mod standing_cells;
 
 pub use grid::HierGrid;

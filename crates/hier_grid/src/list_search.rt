@@ -2,20 +2,18 @@
 
 ghost use Rattle.std.specs.Prelude.{◌≡◌, ◌<◌, ◌≤◌, true, max, OnOk};
 ghost use Rattle.fixed_box.specs.Bounds.{Bounds, level_of};
-ghost use Rattle.hier_grid.specs.Buckets.{HasBuckets};
-ghost use Rattle.hier_grid.specs.Cells.{cell_of};
-ghost use Rattle.hier_grid.specs.Search.{Finds, FindsAll, IsDue, IsDueBeside, IsEnd};
-ghost use Rattle.hier_grid.specs.Standing.{standing_cell};
+ghost use Rattle.grid_boxes.specs.Buckets.{HasBuckets};
+ghost use Rattle.grid_cells.specs.Cells.{cell_of};
+ghost use Rattle.hier_grid.specs.Search.{Finds, FindsAll, IsDue, IsDueBeside};
+ghost use Rattle.grid_boxes.specs.Candidates.{IsEnd};
+ghost use Rattle.grid_cells.specs.Cells.{standing_cell};
 
-use crate::bucket_boxes::BucketBoxes;
-use crate::cell::cell_in;
-use crate::cell_row::row_of;
-use crate::grid_boxes::GridBoxes;
+use crate::copy_search::{block_pairs, later_pairs, row_pairs};
 use crate::grid_findings::GridFindings;
-use crate::near_cells::{block_beside, cells_after};
-use crate::slot_box::SlotBox;
 use cell_table::LEVELS;
 use fixed_box::NoMemory;
+use grid_boxes::{BucketBoxes, GridBoxes, SlotBox};
+use grid_cells::{block_beside, cell_in, cells_after, row_of};
 use std::marker::Model;
 
 /// What a search for pairs reads where all boxes are listed by bucket.
@@ -28,8 +26,9 @@ pub(crate) struct ListSearch<'a> {
 }
 
 impl<'a> Model for ListSearch<'a> {
-    ghost use Rattle.hier_grid.specs.Buckets.{HasBuckets, Standing, coded_standing};
-    ghost use Rattle.hier_grid.specs.Search.{IsEnd};
+    ghost use Rattle.grid_boxes.specs.Buckets.{HasBuckets};
+    ghost use Rattle.hier_grid.specs.Listing.{Standing, coded_standing};
+    ghost use Rattle.grid_boxes.specs.Candidates.{IsEnd};
 
     ghost Value = { Standing };
 
@@ -51,66 +50,71 @@ impl ListSearch<'_> {
     }
 
     /// Finds the pairs of all boxes, each from the box whose cell comes first as they stand here, and answers how many boxes
-    /// were compared. Two boxes of a level that is scanned, or of cells that share a bucket, may both find their pair. They
+    /// were compared. Two boxes of a level that is scanned, or of cells that share a bucket, may both pairs_due their pair. They
     /// are searched in the order of their buckets, so that a search reads much of what the one before it read.
-    pub(crate) fn find_all(&self, found: &mut GridFindings) -> Result<u64, NoMemory>
+    pub(crate) fn pairs_of_all(&self, found: &mut GridFindings) -> Result<u64, NoMemory>
         ensures { OnOk result (FindsAll self.now.bodies found.new.pairs.items) }
     {
         found.clear();
         let mut rest = self.boxes.entries();
         'boxes: while let [own, more @ ..] = rest {
-            self.find_standing(own, found)?;
+            self.pairs_of_standing(own, found)?;
             rest = more;
         }
         Ok(found.looked)
     }
 
-    /// Finds the pairs of a slot with those partners that it is to find by the cells of their boxes, wherever these stand. So
+    /// Finds the pairs of a slot with those partners that it is to pairs_due by the cells of their boxes, wherever these stand. So
     /// what a piece of the slots finds is told by the boxes alone.
-    pub(crate) fn find(&self, own: &SlotBox, found: &mut GridFindings) -> Result<(), NoMemory>
+    pub(crate) fn pairs_due(&self, own: &SlotBox, found: &mut GridFindings) -> Result<(), NoMemory>
         ensures { OnOk result (Finds self.now.bodies own.now true (IsDue cell_of own.now.slot own.now.body)
             found.old.pairs.items found.new.pairs.items) }
     {
         if own.body.level() < self.boxes.floor {
-            self.find_raised(own, found)
+            self.pairs_of_raised(own, found)
         } else {
-            self.find_standing(own, found)
+            self.pairs_of_standing(own, found)
         }
     }
 
     // The same where the slot's box stands above its own level. Its partners there of lower levels are found too: so a pair
     // of boxes that both stand there is found twice.
-    fn find_raised(&self, own: &SlotBox, found: &mut GridFindings) -> Result<(), NoMemory>
+    fn pairs_of_raised(&self, own: &SlotBox, found: &mut GridFindings) -> Result<(), NoMemory>
         ensures { OnOk result (Finds self.now.bodies own.now true (IsDue cell_of own.now.slot own.now.body)
             found.old.pairs.items found.new.pairs.items) }
     {
-        self.find_beside(self.boxes.floor, own, found)?;
-        self.find_from(self.boxes.floor + 1, own, found)?;
+        self.pairs_beside(self.boxes.floor, own, found)?;
+        self.pairs_from_level(self.boxes.floor + 1, own, found)?;
         Ok(())
     }
 
-    // Finds the pairs of a slot with those partners that it is to find by the cells in which their boxes stand.
-    fn find_standing(&self, own: &SlotBox, found: &mut GridFindings) -> Result<(), NoMemory>
+    // Finds the pairs of a slot with those partners that it is to pairs_due by the cells in which their boxes stand.
+    fn pairs_of_standing(&self, own: &SlotBox, found: &mut GridFindings) -> Result<(), NoMemory>
         ensures { OnOk result (Finds self.now.bodies own.now true (IsDue (standing_cell self.now.floor) own.now.slot own.now.body)
             found.old.pairs.items found.new.pairs.items) }
     {
         let level = own.body.level().max(self.boxes.floor);
-        self.find_there(level, own, found)?;
-        self.find_from(level + 1, own, found)?;
+        self.pairs_on_own_level(level, own, found)?;
+        self.pairs_from_level(level + 1, own, found)?;
         Ok(())
     }
 
     // The same with those that stand at the slot's level.
-    fn find_there(&self, level: u8, own: &SlotBox, found: &mut GridFindings) -> Result<(), NoMemory>
+    fn pairs_on_own_level(
+        &self,
+        level: u8,
+        own: &SlotBox,
+        found: &mut GridFindings,
+    ) -> Result<(), NoMemory>
         requires low { level < LEVELS }
         requires level { level ≡ max (level_of own.now.body) self.now.floor }
         ensures { OnOk result (Finds self.now.bodies own.now true (IsDueBeside (standing_cell self.now.floor) own.now.slot own.now.body)
             found.old.pairs.items found.new.pairs.items) }
     {
         if self.is_scanned(level, own) {
-            self.find_scanned(level, own, found)
+            self.pairs_by_scan(level, own, found)
         } else {
-            self.find_due(level, own, found)
+            self.pairs_after_own_cell(level, own, found)
         }
     }
 
@@ -123,7 +127,12 @@ impl ListSearch<'_> {
     }
 
     // The same by the cells beside the slot's box.
-    fn find_due(&self, level: u8, own: &SlotBox, found: &mut GridFindings) -> Result<(), NoMemory>
+    fn pairs_after_own_cell(
+        &self,
+        level: u8,
+        own: &SlotBox,
+        found: &mut GridFindings,
+    ) -> Result<(), NoMemory>
         requires low { level < LEVELS }
         requires level { level ≡ max (level_of own.now.body) self.now.floor }
         ensures { OnOk result (Finds self.now.bodies own.now true (IsDueBeside (standing_cell self.now.floor) own.now.slot own.now.body)
@@ -133,26 +142,41 @@ impl ListSearch<'_> {
         let looked = &mut found.looked;
         let pairs = &mut found.pairs;
         let cell = row_of(&cell_in(level, &own.body));
-        self.boxes.find_in_row(own, false, &cell, looked, pairs)?;
-        self.boxes
-            .find_later(own, &cells_after(level, &own.body), looked, pairs)?;
+        row_pairs(self.boxes, own, false, &cell, looked, pairs)?;
+        later_pairs(
+            self.boxes,
+            own,
+            &cells_after(level, &own.body),
+            looked,
+            pairs,
+        )?;
         Ok(())
     }
 
     // Finds the pairs of a slot with its partners at the levels from one on.
     #[inline(always)]
-    fn find_from(&self, first: u8, own: &SlotBox, found: &mut GridFindings) -> Result<(), NoMemory>
+    fn pairs_from_level(
+        &self,
+        first: u8,
+        own: &SlotBox,
+        found: &mut GridFindings,
+    ) -> Result<(), NoMemory>
         requires { self.now.floor ≤ first }
         ensures { OnOk result (Finds self.now.bodies own.now true (λ _ b. first ≤ level_of b) found.old.pairs.items found.new.pairs.items) }
     {
         'levels: for level in first..self.end {
-            self.find_at(level, own, found)?;
+            self.pairs_on_level(level, own, found)?;
         }
         Ok(())
     }
 
     // Finds the pairs of a slot with its partners at a level.
-    fn find_at(&self, level: u8, own: &SlotBox, found: &mut GridFindings) -> Result<(), NoMemory>
+    fn pairs_on_level(
+        &self,
+        level: u8,
+        own: &SlotBox,
+        found: &mut GridFindings,
+    ) -> Result<(), NoMemory>
         requires low { level < LEVELS }
         requires high { self.now.floor ≤ level }
         ensures { OnOk result (Finds self.now.bodies own.now true (λ _ b. level_of b ≡ level) found.old.pairs.items found.new.pairs.items) }
@@ -161,15 +185,15 @@ impl ListSearch<'_> {
             return Ok(());
         }
         if self.kept.has_few_beside(level, &own.body) {
-            self.find_scanned(level, own, found)?;
+            self.pairs_by_scan(level, own, found)?;
         } else {
-            self.find_beside(level, own, found)?;
+            self.pairs_beside(level, own, found)?;
         }
         Ok(())
     }
 
     // Finds the pairs of a slot with its partners of a level by a scan of the level.
-    fn find_scanned(
+    fn pairs_by_scan(
         &self,
         level: u8,
         own: &SlotBox,
@@ -181,12 +205,12 @@ impl ListSearch<'_> {
         found.slots.clear();
         self.kept
             .scan(level, &own.body, &mut found.looked, &mut found.slots)?;
-        found.find_among(self.kept.boxes(), own, true)?;
+        found.pairs_among(self.kept.boxes(), own, true)?;
         Ok(())
     }
 
     // Finds the pairs of a slot with its partners that stand at a level, by all cells beside its box.
-    fn find_beside(
+    fn pairs_beside(
         &self,
         level: u8,
         own: &SlotBox,
@@ -198,8 +222,7 @@ impl ListSearch<'_> {
     {
         self.kept.sized_law();
         let block = block_beside(level, &own.body);
-        self.boxes
-            .find_in_block(own, &block, &mut found.looked, &mut found.pairs)?;
+        block_pairs(self.boxes, own, &block, &mut found.looked, &mut found.pairs)?;
         Ok(())
     }
 }

@@ -2,20 +2,17 @@
 
 ghost use Rattle.std.specs.Prelude.{◌≡◌, ◌<◌, true, false, OnOk};
 ghost use Rattle.fixed_box.specs.Bounds.{level_of};
-ghost use Rattle.hier_grid.specs.Buckets.{IsListing};
-ghost use Rattle.hier_grid.specs.Cells.{cell_of, IsInRow};
+ghost use Rattle.hier_grid.specs.Listing.{IsListing};
+ghost use Rattle.grid_cells.specs.Cells.{cell_of, IsInRow};
 ghost use Rattle.hier_grid.specs.Search.{IsDue, IsOther, Finds, FindsAll, FindsRun, FindsSlot};
 
-use crate::cell::cell_of;
-use crate::cell_row::{CellRow, row_of};
-use crate::grid_boxes::GridBoxes;
 use crate::grid_findings::GridFindings;
 use crate::grid_listing::GridListing;
 use crate::list_search::ListSearch;
-use crate::near_cells::visit_row;
-use crate::slot_box::SlotBox;
 use cell_table::LEVELS;
 use fixed_box::NoMemory;
+use grid_boxes::{GridBoxes, SlotBox};
+use grid_cells::{CellRow, cell_of, row_of, visit_row};
 use std::marker::Model;
 
 /// What a search for pairs reads: the boxes, and once more by bucket where they are listed so; else the rings of links are
@@ -34,7 +31,7 @@ impl<'a> Model for PairSearch<'a> {
     ghost use Rattle.std.specs.Coded.{coded_ℕ};
     ghost use Rattle.std.specs.FinMap.{FinMap, code};
     ghost use Rattle.fixed_box.specs.Bounds.{Bounds, coded_bounds};
-    ghost use Rattle.hier_grid.specs.Search.{IsEnd};
+    ghost use Rattle.grid_boxes.specs.Candidates.{IsEnd};
 
     ghost Value = { FinMap nat_cmp Bounds };
 
@@ -60,7 +57,7 @@ impl PairSearch<'_> {
     }
 
     /// Finds the pairs of all boxes, and answers how many boxes were compared.
-    pub(crate) fn find_all(
+    pub(crate) fn all_pairs(
         &self,
         slots: &mut Vec<u32>,
         found: &mut GridFindings,
@@ -68,66 +65,74 @@ impl PairSearch<'_> {
         ensures { OnOk result (FindsAll self.now found.new.pairs.items) }
     {
         match &self.listed {
-            Some(search) => search.find_all(found),
-            None => self.find_by_slot(slots, found),
+            Some(search) => search.pairs_of_all(found),
+            None => self.all_pairs_by_slot(slots, found),
         }
     }
 
     // The same by slot, rising. The slots are listed first.
-    fn find_by_slot(&self, slots: &mut Vec<u32>, found: &mut GridFindings) -> Result<u64, NoMemory>
+    fn all_pairs_by_slot(
+        &self,
+        slots: &mut Vec<u32>,
+        found: &mut GridFindings,
+    ) -> Result<u64, NoMemory>
         ensures { OnOk result (FindsAll self.now found.new.pairs.items) }
     {
         self.kept.boxes().list(slots)?;
-        let looked = self.find_run(slots, found)?;
+        let looked = self.pairs_of_run(slots, found)?;
         Ok(looked)
     }
 
     /// Finds the pairs that some slots are to find, each at least once, and answers how many boxes were compared.
-    pub(crate) fn find_run(&self, slots: &[u32], found: &mut GridFindings) -> Result<u64, NoMemory>
+    pub(crate) fn pairs_of_run(
+        &self,
+        slots: &[u32],
+        found: &mut GridFindings,
+    ) -> Result<u64, NoMemory>
         ensures { OnOk result (FindsRun self.now slots.now found.new.pairs.items) }
     {
         found.clear();
         let mut rest = slots;
         'slots: while let [slot, more @ ..] = rest {
-            self.find_for(*slot, found)?;
+            self.pairs_of_slot(*slot, found)?;
             rest = more;
         }
         Ok(found.looked)
     }
 
     // Finds the pairs of a slot with its partners, if it is present.
-    fn find_for(&self, slot: u32, found: &mut GridFindings) -> Result<(), NoMemory>
+    fn pairs_of_slot(&self, slot: u32, found: &mut GridFindings) -> Result<(), NoMemory>
         ensures { OnOk result (FindsSlot self.now slot found.old.pairs.items found.new.pairs.items) }
     {
         let Some(body) = self.kept.boxes().box_of(slot) else {
             return Ok(());
         };
-        self.find_from(&SlotBox { slot, body }, found)?;
+        self.pairs_of_box(&SlotBox { slot, body }, found)?;
         Ok(())
     }
 
     // Finds the pairs of a slot with those partners that it is to find.
-    fn find_from(&self, own: &SlotBox, found: &mut GridFindings) -> Result<(), NoMemory>
+    fn pairs_of_box(&self, own: &SlotBox, found: &mut GridFindings) -> Result<(), NoMemory>
         ensures { OnOk result (Finds self.now own.now true (IsDue cell_of own.now.slot own.now.body) found.old.pairs.items found.new.pairs.items) }
     {
         match &self.listed {
-            Some(search) => search.find(own, found),
-            None => self.find_linked(own, found),
+            Some(search) => search.pairs_due(own, found),
+            None => self.pairs_by_rings(own, found),
         }
     }
 
     // The same by the rings of links.
-    fn find_linked(&self, own: &SlotBox, found: &mut GridFindings) -> Result<(), NoMemory>
+    fn pairs_by_rings(&self, own: &SlotBox, found: &mut GridFindings) -> Result<(), NoMemory>
         ensures { OnOk result (Finds self.now own.now true (IsDue cell_of own.now.slot own.now.body) found.old.pairs.items found.new.pairs.items) }
     {
         let cell = cell_of(&own.body);
-        self.find_own(own, &row_of(&cell), found)?;
-        self.find_others(own, cell.level, found)?;
+        self.ring_pairs_in_cell(own, &row_of(&cell), found)?;
+        self.ring_pairs_elsewhere(own, cell.level, found)?;
         Ok(())
     }
 
     // Finds the pairs of a slot with its partners of higher slots in its own cell, the only one of a row.
-    fn find_own(
+    fn ring_pairs_in_cell(
         &self,
         own: &SlotBox,
         row: &CellRow,
@@ -138,12 +143,12 @@ impl PairSearch<'_> {
     {
         found.slots.clear();
         visit_row(self.kept.cells(), row, &mut found.slots)?;
-        found.find_among(self.kept.boxes(), own, false)?;
+        found.pairs_among(self.kept.boxes(), own, false)?;
         Ok(())
     }
 
     // Finds the pairs of a slot with its partners in later cells of its level and at the levels above it.
-    fn find_others(
+    fn ring_pairs_elsewhere(
         &self,
         own: &SlotBox,
         level: u8,
@@ -159,7 +164,7 @@ impl PairSearch<'_> {
         self.kept.push_after(level, &own.body, looked, near)?;
         self.kept
             .push_from(level + 1, self.end, &own.body, looked, near)?;
-        found.find_among(self.kept.boxes(), own, true)?;
+        found.pairs_among(self.kept.boxes(), own, true)?;
         Ok(())
     }
 }

@@ -4,9 +4,9 @@ ghost use Rattle.std.specs.Prelude.{◌≡◌, ◌++◌, ◌==◌, ◌&&◌, ◌
 ghost use Rattle.broad_index.specs.Touched.{ordered, ordered_pairs};
 ghost use Rattle.hier_grid.specs.Search.{is_partner, meets_at};
 
-use crate::slot_box::SlotBox;
 use broad_index::Pair;
 use fixed_box::{FBox, NoMemory};
+use grid_boxes::SlotBox;
 use slot_lists::{SlotBoxes, push_filter_mapped};
 
 /// Appends a slot's pairs with its partners among others, either any or those with higher slots alone. After an `Err` `out` is

@@ -2,7 +2,7 @@
 use Rattle.std.proofs.Common.{◌≡◌, ap, ◌∙◌, ◌++◌, ◌≤◌, arith, drop, length, take, filter, rules}
 use Rattle.broad_index.specs.Found.{found}
 use Rattle.broad_index.specs.Members.{has_slot, is_found}
-use Rattle.hier_grid.proofs.AppendLemmas.{drop_kept, still_within, take_kept}
+use Rattle.grid_cells.specs.AppendLaws.{drop_kept, still_within, take_kept}
 use Rattle.hier_grid.proofs.HitLemmas.{hits_among}
 use Rattle.hier_grid.proofs.hits.keep_found.Goals as goal
 

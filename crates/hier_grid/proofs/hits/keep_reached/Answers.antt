@@ -3,7 +3,7 @@ use Rattle.std.proofs.Common.{◌≡◌, true, ap, ◌∙◌, ◌++◌, ◌≤�
 use Rattle.broad_index.specs.Members.{has_slot}
 use Rattle.broad_index.specs.Reach.{reach}
 use Rattle.hier_grid.specs.Search.{is_partner}
-use Rattle.hier_grid.proofs.AppendLemmas.{drop_kept, still_within, take_kept}
+use Rattle.grid_cells.specs.AppendLaws.{drop_kept, still_within, take_kept}
 use Rattle.hier_grid.proofs.HitLemmas.{reach_among}
 use Rattle.hier_grid.proofs.hits.keep_reached.Goals as goal
 

@@ -8,6 +8,6 @@ pub returns : goal.returns
 returns c =
     let pairs = c.settle_pairs.new.pairs.items in
     let slots = c.args.slots.now in
-    let found = c.find_run.new.found.pairs.items in
+    let found = c.pairs_of_run.new.found.pairs.items in
     let run = subst (λ bodies. FindsRun bodies slots found) c.new-search.ensures c.in_ok-looked.ensures in
     subst (λ bodies. FindsRun bodies slots pairs) c.self.view_is (settled_finds c.self.inside.kept slots found pairs c.settle_pairs.ensures.members run)

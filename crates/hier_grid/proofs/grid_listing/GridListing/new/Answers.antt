@@ -2,7 +2,7 @@
 use Rattle.std.proofs.Common.{subst, sym}
 use Rattle.std.specs.Prelude.{IfSome}
 use Rattle.std.proofs.lemmas.Bool.{false≢true}
-use Rattle.hier_grid.specs.Standing.{IsMerged}
+use Rattle.grid_boxes.specs.Standing.{IsMerged}
 use Rattle.hier_grid.proofs.grid_listing.GridListing.new.Goals as goal
 
 pub returns : goal.returns

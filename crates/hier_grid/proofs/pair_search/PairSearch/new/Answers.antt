@@ -1,6 +1,6 @@
 -- What is listed are the boxes as they are now.
 use Rattle.std.proofs.Common.{sym, subst}
-use Rattle.hier_grid.specs.Buckets.{HasBuckets}
+use Rattle.grid_boxes.specs.Buckets.{HasBuckets}
 use Rattle.hier_grid.proofs.pair_search.PairSearch.new.Goals as goal
 
 pub new-requires-clause-filled : goal.new-requires-clause-filled

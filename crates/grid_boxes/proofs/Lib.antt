@@ -1,0 +1,7 @@
+mod BucketLemmas
+mod ColumnLemmas
+mod GridLemmas
+mod HullLemmas
+mod LeveledLemmas
+mod MapLemmas
+mod StandingLemmas

@@ -1,0 +1,6 @@
+pub mod Buckets
+pub mod Candidates
+pub mod Grid
+pub mod LevelLaws
+pub mod Leveled
+pub mod Standing

@@ -1,0 +1,159 @@
+//! Copies of all boxes in the order of buckets, so that a row of cells is compared in place.
+
+ghost use Rattle.std.specs.Prelude.{◌≡◌, ◌<◌, true, None, OnOk, All, map as mapped};
+ghost use Rattle.std.specs.FinMap as map;
+ghost use Rattle.std.specs.Ordering.{nat_cmp};
+ghost use Rattle.fixed_box.specs.Bounds.{Bounds};
+ghost use Rattle.grid_boxes.specs.Buckets.{AreOf, HasBuckets, HasRowBoxes, IsEven, KeepsMerged, boxed};
+ghost use Rattle.grid_boxes.specs.Standing.{AreStanding};
+
+use crate::floor::floor_for;
+use crate::grid_boxes::GridBoxes;
+use crate::merged_cells::MergedCells;
+use crate::slot_box::SlotBox;
+use cell_table::{BucketList, CellTable, LEVELS};
+use fixed_box::{FBox, NoMemory, SLOTS};
+use grid_cells::CellRow;
+use slot_lists::{SlotBoxes, push_filter_mapped};
+use std::alloc::Global;
+
+/// All boxes beside their slots in the order of the buckets of the cells in which they stand, copied once for the searches of
+/// many slots. So the boxes of a row of cells stand together, and are compared in place. A box stands at its level, or at a
+/// floor above it.
+#[derive(Drop)]
+pub struct BucketBoxes {
+    list: BucketList,
+    entries: Vec<SlotBox>,
+    // From the first time that levels are merged on.
+    merged: Option<MergedCells>,
+    /// No box stands in a cell of a level below this one.
+    pub floor: u8,
+}
+
+impl BucketBoxes {
+    /// No box. It takes no memory.
+    pub fn new(alloc: Global) -> BucketBoxes
+        ensures { result.merged ≡ None }
+    {
+        BucketBoxes {
+            list: BucketList::new(alloc),
+            entries: Vec::new(alloc),
+            merged: None,
+            floor: 0,
+        }
+    }
+
+    /// Copies all boxes, those of low levels merged where that pays.
+    pub fn fill(&mut self, kept: &GridBoxes) -> Result<(), NoMemory>
+        requires { KeepsMerged kept.now self.old }
+        ensures filled { OnOk result (HasBuckets kept.now self.new) }
+        ensures merged { KeepsMerged kept.now self.new }
+    {
+        let floor = floor_for(kept);
+        if floor == 0 {
+            self.fill_own(kept)
+        } else {
+            self.fill_merged(kept, floor)
+        }
+    }
+
+    // Copies all boxes, each at its own level.
+    fn fill_own(&mut self, kept: &GridBoxes) -> Result<(), NoMemory>
+        requires { KeepsMerged kept.now self.old }
+        ensures filled { OnOk result (HasBuckets kept.now self.new) }
+        ensures merged { KeepsMerged kept.now self.new }
+    {
+        self.floor = 0;
+        self.fill_cells(kept, kept.cells())
+    }
+
+    // Copies all boxes, those of lower levels at a floor.
+    fn fill_merged(&mut self, kept: &GridBoxes, floor: u8) -> Result<(), NoMemory>
+        requires low { floor < LEVELS }
+        requires merged { KeepsMerged kept.now self.old }
+        ensures filled { OnOk result (HasBuckets kept.now self.new) }
+        ensures merged { KeepsMerged kept.now self.new }
+    {
+        let merged = match self.merged.take() {
+            Some(mut merged) => {
+                merged.set_floor(kept, floor);
+                merged
+            }
+            None => MergedCells::new(kept, floor, *self.entries.allocator())?,
+        };
+        self.floor = floor;
+        self.fill_cells(kept, merged.cells())?;
+        self.merged = Some(merged);
+        Ok(())
+    }
+
+    /// A slot gets a box, in place of one that it may have.
+    pub fn note_box(&mut self, slot: u32, body: &FBox)
+        requires { slot < SLOTS }
+        ensures { (bodies : map.FinMap nat_cmp Bounds) → KeepsMerged bodies self.old → KeepsMerged (map.insert bodies slot body.now) self.new }
+    {
+        if let Some(merged) = &mut self.merged {
+            merged.set_cell(slot, body);
+        }
+    }
+
+    /// A slot has no box any more.
+    pub fn note_gone(&mut self, slot: u32)
+        ensures { (bodies : map.FinMap nat_cmp Bounds) → KeepsMerged bodies self.old → KeepsMerged (map.remove bodies slot) self.new }
+    {
+        if let Some(merged) = &mut self.merged {
+            merged.drop_cell(slot);
+        }
+    }
+
+    // Copies all boxes, in the order of the buckets of the cells in which they stand.
+    fn fill_cells(&mut self, kept: &GridBoxes, cells: &CellTable) -> Result<(), NoMemory>
+        requires low { self.old.floor < LEVELS }
+        requires standing { AreStanding kept.now self.old.floor cells.now }
+        ensures filled { OnOk result (HasBuckets kept.now self.new) }
+        ensures same { self.new.merged ≡ self.old.merged }
+    {
+        self.list.fill(cells)?;
+        list_boxes(kept.boxes(), self.list.slots(), &mut self.entries)?;
+        Ok(())
+    }
+
+    /// The boxes beside their slots, bucket after bucket.
+    pub fn entries(&self) -> &[SlotBox]
+        ensures { result.now ≡ self.now.entries.items }
+    {
+        &self.entries
+    }
+
+    /// The boxes that stand in a row of cells: in one stretch, and in another one where the row goes on in the first buckets.
+    /// Boxes of other cells that share these buckets stand there too.
+    #[inline(always)]
+    pub fn row(&self, row: &CellRow) -> (&[SlotBox], &[SlotBox])
+        requires { IsEven self.now }
+        ensures { (bodies : map.FinMap nat_cmp Bounds) → HasBuckets bodies self.now → HasRowBoxes bodies self.now.floor row.now result.0.now result.1.now }
+    {
+        let places = self.list.row(&row.key, row.end);
+        let first = &self.entries[places.from..places.to];
+        let rest = &self.entries[..places.wrapped];
+        (first, rest)
+    }
+}
+
+// Replaces a list by some slots, each beside its box.
+fn list_boxes(boxes: &SlotBoxes, slots: &[u32], out: &mut Vec<SlotBox>) -> Result<(), NoMemory>
+    requires { All (λ slot. map.contains_key boxes.now slot ≡ true) slots.now }
+    ensures same { OnOk result (mapped (λ e. e.slot) out.new.items ≡ slots.now) }
+    ensures right { OnOk result (AreOf boxes.now out.new.items) }
+{
+    out.clear();
+    push_filter_mapped(slots, out, |slot| boxed(boxes, *slot))?;
+    Ok(())
+}
+
+// A slot beside its box, if it has one.
+fn boxed(boxes: &SlotBoxes, slot: u32) -> Option<SlotBox>
+    ensures { result ≡ boxed boxes.now slot }
+{
+    let body = boxes.box_of(slot)?;
+    Some(SlotBox { slot, body })
+}

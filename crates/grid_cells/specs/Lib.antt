@@ -1,0 +1,6 @@
+pub mod AppendLaws
+pub mod Appended
+pub mod CellLaws
+pub mod Cells
+pub mod Sized
+pub mod SlotLaws

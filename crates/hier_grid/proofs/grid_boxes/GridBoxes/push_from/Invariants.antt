@@ -1,6 +1,0 @@
--- The levels below this one are done.
-use Rattle.hier_grid.specs.Search.{Appends, HasMetIn}
-use Rattle.hier_grid.proofs.grid_boxes.GridBoxes.push_from.Given as goal
-
-abbrev pub invariant-levels : goal.invariant-levels
-invariant-levels l = Appends (HasMetIn l.self l.first l.level l.region) l.fn.slots.items l.slots.items

@@ -1,0 +1,24 @@
+-- A box that isn't raised stands in its own cell, and its partners that it is to pairs_due too.
+use Rattle.std.proofs.Common.{◌≤◌, true, ap, arith}
+use Rattle.std.proofs.lemmas.Result.{on_ok_weaker}
+use Rattle.fixed_box.specs.Bounds.{level_of}
+use Rattle.hier_grid.specs.Listing.{Standing}
+use Rattle.hier_grid.specs.Search.{Finds, IsDue}
+use Rattle.grid_cells.specs.Cells.{standing_cell}
+use Rattle.hier_grid.proofs.DueLemmas.{due_stands}
+use Rattle.hier_grid.proofs.list_search.ListSearch.pairs_due.Goals as goal
+
+pub returns-else-level-self : goal.returns-else-level-self
+returns-else-level-self c =
+    let own = c.args.own.now in
+    let bodies = c.args.self.now.bodies in
+    let floor = c.args.self.now.floor in
+    let old = c.args.found.now.pairs.items in
+    let new = c.pairs_of_standing.new.found.pairs.items in
+    let is = ap (λ (v : Standing). v.floor) c.self.view_is in
+    let low : floor ≤ level_of own.body = omega (arith, is, c.if-level-self.false, c.level.ensures.value) in
+    on_ok_weaker c.pairs_of_standing.result (λ (f : Finds bodies own true (IsDue (standing_cell floor) own.slot own.body) old new). record {
+      sound = f.sound;
+      more = f.more;
+      found = λ q b e due m other any. f.found q b e (due_stands floor own.slot own.body q b low due) m other any;
+    }) c.pairs_of_standing.ensures

@@ -1,9 +1,0 @@
--- Where the slot has no key there is none to take.
-use Rattle.std.proofs.Common.{◌≡◌, None, rules}
-use Rattle.std.specs.FinMap.{get}
-use Rattle.hier_grid.proofs.MapLemmas.{remove_absent}
-use Rattle.hier_grid.proofs.standing_cells.drop_key.Goals as goal
-
-pub returns-in-None : goal.returns-in-None
-returns-in-None c =
-    let there : get c.args.cells.now c.args.slot ≡ None = search rules in remove_absent c.args.cells.now c.args.slot there
