@@ -11,11 +11,27 @@ use crate::floor::floor_for;
 use crate::grid_boxes::GridBoxes;
 use crate::merged_cells::MergedCells;
 use crate::slot_box::SlotBox;
-use cell_table::{BucketList, CellTable, LEVELS};
+use cell_table::{BucketList, CellKey, CellTable, LEVELS};
 use fixed_box::{FBox, NoMemory, SLOTS};
-use grid_cells::CellRow;
+use grid_cells::{CellBlock, CellRow, row_at, standing_cell, with_x};
 use slot_lists::{SlotBoxes, push_filter_mapped};
 use std::alloc::Global;
+
+// How many of the boxes of a list share a bucket, as samples at equal steps of it tell. A bucket with more boxes than there are
+// between two samples is never passed by, whatever slots and cells they have.
+#[derive(Clone, Copy)]
+struct Crowding {
+    // In the fullest bucket.
+    fullest: usize,
+    // With each of 64 boxes, summed up.
+    shared: usize,
+}
+
+// A sample is taken in so many parts of the list.
+const SAMPLES: usize = 64;
+
+// In a heap a box shares its bucket with more than so many in the mean.
+const MOST_SHARED: usize = 16;
 
 /// All boxes beside their slots in the order of the buckets of the cells in which they stand, copied once for the searches of
 /// many slots. So the boxes of a row of cells stand together, and are compared in place. A box stands at its level, or at a
@@ -28,6 +44,7 @@ pub struct BucketBoxes {
     merged: Option<MergedCells>,
     /// No box stands in a cell of a level below this one.
     pub floor: u8,
+    crowding: Crowding,
 }
 
 impl BucketBoxes {
@@ -40,21 +57,32 @@ impl BucketBoxes {
             entries: Vec::new(alloc),
             merged: None,
             floor: 0,
+            crowding: Crowding {
+                fullest: 0,
+                shared: 0,
+            },
         }
     }
 
-    /// Copies all boxes, those of low levels merged where that pays.
+    /// Copies all boxes, those of low levels merged where that pays: where cells are to spare, and boxes don't lie in heaps.
     pub fn fill(&mut self, kept: &GridBoxes) -> Result<(), NoMemory>
         requires { KeepsMerged kept.now self.old }
         ensures filled { OnOk result (HasBuckets kept.now self.new) }
         ensures merged { KeepsMerged kept.now self.new }
     {
         let floor = floor_for(kept);
-        if floor == 0 {
-            self.fill_own(kept)
-        } else {
-            self.fill_merged(kept, floor)
+        if floor > 0 {
+            self.fill_merged(kept, floor)?;
+            if !self.are_heaped() {
+                return Ok(());
+            }
         }
+        self.fill_own(kept)
+    }
+
+    // Whether boxes lie in heaps, as samples tell.
+    fn are_heaped(&self) -> bool {
+        self.crowding.shared / SAMPLES > MOST_SHARED
     }
 
     // Copies all boxes, each at its own level.
@@ -115,7 +143,68 @@ impl BucketBoxes {
     {
         self.list.fill(cells)?;
         list_boxes(kept.boxes(), self.list.slots(), &mut self.entries)?;
+        self.crowding = self.crowding_now();
         Ok(())
+    }
+
+    // How many boxes share a bucket in the list as it is.
+    fn crowding_now(&self) -> Crowding
+        requires { self.now.floor < LEVELS }
+    {
+        let mut fullest = 0usize;
+        let mut shared = 0usize;
+        let step = self.entries.len() / SAMPLES + 1;
+        'samples: for sample in 0..SAMPLES {
+            let sharing = self.sharing(sample.saturating_mul(step));
+            fullest = fullest.max(sharing);
+            shared = shared.saturating_add(sharing);
+        }
+        Crowding { fullest, shared }
+    }
+
+    // How many boxes stand in the bucket of the one at a place, if there is one.
+    fn sharing(&self, place: usize) -> usize
+        requires { self.now.floor < LEVELS }
+    {
+        if place >= self.entries.len() {
+            return 0;
+        }
+        let cell = standing_cell(self.floor, &self.entries[place].body);
+        self.row_len(&CellRow {
+            key: cell,
+            end: cell.z.saturating_add(1),
+        })
+    }
+
+    // How many boxes stand in a row of cells, and in others that share its buckets.
+    fn row_len(&self, row: &CellRow) -> usize {
+        let places = self.list.row(&row.key, row.end);
+        (places.to - places.from).saturating_add(places.wrapped)
+    }
+
+    /// How many boxes stand in the fullest bucket, as samples tell. A bucket with fewer boxes than there are between two samples
+    /// may be passed by.
+    #[inline(always)]
+    pub fn fullest(&self) -> usize {
+        self.crowding.fullest
+    }
+
+    /// How many boxes stand in the rows of a block of cells, and in others that share their buckets.
+    pub fn block_len(&self, block: &CellBlock) -> usize {
+        let mut len = 0usize;
+        'block: for x in block.from.x..block.end.x {
+            len = len.saturating_add(self.plane_len(&with_x(&block.from, x), &block.end));
+        }
+        len
+    }
+
+    // How many boxes stand in the rows of cells at one x, from one corner on and below another.
+    fn plane_len(&self, from: &CellKey, end: &CellKey) -> usize {
+        let mut len = 0usize;
+        'plane: for y in from.y..end.y {
+            len = len.saturating_add(self.row_len(&row_at(from, y, end)));
+        }
+        len
     }
 
     /// The boxes beside their slots, bucket after bucket.

@@ -26,6 +26,9 @@ use std::marker::Model;
 // A scan of so many boxes for a line costs about as much as a step along it.
 const BOXES_PER_STEP: u32 = 16;
 
+// A scan of so many boxes for a region costs about as much as a look at a cell beside it.
+const BOXES_PER_CELL: u64 = 4;
+
 // A box is shorter than the cells of its level, so that it lies in at most two of them on each axis, and has at most so many
 // beside it.
 pub(crate) const MOST_BESIDE: u32 = 27;
@@ -329,7 +332,7 @@ impl GridBoxes {
         if !self.has_some(level) {
             return Ok(());
         }
-        if self.has_few(level, region) {
+        if self.is_scanned(level, region) {
             self.scan(level, region, looked, slots)
         } else {
             self.push_beside(level, region, slots)
@@ -344,12 +347,27 @@ impl GridBoxes {
         self.cells.level_len(level) > 0
     }
 
+    /// How many boxes a level has.
+    pub fn level_len(&self, level: u8) -> usize
+        requires { level < LEVELS }
+    {
+        self.cells.level_len(level) as usize
+    }
+
     /// Whether a box has more cells of a level, its own or a higher one, beside it than the level has boxes. Such a level is
     /// told by its boxes alone where they are no fewer than such cells can be.
     pub fn has_few_beside(&self, level: u8, body: &FBox) -> bool
         requires { level < LEVELS }
     {
         self.cells.level_len(level) < MOST_BESIDE && self.has_few(level, body)
+    }
+
+    // Whether a scan of a level costs less than a look at its cells beside a region.
+    fn is_scanned(&self, level: u8, region: &FBox) -> bool
+        requires { level < LEVELS }
+    {
+        let boxes = u64::from(self.cells.level_len(level));
+        count_beside(level, region).saturating_mul(BOXES_PER_CELL) > boxes
     }
 
     // Whether a region has more cells of a level beside it than the level has boxes.

@@ -16,6 +16,9 @@ use grid_boxes::{BucketBoxes, GridBoxes, SlotBox};
 use grid_cells::{block_beside, cell_in, cells_after, row_of};
 use std::marker::Model;
 
+// A scan of a level passes by so many boxes in the time of one comparison among the copies.
+const BOXES_PER_SCANNED: usize = 8;
+
 /// What a search for pairs reads where all boxes are listed by bucket.
 #[derive(Drop)]
 pub(crate) struct ListSearch<'a> {
@@ -184,12 +187,23 @@ impl ListSearch<'_> {
         if !self.kept.has_some(level) {
             return Ok(());
         }
-        if self.kept.has_few_beside(level, &own.body) {
+        if self.kept.has_few_beside(level, &own.body) || self.is_crowded(level, own) {
             self.pairs_by_scan(level, own, found)?;
         } else {
             self.pairs_beside(level, own, found)?;
         }
         Ok(())
+    }
+
+    // Whether a scan of a level costs less than a look at the boxes beside one: where its cells there share the buckets of a heap,
+    // which may be of other levels.
+    #[inline(always)]
+    fn is_crowded(&self, level: u8, own: &SlotBox) -> bool
+        requires { level < LEVELS }
+    {
+        let most = self.kept.level_len(level) / BOXES_PER_SCANNED;
+        // few lists have a bucket that is worth a look
+        self.boxes.fullest() > most && self.boxes.block_len(&block_beside(level, &own.body)) > most
     }
 
     // Finds the pairs of a slot with its partners of a level by a scan of the level.
