@@ -11,4 +11,6 @@ mod grids;
 #[cfg(test)]
 mod nodes;
 #[cfg(test)]
+mod slow_grids;
+#[cfg(test)]
 mod trees;
