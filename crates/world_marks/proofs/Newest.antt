@@ -1,6 +1,8 @@
 -- The newest mark, behind the others.
-use Rattle.std.proofs.Common.{◌≡◌, Bool, false, List, [], ◌∷◌, ◌++◌, length, Option, Some, None, is_some, option_map, refl, ap, sym, ◌∙◌, map, arith}
-use Rattle.std.proofs.lemmas.List.{length-append}
+use Rattle.std.proofs.Common.{◌≡◌, ℕ, ◌≤◌, Bool, false, List, [], ◌∷◌, ◌++◌, length, Option, Some, None, is_some, option_map}
+use Rattle.std.proofs.Common.{refl, ap, sym, ◌∙◌, map, drop, arith}
+use Rattle.std.specs.Option.{option_to_list}
+use Rattle.std.proofs.lemmas.List.{length-append, length-map, drop-map, drop-append-le}
 use Rattle.world_marks.specs.declared.held.Held.{Held}
 use Rattle.world_marks.specs.HeldMarks.{mark_of, marks_of}
 use Rattle.world_marks.specs.Marks.{Mark, with_newest}
@@ -52,3 +54,11 @@ pub some_newest : (older : List Held) (newest : Option Held) (h : Held) → newe
 some_newest older newest h is these =
     let no : length (map mark_of older ++ mark_of h ∷ []) ≡ 0 = ap (λ o. length (marks_of older o)) (sym is) ∙ ap length these in
     let one = length-append (map mark_of older) (mark_of h ∷ []) in omega (arith, no, one)
+
+-- the first of the older marks are given up
+pub forgotten_first : (count : ℕ) (older left : List Held) (newest : Option Held) → count ≤ length older → left ≡ drop count older
+    → marks_of left newest ≡ drop count (marks_of older newest)
+forgotten_first count older left newest few is =
+    let last = map mark_of (option_to_list newest) in
+    ap (λ hs. map mark_of hs ++ last) is ∙ ap (λ ms. ms ++ last) (sym (drop-map mark_of count older))
+    ∙ sym (drop-append-le count (map mark_of older) last (omega (arith, few, length-map older mark_of)))

@@ -1,6 +1,6 @@
 //! A mark that is held: what its world had, and the journal of what undoes each change since.
 
-ghost use Rattle.std.specs.Prelude.{◌≡◌, ◌<◌, ◌+◌, Some};
+ghost use Rattle.std.specs.Prelude.{◌≡◌, ◌<◌, ◌+◌, [], Some};
 ghost use Rattle.world_marks.specs.HeldMarks.{mark_of, spare_of};
 ghost use Rattle.world_marks.specs.Marks.{noted, keeping};
 
@@ -26,6 +26,20 @@ impl Held {
         ensures spare { spare_of (Some self.new) + 1 ≡ spare_of (Some self.old) }
     {
         self.undos.push_reserved(undo);
+    }
+
+    // Its list of changes, emptied for another mark.
+    pub fn emptied(self) -> Vec<Undo>
+        ensures { result.items ≡ [] }
+    {
+        let Held {
+            frames: _,
+            exchanges: _,
+            kept: _kept,
+            mut undos,
+        } = self;
+        undos.clear();
+        undos
     }
 
     // Keeps the pairs of the last frame, where there are none.

@@ -1,7 +1,7 @@
 //! The stack of marks: mark, note what undoes each change, and go back to the newest.
 
 ghost use Rattle.std.specs.Prelude.{◌≡◌, ◌≢◌, ◌<◌, ◌≤◌, ◌+◌, ◌^◌, ◌↔◌, ◌++◌, [], ◌∷◌, List, Bool, true, false, length, Ok, None, Some, IfOk, OnOk, is_some};
-ghost use Rattle.std.specs.Prelude.{OnErr, not, nat_lt};
+ghost use Rattle.std.specs.Prelude.{OnErr, not, nat_lt, drop, vec_len, vec_capacity};
 ghost use Rattle.live_table.specs.Bodies.{bodies_of};
 ghost use Rattle.live_table.specs.Table.{IsTable};
 ghost use Rattle.world_marks.specs.declared.TheConstants.{MOST_MARKS};
@@ -100,6 +100,39 @@ impl Marks {
         true
     }
 
+    /// Gives up the oldest marks, so many of them: nobody can go back to them any more, and the others lead to what they did. Where fewer
+    /// are held it answers false, and changes nothing.
+    ///
+    /// It takes no memory. What the marks kept is freed, except one list of changes, which the next mark gets: so a ring of marks, in
+    /// which the oldest goes where a new one comes, asks for no memory once its lists have grown.
+    pub fn forget(&mut self, count: u32) -> bool
+        ensures held { result ≡ not (nat_lt (length self.old.marks) count) }
+        ensures forgotten { result ≡ true → self.new.marks ≡ drop count self.old.marks }
+        ensures spare { count < length self.old.marks → self.new.spare ≡ self.old.spare }
+        ensures same { result ≡ false → self.new ≡ self.old }
+    {
+        if self.held() < count {
+            return false;
+        }
+        let count = count as usize;
+        if count <= self.older.len() {
+            forget_first(&mut self.older, count, &mut self.idle);
+        } else {
+            self.forget_all();
+        }
+        true
+    }
+
+    // No mark is held any more.
+    fn forget_all(&mut self)
+        ensures { self.new.marks ≡ [] }
+    {
+        self.older.clear();
+        if let Some(newest) = self.newest.take() {
+            self.idle = newest.emptied();
+        }
+    }
+
     /// Makes room for one more change. After an `Err` all is as before.
     pub fn room(&mut self) -> Result<(), NoMemory>
         ensures room { OnOk result (0 < self.new.spare) }
@@ -188,5 +221,19 @@ impl Marks {
         self.newest = self.older.pop();
         self.idle = undos;
         Ok(Some(Restored { frames, exchanges }))
+    }
+}
+
+// Takes the first marks out, so many of them. The list of changes of the last one stays, emptied.
+fn forget_first(older: &mut Vec<Held>, count: usize, idle: &mut Vec<Undo>)
+    requires some { count ≤ vec_len older.old }
+    ensures left { older.new.items ≡ drop count older.old.items }
+    ensures room { vec_capacity older.new ≡ vec_capacity older.old }
+    ensures empty { idle.old.items ≡ [] → idle.new.items ≡ [] }
+{
+    let mut left = count;
+    'forgotten: while 0 < left {
+        *idle = older.remove(0).emptied();
+        left -= 1;
     }
 }
