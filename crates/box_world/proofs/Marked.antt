@@ -1,8 +1,8 @@
 -- Serves proofs alone: what each change, frame, mark and way back makes of the worlds that the marks stand for, and of the way
 -- back to them.
-use Rattle.std.proofs.Common.{◌≡◌, ◌≢◌, ℕ, ◌+◌, suc, true, false, nat_lt, List, [], ◌∷◌, ◌++◌, Option, Some, None, reverse, length, refl}
+use Rattle.std.proofs.Common.{◌≡◌, ◌≢◌, ℕ, ◌+◌, ◌-◌, suc, true, false, nat_lt, List, [], ◌∷◌, ◌++◌, Option, Some, None, reverse, length, take, drop, refl}
 use Rattle.std.proofs.Common.{sym, ap, ◌∙◌, subst, arith}
-use Rattle.std.proofs.lemmas.List.{reverse-append, length-reverse}
+use Rattle.std.proofs.lemmas.List.{reverse-append, length-reverse, length-drop, take-append-drop}
 use Rattle.live_table.specs.Table.{Table}
 use Rattle.pair_events.specs.declared.hpair.HPair.{HPair}
 use Rattle.pair_events.specs.PairEvents.{is_in_order}
@@ -10,7 +10,7 @@ use Rattle.world_marks.specs.declared.TheConstants.{MOST_MARKS}
 use Rattle.world_marks.specs.declared.undo.Undo.{Undo}
 use Rattle.world_marks.specs.Marks.{Mark, fresh, noted, keeping, or_kept, with_newest, IsReturn}
 use Rattle.world_marks.specs.Undone.{after_undo, undone, CanUndo, AreUndoable}
-use Rattle.box_world.specs.World.{World, Timeline, marked}
+use Rattle.box_world.specs.World.{World, Timeline, marked, forgotten}
 use Rattle.box_world.specs.Parts.{marked_world, worlds_back, CanReturn}
 
 -- the laws of lists of changes that are cited here: such a list is undone in two parts
@@ -140,6 +140,42 @@ no_worlds w [] none = refl
 no_worlds w (m ∷ ms) none =
     let many : length (worlds_back w (reverse (m ∷ ms))) ≡ suc (length ms) = marks_as_worlds w (m ∷ ms) in
     let few : length (worlds_back w (reverse (m ∷ ms))) ≡ 0 = ap length none in absurd (omega (arith, many, few))
+
+-- the newer marks lead to their worlds without the older ones
+worlds_of_newer : (w : World) (ms older : List Mark) → take (length ms) (worlds_back w (ms ++ older)) ≡ worlds_back w ms
+worlds_of_newer w [] older = refl
+worlds_of_newer w (m ∷ ms) older = ap (λ ws. marked_world w m ∷ ws) (worlds_of_newer (marked_world w m) ms older)
+
+returns_of_newer : (t : Table) (ms older : List Mark) → CanReturn t (ms ++ older) → CanReturn t ms
+returns_of_newer t [] older h = tt
+returns_of_newer t (m ∷ ms) older h = (h.0, returns_of_newer (undone m.undos t) ms older h.1)
+
+reverse-parts : (count : ℕ) (ms : List Mark) → reverse ms ≡ reverse (drop count ms) ++ reverse (take count ms)
+reverse-parts count ms = ap reverse (sym (take-append-drop count ms)) ∙ reverse-append (take count ms) (drop count ms)
+
+-- the oldest marks are given up, which are the first ones
+pub forgotten_worlds : (w : World) (count : ℕ) (ms ns : List Mark) → ns ≡ drop count ms
+    → worlds_back w (reverse ns) ≡ take (length (worlds_back w (reverse ms)) - count) (worlds_back w (reverse ms))
+forgotten_worlds w count ms ns is =
+    let newer = reverse (drop count ms) in
+    let older = reverse (take count ms) in
+    let left : length newer ≡ length (worlds_back w (reverse ms)) - count =
+    length-reverse (drop count ms) ∙ length-drop count ms ∙ ap (λ n. n - count) (sym (marks_as_worlds w ms)) in
+    ap (λ ks. worlds_back w (reverse ks)) is ∙ sym (worlds_of_newer w newer older) ∙ ap (λ n. take n (worlds_back w (newer ++ older))) left
+    ∙ ap (λ ks. take (length (worlds_back w (reverse ms)) - count) (worlds_back w ks)) (sym (reverse-parts count ms))
+
+pub forgotten_returns : (t : Table) (count : ℕ) (ms ns : List Mark) → ns ≡ drop count ms → CanReturn t (reverse ms) → CanReturn t (reverse ns)
+forgotten_returns t count ms ns is h =
+    subst (λ ks. CanReturn t (reverse ks)) (sym is)
+    (returns_of_newer t (reverse (drop count ms)) (reverse (take count ms)) (subst (CanReturn t) (reverse-parts count ms) h))
+
+-- marks are given up where so many are held, and else none
+pub after_forget : (t : Timeline) (count : ℕ) → nat_lt (length t.marks) count ≡ false
+    → forgotten count t ≡ record t { marks = take (length t.marks - count) t.marks }
+after_forget t count enough = rw enough refl
+
+pub after_no_forget : (t : Timeline) (count : ℕ) → nat_lt (length t.marks) count ≡ true → forgotten count t ≡ t
+after_no_forget t count few = rw few refl
 
 -- the last of marks
 pub record EndsIn (ms : List Mark) : Type 0 where

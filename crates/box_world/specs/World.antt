@@ -1,5 +1,5 @@
 -- A world of live boxes with its marks, and what each change, frame, mark and way back makes of it.
-use Rattle.std.specs.Prelude.{ℕ, ◌+◌, Bool, nat_lt, List, [], ◌∷◌, length, if◌then◌else◌}
+use Rattle.std.specs.Prelude.{ℕ, ◌+◌, ◌-◌, Bool, nat_lt, List, [], ◌∷◌, length, take, if◌then◌else◌}
 use Rattle.fixed_box.specs.Bounds.{Bounds}
 use Rattle.live_table.specs.declared.group.Group.{Group}
 use Rattle.live_table.specs.declared.handle.Handle.{Handle}
@@ -80,3 +80,7 @@ back_to t (w ∷ older) = record { now = w; marks = older }
 -- the world is the one that was marked last, and its mark is gone
 abbrev pub gone_back : Timeline → Timeline
 gone_back t = back_to t t.marks
+
+-- the worlds that were marked first, so many of them, are marked no longer; where fewer are marked nothing changes
+abbrev pub forgotten : ℕ → Timeline → Timeline
+forgotten count t = if nat_lt (length t.marks) count then t else record t { marks = take (length t.marks - count) t.marks }

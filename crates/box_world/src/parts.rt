@@ -1,7 +1,7 @@
 //! The live boxes, the index, the last pairs and the marks of a world, changed together.
 
 ghost use Rattle.std.specs.Prelude.{◌≡◌, ◌≢◌, ◌≤◌, ◌<◌, ◌↔◌, ◌+◌, ◌^◌, ◌++◌, [], true, false, length, sum, nat_lt, is_some, None, IfOk, IfErr, OnOk};
-ghost use Rattle.std.specs.Prelude.{OnErr, Ok, Err};
+ghost use Rattle.std.specs.Prelude.{OnErr, Ok, Err, not};
 ghost use Rattle.std.specs.FinMap.{contains_key};
 ghost use Rattle.fixed_box.specs.declared.TheConstants.{SLOTS};
 ghost use Rattle.live_table.specs.Entries.{entry_at};
@@ -48,7 +48,7 @@ impl<B: BroadPhase + Drop> Parts<B> {
     ghost use Rattle.live_table.specs.Table.{IsTable, IsLeastFree, next_handle};
     ghost use Rattle.world_marks.specs.declared.TheConstants.{MOST_MARKS};
     ghost use Rattle.box_world.specs.declared.refusal.Refusal.TheVariants.{Stale, NoMemory as no_memory};
-    ghost use Rattle.box_world.specs.World.{beginning, added, moved, masked, removed, marked, gone_back};
+    ghost use Rattle.box_world.specs.World.{beginning, added, moved, masked, removed, marked, forgotten, gone_back};
     ghost use Rattle.box_world.specs.Answers.{is_counted_out};
     ghost use Rattle.box_world.specs.Parts.{world_in, timeline_in, IsSound, IsChanged, IsCutOff, IsToNote, Explains, TellSame, told_in, restored};
 
@@ -224,6 +224,17 @@ impl<B: BroadPhase + Drop> Parts<B> {
     {
         let exchanges = self.exchanges();
         self.marks.mark(self.frames, exchanges)
+    }
+
+    // Gives up the oldest marks, so many of them. False where fewer are held, and then nothing changes.
+    pub(crate) fn forget(&mut self, count: u32) -> bool
+        requires sound { IsSound B.bodies B.spent B.exchanges self.old }
+        ensures held { result ≡ not (nat_lt (length (timeline_in B.exchanges self.old).marks) count) }
+        ensures forgotten { timeline_in B.exchanges self.new ≡ forgotten count (timeline_in B.exchanges self.old) }
+        ensures tells { TellSame self.old self.new }
+        ensures sound { IsSound B.bodies B.spent B.exchanges self.new }
+    {
+        self.marks.forget(count)
     }
 
     // Goes back to the newest mark. False where none is held. After an `Err` the index is spent, and all else is as before.

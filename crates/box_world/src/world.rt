@@ -1,10 +1,10 @@
 //! A world and its changes: boxes come, move and go, frames end, and marks are gone back to.
 
-ghost use Rattle.std.specs.Prelude.{◌≡◌, ◌≢◌, [], true, false, length, Ok, Err, None, nat_lt, IfOk, OnErr};
+ghost use Rattle.std.specs.Prelude.{◌≡◌, ◌≢◌, [], true, false, length, Ok, Err, None, not, nat_lt, IfOk, OnErr};
 ghost use Rattle.live_table.specs.Table.{next_handle};
 ghost use Rattle.world_marks.specs.declared.TheConstants.{MOST_MARKS};
 ghost use Rattle.box_world.specs.declared.refusal.Refusal.TheVariants.{NoMemory as no_memory};
-ghost use Rattle.box_world.specs.World.{added, moved, masked, removed, marked, gone_back, pairs};
+ghost use Rattle.box_world.specs.World.{added, moved, masked, removed, marked, forgotten, gone_back, pairs};
 ghost use Rattle.box_world.specs.Answers.{Answers, opened, with_world, with_time, after_frame};
 ghost use Rattle.box_world.specs.Answers.{add_refusal, shift_refusal, change_refusal, frame_refusal};
 
@@ -244,6 +244,20 @@ impl<B: BroadPhase + Drop> BoxWorld<B> {
             return Err(Refusal::NoMemory);
         }
         Ok(self.parts.mark())
+    }
+
+    /// Gives up the oldest marks, so many of them: the world as it stands and the newer marks are as before, and the older worlds can't be
+    /// gone back to any more. It answers false where fewer are held, and then nothing changes. It takes no memory: `NoMemory` comes where
+    /// the world is spent. It frees what the marks kept, except one list of changes, which the next mark gets.
+    pub fn forget(&mut self, count: u32) -> Result<bool, Refusal>
+        ensures answer { Answers None (with_time self.old (forgotten count self.old.time)) result self.old self.new }
+        ensures held { IfOk result (λ gone. gone ≡ not (nat_lt (length self.old.time.marks) count)) }
+        ensures spent { OnErr result (self.old.spent ≡ true) }
+    {
+        if self.spent {
+            return Err(Refusal::NoMemory);
+        }
+        Ok(self.parts.forget(count))
     }
 
     /// Goes back to the newest mark, which is then gone: the live boxes, their handles and those of later boxes, the last pairs, the
