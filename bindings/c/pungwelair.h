@@ -68,12 +68,12 @@ typedef struct pw_world {
 typedef uint32_t pw_status;
 enum {
     PW_OK = 0,
-    PW_STALE = 1,         /* no live box has the handle */
+    PW_STALE = 1,         /* no live box has the handle, or is in the slot */
     PW_FULL = 2,          /* PW_SLOTS boxes live, or PW_MOST_MARKS marks are held */
     PW_NO_MEMORY = 3,     /* malloc gave none, and what ran out wasn't done: of a batch the steps before it were. After pw_add,
                              pw_move or pw_back a world over PW_PLAIN or PW_SAP may be spent, which pw_info tells; one over PW_TREE,
-                             PW_GRID or PW_SKIN never is. A spent world keeps what it had: pw_get, pw_pairs, pw_events, pw_changes
-                             and pw_info tell its boxes, pairs, events, frames and marks, and all that would change or ask it gives
+                             PW_GRID or PW_SKIN never is. A spent world keeps what it had: pw_get, pw_at, pw_pairs, pw_events,
+                             pw_changes and pw_info tell its boxes, pairs, events, frames and marks, and all that would change or ask it gives
                              this. Close it, open another one and add its boxes there. After any other call all is as before: ask
                              again. */
     PW_INVERTED = 4,      /* lo > hi on some axis */
@@ -82,7 +82,7 @@ enum {
                              world that would be opened */
     PW_EXHAUSTED = 7,     /* a number is at its end, which no game comes to: each slot without a box was given 4,294,967,295 times, as
                              many frames ended as 64 bits count, or over PW_SAP 2^62 exchanges were counted since the last one */
-    PW_NO_MARK = 8,       /* no mark is held to go back to */
+    PW_NO_MARK = 8,       /* no mark is held to go back to, or fewer are than are to be given up */
     PW_NOT_A_NUMBER = 9,  /* a float is a NaN */
     PW_OUT_OF_RANGE = 10  /* a float, rounded as the call says, is below -32,768 or above 32,767.99998, or it is an infinity */
 };
@@ -242,6 +242,11 @@ pw_status pw_remove(pw_world *world, const pw_handle *handles, size_t handles_le
 /* The live box that has a handle. PW_STALE, and `out` is as it was. One look-up; it also answers in a spent world. */
 pw_status pw_get(pw_world *world, pw_handle handle, pw_live *out);
 
+/* The live box in a slot, with its handle. A loop over the slots from 0 to PW_SLOTS - 1 reads all live boxes: to draw them, to store them,
+ * or to add them to another world. PW_STALE: no live box is in the slot, as in none from PW_SLOTS on, and `handle` and `out` are as they
+ * were. One look-up; it also answers in a spent world. */
+pw_status pw_at(pw_world *world, uint32_t slot, pw_handle *handle, pw_live *out);
+
 /* Ends the frame: finds the pairs of the boxes as they stand and what became of each since the last frame, and tells how many
  * there are. They stay readable until the next update. Where no box came, moved, got other masks or went since the last update, and
  * nobody went back, nothing is searched, nothing begins and nothing is over: it takes the same time however many boxes and pairs there
@@ -282,6 +287,12 @@ pw_status pw_nearest(pw_world *world, const pw_near *near_to, pw_handle *out, si
 /* Marks the world as it stands, for rollback. It takes no memory, so that PW_NO_MEMORY comes of a spent world alone. PW_FULL:
  * PW_MOST_MARKS are held. */
 pw_status pw_mark(pw_world *world);
+
+/* Gives up the `count` oldest marks, which makes room for new ones: the world as it stands and the newer marks are as before, and
+ * the older worlds can't be gone back to any more. So marks are a ring for a netcode that marks each tick and mostly goes on: where as many
+ * are held as ticks may be wrong, forget 1 and mark. It takes no memory, so that PW_NO_MEMORY comes of a spent world alone. PW_NO_MARK:
+ * fewer are held, and none is given up. */
+pw_status pw_forget(pw_world *world, uint32_t count);
 
 /* Goes back to the newest mark, which is then gone: the live boxes, their handles and those of later boxes, the pairs of the last frame
  * and the numbers of frames and exchanges are exactly what they were. It takes a step for each change since. PW_NO_MARK. */

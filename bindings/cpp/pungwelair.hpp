@@ -196,6 +196,12 @@ inline Result<int32_t> try_fix_above(double number) noexcept {
 [[nodiscard]] inline std::optional<int32_t> fix_below(double number) noexcept { return try_fix_below(number); }
 [[nodiscard]] inline std::optional<int32_t> fix_above(double number) noexcept { return try_fix_above(number); }
 
+// A live box with its handle.
+struct Placed {
+    pw_handle handle;
+    pw_live live;
+};
+
 // A world, which is closed where it ends. It can be moved and not copied; what it was moved from is a closed world. Questions aren't
 // const: each takes the world out of its words and puts it back, so two threads may not ask at once either.
 class World {
@@ -263,6 +269,17 @@ public:
     }
     [[nodiscard]] std::optional<pw_live> get(pw_handle handle) noexcept { return try_get(handle); }
 
+    Result<Placed> try_at(uint32_t slot) noexcept {
+        Placed placed{};
+        pw_status status = pw_at(&world, slot, &placed.handle, &placed.live);
+        return result_of(status, placed);
+    }
+    [[nodiscard]] std::optional<Placed> at(uint32_t slot) noexcept { return try_at(slot); }
+    class Boxes;
+    // All live boxes, by their slots, for a loop: none of a closed world. The loop may change the world, since each slot is read when its
+    // turn comes.
+    [[nodiscard]] Boxes boxes() noexcept;
+
     Frame update() noexcept {
         pw_counts counts{};
         Status status = Status(pw_update(&world, &counts));
@@ -316,6 +333,8 @@ public:
     [[nodiscard]] std::optional<pw_handle> first_hit(const pw_ray& ray) noexcept { return *try_first_hit(ray); }
 
     Status mark() noexcept { return Status(pw_mark(&world)); }
+    // Gives up the oldest marks.
+    Status forget(uint32_t count = 1) noexcept { return Status(pw_forget(&world, count)); }
     Status back() noexcept { return Status(pw_back(&world)); }
     // Refused where the world is closed.
     Result<pw_world_info> try_info() noexcept {
@@ -325,6 +344,54 @@ public:
     }
     [[nodiscard]] std::optional<pw_world_info> info() noexcept { return try_info(); }
 };
+
+class World::Boxes {
+    World* world;
+
+public:
+    class Iterator {
+        World* world;
+        uint32_t slot;
+        Placed placed{};
+
+        // The first live box from the slot on.
+        void seek() noexcept {
+            for (; slot < PW_SLOTS; slot++)
+                if (auto found = world->at(slot)) {
+                    placed = *found;
+                    return;
+                }
+        }
+
+    public:
+        using iterator_category = std::input_iterator_tag;
+        using value_type = Placed;
+        using difference_type = std::ptrdiff_t;
+        using pointer = const Placed*;
+        using reference = const Placed&;
+
+        Iterator(World* asked, uint32_t from) noexcept : world(asked), slot(from) { seek(); }
+        const Placed& operator*() const noexcept { return placed; }
+        const Placed* operator->() const noexcept { return &placed; }
+        Iterator& operator++() noexcept {
+            slot++;
+            seek();
+            return *this;
+        }
+        Iterator operator++(int) noexcept {
+            Iterator before = *this;
+            ++*this;
+            return before;
+        }
+        bool operator==(const Iterator& other) const noexcept { return slot == other.slot; }
+        bool operator!=(const Iterator& other) const noexcept { return slot != other.slot; }
+    };
+
+    explicit Boxes(World* asked) noexcept : world(asked) {}
+    [[nodiscard]] Iterator begin() const noexcept { return {world, 0}; }
+    [[nodiscard]] Iterator end() const noexcept { return {world, PW_SLOTS}; }
+};
+inline World::Boxes World::boxes() noexcept { return Boxes(this); }
 
 // What the operators below compare: a handle by its slot and then its generation, a pair by its handles, a box by its corners.
 namespace compared {

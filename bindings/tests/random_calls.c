@@ -135,6 +135,11 @@ static void try_remove(void) {
     EXPECT(status == (count < len ? PW_STALE : PW_OK) && done == count);
 }
 
+static bool same_live(const pw_live *a, const pw_live *b) {
+    return memcmp(&a->body, &b->body, sizeof a->body) == 0 && memcmp(&a->masks, &b->masks, sizeof a->masks) == 0 &&
+           a->group.owner == b->group.owner && (a->group.fixed != 0) == (b->group.fixed != 0);
+}
+
 static void try_get(void) {
     pw_handle which = some_handle();
     pw_live out, *live = &now.live[which.slot % MOST];
@@ -144,9 +149,22 @@ static void try_get(void) {
         EXPECT(status == PW_STALE && is_filled(&out, sizeof out));
         return;
     }
-    EXPECT(status == PW_OK && memcmp(&out.body, &live->body, sizeof out.body) == 0);
-    EXPECT(memcmp(&out.masks, &live->masks, sizeof out.masks) == 0);
-    EXPECT(out.group.owner == live->group.owner && (out.group.fixed != 0) == (live->group.fixed != 0));
+    EXPECT(status == PW_OK && same_live(&out, live));
+}
+
+/* One slot, mostly of those that the model has. */
+static void try_at(void) {
+    uint32_t slot = below(8) ? below(MOST) : below(2) ? below(2 * PW_SLOTS) : (uint32_t)next();
+    pw_handle handle;
+    pw_live out;
+    memset(&handle, FILL, sizeof handle);
+    memset(&out, FILL, sizeof out);
+    pw_status status = pw_at(&world, slot, &handle, &out);
+    if (slot >= MOST || !now.lives[slot]) {
+        EXPECT(status == PW_STALE && is_filled(&handle, sizeof handle) && is_filled(&out, sizeof out));
+        return;
+    }
+    EXPECT(status == PW_OK && same_handle(handle, handle_of(slot)) && same_live(&out, &now.live[slot]));
 }
 
 /* The changes from a number on, with some room. */
@@ -285,6 +303,17 @@ static void try_mark(void) {
     marked[marks++] = now;
 }
 
+/* Fewer than are held, all of them, or more, which is refused. */
+static void try_forget(void) {
+    uint32_t count = below(32) ? below(3) : below(PW_MOST_MARKS + 2);
+    pw_status status = pw_forget(&world, count);
+    EXPECT(status == (count <= marks ? PW_OK : PW_NO_MARK));
+    if (status != PW_OK) return;
+    marks -= count;
+    memmove(marked, marked + count, marks * sizeof *marked);
+    memmove(exchanges_when_marked, exchanges_when_marked + count, marks * sizeof *exchanges_when_marked);
+}
+
 static void try_back(void) {
     if (marks == 0) {
         EXPECT(pw_back(&world) == PW_NO_MARK);
@@ -302,14 +331,14 @@ static void try_info(uint32_t structure) {
     EXPECT(structure == PW_SAP || info.exchanges == 0);
 }
 
-/* Marks come a little more often than ways back, so that a long run holds all that there may be. */
+/* Marks come about as often as they go, so that a long run holds none and all that there may be. */
 static void try_some_call(uint32_t structure) {
     switch (below(20)) {
     case 0: case 1: try_add(); break;
     case 2: case 3: case 4: try_move(); break;
     case 5: try_mask(); break;
     case 6: case 7: try_remove(); break;
-    case 8: try_get(); break;
+    case 8: below(2) ? try_get() : try_at(); break;
     case 9: case 10: try_update(); break;
     case 11: try_lists(); break;
     case 12: case 13: try_hits(); break;
@@ -317,7 +346,7 @@ static void try_some_call(uint32_t structure) {
     case 15: try_cast_hits(); break;
     case 16: try_nearest(); break;
     case 17: below(8) < 5 ? try_mark() : try_back(); break;
-    case 18: below(8) < 3 ? try_mark() : try_back(); break;
+    case 18: below(8) < 3 ? try_mark() : below(8) ? try_back() : try_forget(); break;
     default: try_info(structure); break;
     }
 }

@@ -124,7 +124,7 @@ static void leave_spent_world(void) {
     EXPECT(pw_ray_hits(&world, &ray, &handle, 1, &count) == PW_NO_MEMORY && count == 0);
     EXPECT(pw_cast_hits(&world, &cast, &handle, 1, &count) == PW_NO_MEMORY && count == 0);
     EXPECT(pw_nearest(&world, &near_to, &handle, 1, &count) == PW_NO_MEMORY && count == 0);
-    EXPECT(pw_mark(&world) == PW_NO_MEMORY && pw_back(&world) == PW_NO_MEMORY);
+    EXPECT(pw_mark(&world) == PW_NO_MEMORY && pw_forget(&world, 0) == PW_NO_MEMORY && pw_back(&world) == PW_NO_MEMORY);
     /* What it had can be read still. */
     EXPECT(pw_pairs(&world, 0, pairs, ROOM, &count) == PW_OK);
     EXPECT(pw_events(&world, 0, events, ROOM, &count) == PW_OK);
@@ -286,6 +286,7 @@ static void fill(void) {
 static void move_half(void) { move(0, MOVED, 30); }
 static void mask_one(void) { mask(7); }
 static void mark(void) { ASK(pw_mark(&world)); }
+static void forget(void) { NEEDS_NONE(pw_forget(&world, 1)); }
 static void move_behind_mark(void) { move(MOVED, MOVED, -40); }
 static void mask_behind_mark(void) { mask(9); }
 static void remove_behind_mark(void) { remove_some(20, 30); }
@@ -293,7 +294,7 @@ static void add_behind_mark(void) { add(BOXES, MORE, 10); }
 static void empty(void) { remove_some(0, BOXES); }
 
 /* The way back leads over what came and went behind both marks, so the handles of `fill` name its boxes again. */
-static void (*const steps[])(void) = {fill, update, ask, move_half, update, mask_one, mark, move_behind_mark, mask_behind_mark, update,
+static void (*const steps[])(void) = {fill, update, ask, mark, move_half, update, mask_one, mark, forget, move_behind_mark, mask_behind_mark, update,
                                       mark, remove_behind_mark, add_behind_mark, update, ask, back, ask, back, update, see, ask, empty, update};
 enum { STEPS = sizeof steps / sizeof *steps };
 
@@ -315,6 +316,31 @@ static void run(uint32_t structure) {
     EXPECT(blocks == 0);
 }
 
+/* Marks as a ring, each with changes behind it: once its lists have grown no call asks for memory. */
+static void ring(void) {
+    enum { HELD = 8, TICKS = 5 * HELD };
+    size_t done;
+    pw_new how = pw_seen_by_all();
+    refused_request = -1;
+    requests = 0;
+    EXPECT(pw_open(&world, PW_TREE) == PW_OK);
+    for (int32_t k = 0; k < BOXES; k++) {
+        pw_box body = box_of(k, 0);
+        EXPECT(pw_add(&world, &body, 1, &how, &handles[k], 1, &done) == PW_OK);
+    }
+    for (int32_t tick = 0; tick < TICKS; tick++) {
+        long before = requests;
+        if (tick >= HELD) EXPECT(pw_forget(&world, 1) == PW_OK);
+        EXPECT(pw_mark(&world) == PW_OK);
+        for (int32_t k = 0; k < BOXES; k++) {
+            pw_box body = box_of(k, tick);
+            EXPECT(pw_move(&world, &handles[k], 1, &body, 1, &done) == PW_OK);
+        }
+        EXPECT(tick < HELD || requests == before);
+    }
+    EXPECT(info_now().marks == HELD && pw_close(&world) == PW_OK && blocks == 0);
+}
+
 int main(void) {
     static const char *const names[] = {"plain", "sap", "tree", "grid", "skin"};
     for (uint32_t structure = PW_PLAIN; structure <= PW_SKIN; structure++) {
@@ -329,5 +355,6 @@ int main(void) {
         printf("%s: %ld requests, each refused once; %ld of them spent the world\n", names[structure], refused_request, spent_worlds);
         EXPECT(refused_request > 0);
     }
+    ring();
     return tested("refused_malloc");
 }

@@ -92,6 +92,35 @@ void marks_and_refusals() {
     EXPECT(!world.info() && world.open(Structure::tree) == Status::ok && world.info());
 }
 
+// The oldest marks are given up, and the newest stays.
+void forgotten_marks() {
+    World world(Structure::tree);
+    std::array<std::optional<pw_handle>, 3> handles;
+    for (std::size_t k = 0; k < handles.size(); k++) {
+        EXPECT(world.mark() == Status::ok);
+        handles[k] = world.add(cube(int32_t(k) * 50));
+    }
+    EXPECT(world.forget(4) == Status::no_mark && world.forget(2) == Status::ok && world.info()->marks == 1);
+    EXPECT(world.back() == Status::ok && world.get(*handles[1]) && !world.get(*handles[2]) && world.forget() == Status::no_mark);
+    EXPECT(World().forget(0) == Status::closed);
+}
+
+// A loop over the boxes, which adds them to another world.
+void boxes_by_slots() {
+    World world(Structure::sap), again(Structure::grid);
+    auto first = world.add(cube(0)), second = world.add(cube(50), {{1, 2}, {7, 1}}), third = world.add(cube(100));
+    EXPECT(first && second && third && world.remove(*first) == Status::ok);
+    std::vector<pw_handle> seen;
+    for (const auto& [handle, live] : world.boxes()) {
+        seen.push_back(handle);
+        EXPECT(again.add(live.body, {live.masks, live.group}) && world.get(handle)->body == live.body);
+    }
+    EXPECT(seen.size() == 2 && seen[0] == *second && seen[1] == *third);
+    EXPECT(again.at(0)->live.body == cube(50) && again.at(0)->live.group.owner == 7 && again.at(1)->live.body == cube(100));
+    EXPECT(!world.at(0) && world.try_at(PW_SLOTS).error() == Status::stale && World().try_at(0).error() == Status::closed);
+    EXPECT(World().boxes().begin() == World().boxes().end() && world.boxes().begin()->handle == *second);
+}
+
 // A refusal keeps its reason, and the forms of std::optional say the same without it.
 void reasons() {
     World world(Structure::tree);
@@ -215,6 +244,8 @@ static_assert(noexcept(World().mask({}, {})));
 static_assert(noexcept(World().remove(pw_handle{})) && noexcept(World().remove({pw_handle{}, pw_handle{}})));
 static_assert(noexcept(World().get({})) && noexcept(World().try_get({})) && noexcept(World().info()) && noexcept(World().try_info()));
 static_assert(noexcept(World().update()) && noexcept(World().mark()) && noexcept(World().back()));
+static_assert(noexcept(World().forget()) && noexcept(World().at(0)) && noexcept(World().try_at(0)));
+static_assert(noexcept(World().boxes()) && noexcept(++World().boxes().begin()) && noexcept(World().boxes().end()));
 static_assert(noexcept(World().pairs(0, std::declval<std::vector<pw_pair>&>())));
 static_assert(noexcept(World().events(0, std::declval<std::vector<pw_told>&>())));
 static_assert(noexcept(World().changes(0, std::declval<std::vector<pw_told>&>())));
@@ -291,6 +322,8 @@ int main() {
         questions(structure);
     }
     marks_and_refusals();
+    forgotten_marks();
+    boxes_by_slots();
     reasons();
     texts();
     open_worlds();

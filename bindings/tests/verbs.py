@@ -401,6 +401,31 @@ def marks(world):
     refused(Status.STALE, world.get, lost)
 
 
+def forgotten_marks(world):
+    handles = []
+    for x in range(3):
+        world.mark()
+        handles.append(world.add(cube(x * 50)))
+    refused(Status.NO_MARK, world.forget, 4)
+    raises(ValueError, world.forget, -1)
+    world.forget(2)
+    world.back()
+    assert world.info().boxes == 2 and world.info().marks == 0
+    refused(Status.STALE, world.get, handles[2])
+    refused(Status.NO_MARK, world.forget)
+
+
+def boxes_by_slots(world):
+    first, second = world.add(cube(0)), world.add(cube(50), 1, 2, 7, True)
+    third = world.add(cube(100))
+    world.remove(first)
+    assert list(world.boxes()) == [(second, world.get(second)), (third, world.get(third))]
+    assert world.at(1) == (second, Live(cube(50), 1, 2, 7, True))
+    for slot in (0, SLOTS, 2**32 - 1):
+        refused(Status.STALE, world.at, slot)
+    raises(ValueError, world.at, 2**32)
+
+
 def closed_worlds(world):
     handle = world.add(cube(0))
     raises(TypeError, copy.copy, world)
@@ -414,7 +439,8 @@ def closed_worlds(world):
         lambda: world.mask(handle, 1, 1), world.update, world.end_frame, world.events, world.changes, world.pairs, world.pair_events,
         world.pair_changes, lambda: world.pairs_into(bytearray(16)), lambda: world.hits(cube(0)),
         lambda: world.ray_hits((0, 0, 0), (1, 0, 0)), lambda: world.first_hit((0, 0, 0), (1, 0, 0)), lambda: world.cast_hits(cube(0), (0, 0, 0)), lambda: world.nearest((0, 0, 0)),
-        lambda: world.hits_into(bytearray(16), cube(0)), world.mark, world.back, world.info,
+        lambda: world.hits_into(bytearray(16), cube(0)), world.mark, world.forget, world.back, world.info,
+        lambda: world.at(0), lambda: list(world.boxes()),
     ):  # fmt: skip
         refused(Status.CLOSED, call)
     for call in (lambda: world.add_all([cube(0)]), lambda: world.move_all([handle], [cube(0)]), lambda: world.remove_all([handle])):
@@ -730,7 +756,7 @@ def arrays_of_numpy():
 
 OVER_EACH_STRUCTURE = (
     slots_of_frames, handles_of_frames, long_lists, live_boxes, wrong_types, wrong_numbers, questions, batches_of_values,
-    batches_of_buffers, wrong_buffers, nothing_is_copied, marks, closed_worlds, ends_of_worlds, threads,
+    batches_of_buffers, wrong_buffers, nothing_is_copied, marks, forgotten_marks, boxes_by_slots, closed_worlds, ends_of_worlds, threads,
     threads_with_batches, turns, finalizers,
 )  # fmt: skip
 ONCE = (a_full_world, values, refusals, floats, types_of_the_library, imports, docs_and_types, arrays_of_numpy)

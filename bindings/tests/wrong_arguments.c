@@ -87,6 +87,8 @@ static void closed_world(void) {
     EXPECT(pw_mask(&world, none, how.masks) == PW_CLOSED);
     memset(live, FILL, sizeof live);
     EXPECT(pw_get(&world, none, live) == PW_CLOSED && is_filled(live, sizeof live));
+    memset(out, FILL, sizeof out);
+    EXPECT(pw_at(&world, 0, out, live) == PW_CLOSED && is_filled(out, sizeof out) && is_filled(live, sizeof live));
     EXPECT(pw_update(&world, &counts) == PW_CLOSED && counts.pairs == 0 && counts.events == 0 && counts.changes == 0);
     EMPTY(pw_pairs(&world, 0, pairs, ROOM, &count), PW_CLOSED, count, pairs);
     EMPTY(pw_events(&world, 0, events, ROOM, &count), PW_CLOSED, count, events);
@@ -95,7 +97,7 @@ static void closed_world(void) {
     EMPTY(pw_ray_hits(&world, &ray, out, ROOM, &count), PW_CLOSED, count, out);
     EMPTY(pw_cast_hits(&world, &cast, out, ROOM, &count), PW_CLOSED, count, out);
     EMPTY(pw_nearest(&world, &near_to, out, ROOM, &count), PW_CLOSED, count, out);
-    EXPECT(pw_mark(&world) == PW_CLOSED && pw_back(&world) == PW_CLOSED);
+    EXPECT(pw_mark(&world) == PW_CLOSED && pw_forget(&world, 0) == PW_CLOSED && pw_back(&world) == PW_CLOSED);
     memset(info, FILL, sizeof info);
     EXPECT(pw_info(&world, info) == PW_CLOSED && is_filled(info, sizeof info));
     EXPECT(pw_close(&world) == PW_CLOSED);
@@ -279,13 +281,37 @@ static void questions_at_the_ends(void) {
     EMPTY(pw_nearest(&world, &nobody, out, ROOM, &count), PW_OK, count, out);
 }
 
+static void slots_with_and_without_boxes(void) {
+    uint32_t empty[5] = {BOXES, PW_SLOTS - 1, PW_SLOTS, PW_SLOTS + 1, ~0u};
+    pw_handle handle[1];
+    pw_live live[1], wanted;
+    for (int k = 0; k < 5; k++) {
+        memset(handle, FILL, sizeof handle);
+        memset(live, FILL, sizeof live);
+        REFUSED(pw_at(&world, empty[k], handle, live), PW_STALE);
+        EXPECT(is_filled(handle, sizeof handle) && is_filled(live, sizeof live));
+    }
+    for (uint32_t slot = 0; slot < BOXES; slot++) {
+        STAYS(EXPECT(pw_at(&world, slot, handle, live) == PW_OK && !memcmp(handle, &handles[slot], sizeof *handle)));
+        EXPECT(pw_get(&world, handle[0], &wanted) == PW_OK && !memcmp(live, &wanted, sizeof wanted));
+    }
+}
+
 static void marks_at_the_ends(void) {
     pw_world_info info;
     REFUSED(pw_back(&world), PW_NO_MARK);
     for (uint32_t held = 0; held < PW_MOST_MARKS; held++) EXPECT(pw_mark(&world) == PW_OK);
     REFUSED(pw_mark(&world), PW_FULL);
     EXPECT(pw_info(&world, &info) == PW_OK && info.marks == PW_MOST_MARKS);
-    for (uint32_t held = 0; held < PW_MOST_MARKS; held++) EXPECT(pw_back(&world) == PW_OK);
+    REFUSED(pw_forget(&world, PW_MOST_MARKS + 1), PW_NO_MARK);
+    REFUSED(pw_forget(&world, ~0u), PW_NO_MARK);
+    EXPECT(pw_forget(&world, 1) == PW_OK && pw_mark(&world) == PW_OK);
+    REFUSED(pw_mark(&world), PW_FULL);
+    EXPECT(pw_forget(&world, 2) == PW_OK && pw_forget(&world, 0) == PW_OK);
+    for (uint32_t held = 2; held < PW_MOST_MARKS; held++) EXPECT(pw_back(&world) == PW_OK);
+    REFUSED(pw_back(&world), PW_NO_MARK);
+    REFUSED(pw_forget(&world, 1), PW_NO_MARK);
+    EXPECT(pw_mark(&world) == PW_OK && pw_mark(&world) == PW_OK && pw_forget(&world, 2) == PW_OK);
     REFUSED(pw_back(&world), PW_NO_MARK);
 }
 
@@ -391,6 +417,7 @@ int main(void) {
         wrong_questions();
         room_for_hits();
         questions_at_the_ends();
+        slots_with_and_without_boxes();
         marks_at_the_ends();
         one_box_too_many();
         EXPECT(pw_close(&world) == PW_OK);

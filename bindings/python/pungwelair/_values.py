@@ -15,7 +15,7 @@ class Status(enum.IntEnum):
     """What a call came to."""
 
     OK = 0
-    STALE = 1  #: no live box has the handle
+    STALE = 1  #: no live box has the handle, or is in the slot
     FULL = 2  #: SLOTS boxes live, or MOST_MARKS marks are held
     #: Memory ran out, and what ran out wasn't done. A world over PLAIN or SAP may be spent then, which `World.info` tells.
     NO_MEMORY = 3
@@ -23,7 +23,7 @@ class Status(enum.IntEnum):
     CLOSED = 5  #: the world is closed
     ARGUMENT = 6  #: no such structure, an inverted region, or lengths that don't agree
     EXHAUSTED = 7  #: a number of the world is at its end, which no game comes to
-    NO_MARK = 8  #: no mark is held to go back to
+    NO_MARK = 8  #: no mark is held to go back to, or fewer are than are to be given up
     NOT_A_NUMBER = 9  #: a float is a NaN
     OUT_OF_RANGE = 10  #: a float is below -32,768 or above 32,767.99998, or an infinity
 

@@ -6,15 +6,15 @@ import struct
 import threading
 from ctypes import byref, c_size_t, c_uint32
 from operator import index
-from typing import TYPE_CHECKING, Any, Callable, Iterable, List, NoReturn, Optional, Tuple, TypeVar
+from typing import TYPE_CHECKING, Any, Callable, Iterable, Iterator, List, NoReturn, Optional, Tuple, TypeVar
 
 from ._buffers import BOXES, EVENTS, HANDLES, PAIRS, Boxes, Handles, Kind, Rows, new_rows, packed_handle, room_of, rows_of
 from ._library import (
-    ALL, BOX, CAST, HANDLE, INFO, LIVE, MOST, NEAR, NEW, NONE, ONE, PAIR, QUERY, RAY, TOLD, RawCast, RawCounts, RawHandle, RawMasks,
+    ALL, BOX, CAST, HANDLE, INFO, LIVE, MOST, NEAR, NEW, NONE, ONE, PAIR, QUERY, RAY, SLOTS, TOLD, RawCast, RawCounts, RawHandle, RawMasks,
     RawNear, RawNew, RawQuery, RawRay, RawWorld, Workspace, kept, library, unchecked, workspace,
 )  # fmt: skip
 from ._values import (
-    BEGIN, OVER, STAY, TREE, Box, Event, Frame, Handle, Info, Live, Pair, Point, Question, Ray, Refused, Segment, Stopped,
+    BEGIN, OVER, STAY, TREE, Box, Event, Frame, Handle, Info, Live, Pair, Point, Question, Ray, Refused, Segment, Status, Stopped,
     Structure, Told, made, refuse_kind, refuse_places, refuse_words,
 )  # fmt: skip
 
@@ -29,7 +29,8 @@ _SLOT, _SLOTS_TOLD = struct.Struct("=I4x"), struct.Struct("=II4xI4x")
 _pack_box, _pack_handle, _pack_new, _pack_query = BOX.pack, HANDLE.pack, NEW.pack, QUERY.pack
 _pack_ray, _pack_cast, _pack_near, _handle_from = RAY.pack, CAST.pack, NEAR.pack, HANDLE.unpack_from
 
-_pw_open, _pw_close, _pw_mark, _pw_back, _pw_info = map(unchecked, ("pw_open", "pw_close", "pw_mark", "pw_back", "pw_info"))
+_pw_open, _pw_close, _pw_info, _pw_at = map(unchecked, ("pw_open", "pw_close", "pw_info", "pw_at"))
+_pw_mark, _pw_forget, _pw_back = map(unchecked, ("pw_mark", "pw_forget", "pw_back"))
 _pw_add, _pw_move, _pw_mask, _pw_remove, _pw_get = map(unchecked, ("pw_add", "pw_move", "pw_mask", "pw_remove", "pw_get"))
 _pw_update, _pw_pairs, _pw_events, _pw_changes = map(unchecked, ("pw_update", "pw_pairs", "pw_events", "pw_changes"))
 _pw_hits, _pw_ray_hits, _pw_cast_hits, _pw_nearest = map(unchecked, ("pw_hits", "pw_ray_hits", "pw_cast_hits", "pw_nearest"))
@@ -176,8 +177,28 @@ class World:
         kept.append(work)
         if status:
             raise Refused(status)
-        groups, sees, owner, fixed = numbers[6:]
-        return Live(made(Box, numbers[:6]), groups, sees, owner, fixed != 0)
+        return _live(numbers)
+
+    def at(self, slot: int) -> Tuple[Handle, Live]:
+        """The live box in a slot, with its handle. STALE, as in each slot from SLOTS on."""
+        refuse_words(slot=slot)
+        work = workspace()
+        with self._lock:
+            status = _pw_at(self._world, c_uint32(slot), work.handle_at, work.live_at)
+        handle, numbers = made(Handle, _handle_from(work.handle)), LIVE.unpack_from(work.live)
+        kept.append(work)
+        if status:
+            raise Refused(status)
+        return handle, _live(numbers)
+
+    def boxes(self) -> Iterator[Tuple[Handle, Live]]:
+        """All live boxes with their handles, by their slots. Each slot is read when its turn comes, so the loop may change the world."""
+        for slot in range(SLOTS):
+            try:
+                yield self.at(slot)
+            except Refused as refusal:
+                if refusal.status != Status.STALE:
+                    raise
 
     def add_all(self, boxes: Boxes, groups: int = 1, sees: int = ALL, owner: int = 0, fixed: bool = False) -> List[Handle]:
         """Adds boxes in order, all in one way, and gives their handles.
@@ -409,6 +430,14 @@ class World:
         if status:
             raise Refused(status)
 
+    def forget(self, count: int = 1) -> None:
+        """Gives up the oldest marks, so many of them: the world as it stands and the newer marks are as before. NO_MARK where fewer are held."""
+        refuse_words(count=count)
+        with self._lock:
+            status = _pw_forget(self._world, c_uint32(count))
+        if status:
+            raise Refused(status)
+
     def back(self) -> None:
         """Goes back to the newest mark, which is then gone: boxes, handles, the last frame's pairs and the numbers are what they were.
 
@@ -435,6 +464,11 @@ def _counted(work: Workspace) -> int:
     count = work.count.value
     kept.append(work)
     return count
+
+
+def _live(numbers: Tuple[int, ...]) -> Live:
+    groups, sees, owner, fixed = numbers[6:]
+    return Live(made(Box, numbers[:6]), groups, sees, owner, fixed != 0)
 
 
 def _handles(memory: bytearray, count: int) -> List[Handle]:

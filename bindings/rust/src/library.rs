@@ -34,6 +34,7 @@ extern "C" {
     pub fn pw_mask(world: &mut Held, handle: Handle, masks: Masks) -> u32;
     pub fn pw_remove(world: &mut Held, handles: *const Handle, handles_len: usize, done: &mut usize) -> u32;
     pub fn pw_get(world: &mut Held, handle: Handle, out: &mut Live) -> u32;
+    pub fn pw_at(world: &mut Held, slot: u32, handle: &mut Handle, out: &mut Live) -> u32;
     pub fn pw_update(world: &mut Held, counts: &mut Frame) -> u32;
     pub fn pw_pairs(world: &mut Held, from: usize, out: *mut Pair, out_len: usize, copied: &mut usize) -> u32;
     pub fn pw_events(world: &mut Held, from: usize, out: *mut Told, out_len: usize, copied: &mut usize) -> u32;
@@ -43,6 +44,7 @@ extern "C" {
     pub fn pw_cast_hits(world: &mut Held, cast: &Cast, out: *mut Handle, out_len: usize, count: &mut usize) -> u32;
     pub fn pw_nearest(world: &mut Held, near_to: &Near, out: *mut Handle, out_len: usize, count: &mut usize) -> u32;
     pub fn pw_mark(world: &mut Held) -> u32;
+    pub fn pw_forget(world: &mut Held, count: u32) -> u32;
     pub fn pw_back(world: &mut Held) -> u32;
     pub fn pw_info(world: &mut Held, out: &mut Info) -> u32;
     pub fn pw_fix_below_32(bits: u32, out: &mut i32) -> u32;

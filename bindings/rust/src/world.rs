@@ -125,6 +125,19 @@ impl World {
         Ok(out)
     }
 
+    /// The live box in a slot with its handle, or `Stale`, as in each slot from `SLOTS` on.
+    pub fn at(&mut self, slot: u32) -> Result<(Handle, Live), Error> {
+        let (mut handle, mut out) = (Handle::NONE, Live::default());
+        // SAFETY: the words are those that the last call left; `handle` and `out` are values of their own.
+        told(unsafe { library::pw_at(&mut self.held, slot, &mut handle, &mut out) })?;
+        Ok((handle, out))
+    }
+
+    /// All live boxes with their handles, by their slots.
+    pub fn boxes(&mut self) -> impl Iterator<Item = (Handle, Live)> + '_ {
+        (0..SLOTS as u32).filter_map(|slot| self.at(slot).ok())
+    }
+
     /// Ends the frame, and tells how many pairs, events and changes it has: `Exhausted` or `NoMemory`, and then all is as before.
     pub fn update(&mut self) -> Result<Frame, Error> {
         let mut counts = Frame::default();
@@ -244,6 +257,12 @@ impl World {
     pub fn mark(&mut self) -> Result<(), Error> {
         // SAFETY: the words are those that the last call left.
         told(unsafe { library::pw_mark(&mut self.held) })
+    }
+
+    /// Gives up the oldest marks, so many of them: the world as it stands and the newer marks are as before. `NoMark` where fewer are held.
+    pub fn forget(&mut self, count: u32) -> Result<(), Error> {
+        // SAFETY: the words are those that the last call left; all else is passed by value.
+        told(unsafe { library::pw_forget(&mut self.held, count) })
     }
 
     /// Goes back to the newest mark, which is then gone. `NoMark` where none is held.

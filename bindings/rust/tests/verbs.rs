@@ -89,6 +89,31 @@ fn marks() {
 }
 
 #[test]
+fn forgotten_marks() {
+    let mut world = World::new(Structure::Tree).unwrap();
+    let mut handles = Vec::new();
+    for x in 0..3 {
+        world.mark().unwrap();
+        handles.push(world.add(cube(x * 50), How::default()).unwrap());
+    }
+    assert_eq!((world.forget(4), world.forget(2)), (Err(Error::NoMark), Ok(())));
+    world.back().unwrap();
+    assert_eq!((world.info().unwrap().boxes, world.get(handles[2]), world.back()), (2, Err(Error::Stale), Err(Error::NoMark)));
+}
+
+#[test]
+fn boxes_by_slots() {
+    for structure in STRUCTURES {
+        let mut world = World::new(structure).unwrap();
+        let handles: Vec<Handle> = (0..3).map(|x| world.add(cube(x * 50), How::default()).unwrap()).collect();
+        world.remove(handles[1]).unwrap();
+        let seen: Vec<(Handle, Body)> = world.boxes().map(|(handle, live)| (handle, live.body)).collect();
+        assert_eq!(seen, [(handles[0], cube(0)), (handles[2], cube(100))]);
+        assert_eq!((world.at(1), world.at(pungwelair::SLOTS as u32), world.at(u32::MAX)), (Err(Error::Stale), Err(Error::Stale), Err(Error::Stale)));
+    }
+}
+
+#[test]
 fn refusals_and_empty_slices() {
     let mut world = World::new(Structure::Plain).unwrap();
     let handle = world.add(cube(0), How::default()).unwrap();

@@ -1,10 +1,10 @@
 //! A world over one of five structures, and its changes.
 
-ghost use Rattle.std.specs.Prelude.{◌≡◌, ◌≢◌, [], true, false, length, Ok, Err, None, nat_lt, IfOk, OnErr};
+ghost use Rattle.std.specs.Prelude.{◌≡◌, ◌≢◌, [], true, false, length, Ok, Err, None, not, nat_lt, IfOk, OnErr};
 ghost use Rattle.live_table.specs.Table.{next_handle};
 ghost use Rattle.world_marks.specs.declared.TheConstants.{MOST_MARKS};
 ghost use Rattle.box_world.specs.declared.refusal.Refusal.TheVariants.{NoMemory as no_memory};
-ghost use Rattle.box_world.specs.World.{added, moved, masked, removed, marked, gone_back, pairs};
+ghost use Rattle.box_world.specs.World.{added, moved, masked, removed, marked, forgotten, gone_back, pairs};
 ghost use Rattle.box_world.specs.Answers.{Answers, opened, with_world, with_time, after_frame};
 ghost use Rattle.box_world.specs.Answers.{add_refusal, shift_refusal, change_refusal, frame_refusal};
 ghost use Rattle.any_world.specs.AnyWorld.{state_of, structure_of, counts_of, runs_out};
@@ -205,6 +205,24 @@ impl AnyWorld {
             AnyWorld::Tree(world) => world.mark(),
             AnyWorld::Grid(world) => world.mark(),
             AnyWorld::Skin(world) => world.mark(),
+        }
+    }
+
+    /// Gives up the oldest marks, so many of them: the world as it stands and the newer marks are as before, and the older worlds can't be
+    /// gone back to any more. It answers false where fewer are held, and then nothing changes. It takes no memory: `NoMemory` comes where
+    /// the world is spent. It frees what the marks kept, except one list of changes, which the next mark gets.
+    pub fn forget(&mut self, count: u32) -> Result<bool, Refusal>
+        ensures answer { let old = state_of self.old in Answers None (with_time old (forgotten count old.time)) result old (state_of self.new) }
+        ensures held { IfOk result (λ gone. gone ≡ not (nat_lt (length (state_of self.old).time.marks) count)) }
+        ensures spent { OnErr result ((state_of self.old).spent ≡ true) }
+        ensures structure { structure_of self.new ≡ structure_of self.old }
+    {
+        match self {
+            AnyWorld::Plain(world) => world.forget(count),
+            AnyWorld::Sap(world) => world.forget(count),
+            AnyWorld::Tree(world) => world.forget(count),
+            AnyWorld::Grid(world) => world.forget(count),
+            AnyWorld::Skin(world) => world.forget(count),
         }
     }
 

@@ -1,8 +1,8 @@
 //! What such a world tells of itself, and the queries among its live boxes.
 
-ghost use Rattle.std.specs.Prelude.{◌≡◌, ◌++◌, true, false, length, min, OnOk, OnErr};
+ghost use Rattle.std.specs.Prelude.{◌≡◌, ◌≤◌, ◌++◌, true, false, length, min, None, OnOk, OnErr};
 ghost use Rattle.fixed_box.specs.declared.TheConstants.{SLOTS};
-ghost use Rattle.live_table.specs.Entries.{entry_at};
+ghost use Rattle.live_table.specs.Entries.{entry_at, live_at};
 ghost use Rattle.live_table.specs.Table.{IsTable};
 ghost use Rattle.live_queries.specs.Pairs.{hits_of};
 ghost use Rattle.live_queries.specs.Queries.{entered_of, cast_of, nearest_to};
@@ -28,6 +28,21 @@ impl AnyWorld {
             AnyWorld::Tree(world) => world.get(handle),
             AnyWorld::Grid(world) => world.get(handle),
             AnyWorld::Skin(world) => world.get(handle),
+        }
+    }
+
+    /// The live box in a slot, and `None` where no live box has it: a loop over the slots below `SLOTS` reads all live boxes. It is one
+    /// look-up, and answers in a spent world too.
+    pub fn at(&self, slot: u32) -> Option<Live>
+        ensures at { result ≡ live_at slot (state_of self.now).time.now.table.entries }
+        ensures past { SLOTS ≤ slot → result ≡ None }
+    {
+        match self {
+            AnyWorld::Plain(world) => world.at(slot),
+            AnyWorld::Sap(world) => world.at(slot),
+            AnyWorld::Tree(world) => world.at(slot),
+            AnyWorld::Grid(world) => world.at(slot),
+            AnyWorld::Skin(world) => world.at(slot),
         }
     }
 

@@ -70,6 +70,10 @@ live_out l = record {
   group = record { owner = l.group.owner; fixed = if l.group.fixed then 1 else 0 };
 }
 
+-- a live box with its handle, for who knows its slot alone
+abbrev pub placed_out : Live → PwHandle × PwLive
+placed_out l = (handle_out l.handle, live_out l)
+
 abbrev pub pair_out : HPair → PwPair
 pair_out p = record { a = handle_out p.a; b = handle_out p.b }
 

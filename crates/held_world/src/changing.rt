@@ -1,7 +1,7 @@
-//! The calls that change a world once: other masks, the end of a frame, a mark and a way back.
+//! The calls that change a world once: other masks, the end of a frame, a mark, the end of old marks and a way back.
 
-ghost use Rattle.std.specs.Prelude.{◌≡◌, ◌≢◌, ◌↔◌, ◌+◌, [], true, false, None, length};
-ghost use Rattle.box_world.specs.World.{masked, marked, gone_back};
+ghost use Rattle.std.specs.Prelude.{◌≡◌, ◌≢◌, ◌↔◌, ◌<◌, ◌+◌, [], true, false, None, length};
+ghost use Rattle.box_world.specs.World.{masked, marked, forgotten, gone_back};
 ghost use Rattle.box_world.specs.Answers.{with_world, with_time, after_frame, change_refusal, frame_refusal};
 ghost use Rattle.any_world.specs.AnyWorld.{state_of, structure_of};
 ghost use Rattle.held_world.specs.declared.TheConstants.{OK, NO_MEMORY, NO_MARK};
@@ -72,6 +72,23 @@ impl HeldWorld {
         match self.world.mark() {
             Ok(true) => OK,
             Ok(false) => FULL,
+            Err(refusal) => status_of(refusal),
+        }
+    }
+
+    /// Gives up the oldest marks, so many of them: the world as it stands and the newer marks are as before. `NO_MARK` comes where fewer are
+    /// held. It takes no memory: `NO_MEMORY` comes where the world is spent. After any status but `OK` all is as before.
+    pub fn forget(&mut self, count: u32) -> u32
+        ensures no_mark { let old = state_of self.old.world in (result ≡ NO_MARK) ↔ ((old.spent ≡ false) × (length old.time.marks < count)) }
+        ensures answer { let old = state_of self.old.world in
+            result ≢ NO_MARK → Tells None (with_time old (forgotten count old.time)) result old (state_of self.new.world) }
+        ensures spent { result ≡ NO_MEMORY → (state_of self.old.world).spent ≡ true }
+        ensures same { result ≢ OK → state_of self.new.world ≡ state_of self.old.world }
+        ensures structure { structure_of self.new.world ≡ structure_of self.old.world }
+    {
+        match self.world.forget(count) {
+            Ok(true) => OK,
+            Ok(false) => NO_MARK,
             Err(refusal) => status_of(refusal),
         }
     }

@@ -1,13 +1,14 @@
 //! What a world tells of itself as plain structs: one live box, and its numbers.
 
-ghost use Rattle.std.specs.Prelude.{◌≡◌, false, option_map};
-ghost use Rattle.live_table.specs.Entries.{entry_at};
+ghost use Rattle.std.specs.Prelude.{◌≡◌, ◌≤◌, false, None, option_map};
+ghost use Rattle.fixed_box.specs.declared.TheConstants.{SLOTS};
+ghost use Rattle.live_table.specs.Entries.{entry_at, live_at};
 ghost use Rattle.any_world.specs.AnyWorld.{state_of, structure_of, runs_out};
-ghost use Rattle.held_world.specs.Plain.{handle_in, live_out};
+ghost use Rattle.held_world.specs.Plain.{handle_in, live_out, placed_out};
 ghost use Rattle.held_world.specs.Reading.{info_of};
 
 use crate::HeldWorld;
-use crate::plain::{PwHandle, PwLive, handle_of, live_out, structure_out};
+use crate::plain::{PwHandle, PwLive, handle_of, handle_out, live_out, structure_out};
 
 /// How many pairs the frame that ended last has, how many events, and how many pairs began or were over in it.
 #[repr(C)]
@@ -38,6 +39,17 @@ impl HeldWorld {
     {
         match self.world.get(handle_of(handle)) {
             Some(live) => Some(live_out(&live)),
+            None => None,
+        }
+    }
+
+    /// The live box in a slot with its handle, and `None` where no live box has it, as in none from `SLOTS` on.
+    pub fn at(&self, slot: u32) -> Option<(PwHandle, PwLive)>
+        ensures at { result ≡ option_map placed_out (live_at slot (state_of self.now.world).time.now.table.entries) }
+        ensures past { SLOTS ≤ slot → result ≡ None }
+    {
+        match self.world.at(slot) {
+            Some(live) => Some((handle_out(&live.handle), live_out(&live))),
             None => None,
         }
     }

@@ -1,26 +1,29 @@
 -- What the exports say of a world that C holds.
 use Rattle.std.specs.Prelude.{◌≡◌, ◌≢◌, ◌↔◌, ◌⊎◌, ℕ, ◌+◌, ◌-◌, ◌<◌, ◌≤◌, ◌++◌, List, [], map, take, drop, zip, length, min, true, false, is_some}
-use Rattle.std.specs.Prelude.{Option, None, Some, Result, Ok, Err}
+use Rattle.std.specs.Prelude.{Option, None, Some, Result, Ok, Err, ok_or, option_map}
+use Rattle.fixed_box.specs.declared.TheConstants.{SLOTS}
 use Rattle.live_table.specs.declared.group.Group.{Group}
 use Rattle.live_table.specs.declared.handle.Handle.{Handle}
 use Rattle.live_table.specs.declared.live.Live.{Live}
 use Rattle.live_table.specs.declared.masks.Masks.{Masks}
-use Rattle.box_world.specs.World.{masked, marked, gone_back}
+use Rattle.live_table.specs.Entries.{live_at}
+use Rattle.box_world.specs.World.{masked, marked, forgotten, gone_back}
 use Rattle.box_world.specs.Answers.{opened, with_world, with_time, after_frame, change_refusal, frame_refusal}
 use Rattle.any_world.specs.declared.any_world.AnyWorld.{AnyWorld}
 use Rattle.any_world.specs.AnyWorld.{state_of, structure_of, counts_of, runs_out}
-use Rattle.held_world.specs.declared.TheConstants.{OK, NO_MEMORY, CLOSED, ARGUMENT, NO_MARK}
+use Rattle.held_world.specs.declared.TheConstants.{OK, STALE, NO_MEMORY, CLOSED, ARGUMENT, NO_MARK}
 use Rattle.held_world.specs.declared.answers.Reply.{Reply}
 use Rattle.held_world.specs.declared.held.HeldWorld.{HeldWorld}
 use Rattle.held_world.specs.declared.plain.PwBox.{PwBox}
 use Rattle.held_world.specs.declared.plain.PwHandle.{PwHandle}
+use Rattle.held_world.specs.declared.plain.PwLive.{PwLive}
 use Rattle.held_world.specs.declared.reading.PwCounts.{PwCounts}
 use Rattle.held_world.specs.declared.reading.PwInfo.{PwInfo}
 use Rattle.held_world.specs.Asks.{Asks}
 use Rattle.held_world.specs.Batches.{IsBatch}
 use Rattle.held_world.specs.Changes.{adds, moves, removes, handles_given}
 use Rattle.held_world.specs.Copies.{copied}
-use Rattle.held_world.specs.Plain.{handle_out, structure_in}
+use Rattle.held_world.specs.Plain.{handle_out, placed_out, structure_in}
 use Rattle.held_world.specs.Reading.{info_of}
 use Rattle.held_world.specs.Tells.{Tells, mark_refusal}
 
@@ -100,6 +103,11 @@ abbrev pub Puts : {A : Type 0} → Result A ℕ → ℕ → A → A → Type 0
 Puts (Ok x) status old new = (status ≡ OK) × (new ≡ x)
 Puts (Err why) status old new = (status ≡ why) × (new ≡ old)
 
+-- What a call says that tells the live box in a slot with its handle: no box is in a slot from `SLOTS` on.
+pub record Places (slot status : ℕ) (was : AnyWorld) (old new : PwHandle × PwLive) : Type 0 where
+  pub told : Puts (ok_or (option_map placed_out (live_at slot (state_of was).time.now.table.entries)) STALE) status old new
+  pub past : SLOTS ≤ slot → status ≡ STALE
+
 -- What a call says that tells what a world is: over the tree, the grid or skins none is spent.
 pub record IsInfo (status : ℕ) (info : PwInfo) (was : AnyWorld) : Type 0 where
   pub ok : status ≡ OK
@@ -135,4 +143,12 @@ pub record GoesBack (status : ℕ) (was now : AnyWorld) : Type 0 where
   pub no_mark : (status ≡ NO_MARK) ↔ (((state_of was).spent ≡ false) × ((state_of was).time.marks ≡ []))
   pub kept : status ≡ NO_MARK → state_of now ≡ state_of was
   pub answer : let old = state_of was in status ≢ NO_MARK → Tells None (with_time old (gone_back old.time)) status old (state_of now)
+  pub structure : structure_of now ≡ structure_of was
+
+-- what a call says that gives up the oldest marks, so many of them
+pub record Forgets (count status : ℕ) (was now : AnyWorld) : Type 0 where
+  pub no_mark : (status ≡ NO_MARK) ↔ (((state_of was).spent ≡ false) × (length (state_of was).time.marks < count))
+  pub answer : let old = state_of was in status ≢ NO_MARK → Tells None (with_time old (forgotten count old.time)) status old (state_of now)
+  pub spent : status ≡ NO_MEMORY → (state_of was).spent ≡ true
+  pub same : status ≢ OK → state_of now ≡ state_of was
   pub structure : structure_of now ≡ structure_of was

@@ -1,9 +1,9 @@
-//! The exports that set masks, end a frame, mark the world and go back.
+//! The exports that set masks, end a frame, mark the world, give up old marks and go back.
 
 ghost use Rattle.std.specs.Prelude.{◌≡◌};
 ghost use Rattle.held_world.specs.declared.TheConstants.{CLOSED};
 ghost use Rattle.held_world.specs.Plain.{handle_in, masks_in};
-ghost use Rattle.pungwelair.specs.Exports.{Calls, SetsMasks, Updates, MarksWorld, GoesBack};
+ghost use Rattle.pungwelair.specs.Exports.{Calls, SetsMasks, Updates, MarksWorld, Forgets, GoesBack};
 
 use crate::world::PwWorld;
 use held_world::{CLOSED, PwCounts, PwHandle, PwMasks};
@@ -56,6 +56,19 @@ pub extern "C" fn pw_mark(alloc: Global, world: &mut PwWorld) -> u32
         return CLOSED;
     };
     let status = held.mark();
+    world.put(held);
+    status
+}
+
+/// Gives up the oldest marks, so many of them.
+#[unsafe(no_mangle)]
+pub extern "C" fn pw_forget(alloc: Global, world: &mut PwWorld, count: u32) -> u32
+    ensures { Calls (λ was now. Forgets count result was.world now.world) (result ≡ CLOSED) world.old.held.inner world.new.held.inner }
+{
+    let Some(mut held) = world.take(alloc) else {
+        return CLOSED;
+    };
+    let status = held.forget(count);
     world.put(held);
     status
 }

@@ -47,6 +47,7 @@ fn boxed(alloc: Global, structure: u32) -> Result<Box<HeldWorld>, u32>
 #[unsafe(no_mangle)]
 pub extern "C" fn pw_close(alloc: Global, world: &mut PwWorld) -> u32
     ensures closed { world.new.held.inner ≡ None }
+    ensures zero { world.new.state ≡ 0 }
     ensures status { result ≡ closing world.old.held.inner }
 {
     match world.take(alloc) {

@@ -7,7 +7,7 @@ ghost use Rattle.held_world.specs.declared.TheConstants.{OK, STALE, CLOSED};
 ghost use Rattle.held_world.specs.Plain.{handle_in, live_out, pair_out, told_out};
 ghost use Rattle.held_world.specs.Reading.{changes_of};
 ghost use Rattle.held_world.specs.declared.answers.Reply.{Reply};
-ghost use Rattle.pungwelair.specs.Exports.{Calls, IsClosed, Copies, Puts, IsInfo};
+ghost use Rattle.pungwelair.specs.Exports.{Calls, IsClosed, Copies, Puts, Places, IsInfo};
 
 use crate::world::PwWorld;
 use held_world::{CLOSED, OK, PwHandle, PwInfo, PwLive, PwPair, PwTold, STALE};
@@ -32,6 +32,33 @@ pub extern "C" fn pw_get(
     world.put(held);
     match live {
         Some(live) => {
+            *out = live;
+            OK
+        }
+        None => STALE,
+    }
+}
+
+/// The live box in a slot, with its handle.
+#[unsafe(no_mangle)]
+pub extern "C" fn pw_at(
+    alloc: Global,
+    world: &mut PwWorld,
+    slot: u32,
+    handle: &mut PwHandle,
+    out: &mut PwLive,
+) -> u32
+    ensures { Calls (λ was now. (now ≡ was) × Places slot result was.world (handle.old, out.old) (handle.new, out.new))
+        ((result ≡ CLOSED) × (handle.new ≡ handle.old) × (out.new ≡ out.old)) world.old.held.inner world.new.held.inner }
+{
+    let Some(held) = world.take(alloc) else {
+        return CLOSED;
+    };
+    let placed = held.at(slot);
+    world.put(held);
+    match placed {
+        Some((its, live)) => {
+            *handle = its;
             *out = live;
             OK
         }

@@ -21,8 +21,10 @@ impl PwWorld {
     pub(crate) fn take(&mut self, alloc: Global) -> Option<Box<HeldWorld>>
         ensures taken { option_map (λ held. held.value) result ≡ self.old.held.inner }
         ensures emptied { self.new.held.inner ≡ None }
+        ensures zero { self.new.state ≡ 0 }
     {
         if self.state != 1 {
+            self.state = 0;
             return None;
         }
         let was = std::mem::replace(self, closed());
@@ -43,7 +45,8 @@ impl PwWorld {
 }
 
 fn closed() -> PwWorld
-    ensures { result.held.inner ≡ None }
+    ensures closed { result.held.inner ≡ None }
+    ensures zero { result.state ≡ 0 }
 {
     PwWorld {
         state: 0,
