@@ -235,6 +235,10 @@ pw_status pw_move(pw_world *world, const pw_handle *handles, size_t handles_len,
 /* Gives a box other masks. PW_STALE. PW_NO_MEMORY, only while a mark is held: all is as before. */
 pw_status pw_mask(pw_world *world, pw_handle handle, pw_masks masks);
 
+/* Gives a box another owner and fixed mark: the next update has its pairs by them. PW_STALE. PW_NO_MEMORY, only while a mark is held: all
+ * is as before. */
+pw_status pw_regroup(pw_world *world, pw_handle handle, pw_group group);
+
 /* Removes boxes in order, up to the first that is refused: PW_STALE, or PW_NO_MEMORY, only while a mark is held. `done` tells how many
  * were removed. */
 pw_status pw_remove(pw_world *world, const pw_handle *handles, size_t handles_len, size_t *done);
@@ -248,7 +252,7 @@ pw_status pw_get(pw_world *world, pw_handle handle, pw_live *out);
 pw_status pw_at(pw_world *world, uint32_t slot, pw_handle *handle, pw_live *out);
 
 /* Ends the frame: finds the pairs of the boxes as they stand and what became of each since the last frame, and tells how many
- * there are. They stay readable until the next update. Where no box came, moved, got other masks or went since the last update, and
+ * there are. They stay readable until the next update. Where no box came, moved, got other masks or another group, or went since the last update, and
  * nobody went back, nothing is searched, nothing begins and nothing is over: it takes the same time however many boxes and pairs there
  * are. PW_EXHAUSTED, PW_NO_MEMORY: all is as before. */
 pw_status pw_update(pw_world *world, pw_counts *counts);

@@ -256,6 +256,7 @@ public:
     }
     Status move(pw_handle handle, const pw_box& box) noexcept { return move({&handle, 1}, {&box, 1}).status; }
     Status mask(pw_handle handle, pw_masks masks) noexcept { return Status(pw_mask(&world, handle, masks)); }
+    Status regroup(pw_handle handle, pw_group group) noexcept { return Status(pw_regroup(&world, handle, group)); }
     Batch remove(Span<const pw_handle> handles) noexcept {
         Batch batch{};
         batch.status = Status(pw_remove(&world, handles.data(), handles.size(), &batch.done));

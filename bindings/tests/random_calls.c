@@ -126,6 +126,14 @@ static void try_mask(void) {
     if (!stale) now.live[which.slot].masks = masks;
 }
 
+static void try_regroup(void) {
+    pw_handle which = some_handle();
+    pw_group group = {below(3) ? 0 : 1 + below(3), below(3) == 0 ? 1 + below(2) : 0};
+    bool stale = is_stale(which);
+    EXPECT(pw_regroup(&world, which, group) == (stale ? PW_STALE : PW_OK));
+    if (!stale) now.live[which.slot].group = group;
+}
+
 static void try_remove(void) {
     pw_handle which[BATCH] = {0};
     size_t len = below(4), count = 0, done = 99;
@@ -336,7 +344,7 @@ static void try_some_call(uint32_t structure) {
     switch (below(20)) {
     case 0: case 1: try_add(); break;
     case 2: case 3: case 4: try_move(); break;
-    case 5: try_mask(); break;
+    case 5: below(2) ? try_mask() : try_regroup(); break;
     case 6: case 7: try_remove(); break;
     case 8: below(2) ? try_get() : try_at(); break;
     case 9: case 10: try_update(); break;

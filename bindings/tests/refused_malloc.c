@@ -118,7 +118,7 @@ static void leave_spent_world(void) {
     EXPECT(pw_add(&world, &body, 1, &how, &handle, 1, &count) == PW_NO_MEMORY && count == 0);
     EXPECT(pw_move(&world, handles, 1, &body, 1, &count) == PW_NO_MEMORY && count == 0);
     EXPECT(pw_remove(&world, handles, 1, &count) == PW_NO_MEMORY && count == 0);
-    EXPECT(pw_mask(&world, handles[0], how.masks) == PW_NO_MEMORY);
+    EXPECT(pw_mask(&world, handles[0], how.masks) == PW_NO_MEMORY && pw_regroup(&world, handles[0], how.group) == PW_NO_MEMORY);
     EXPECT(pw_update(&world, &counts) == PW_NO_MEMORY && counts.pairs == 0 && counts.events == 0 && counts.changes == 0);
     EXPECT(pw_hits(&world, &query, &handle, 1, &count) == PW_NO_MEMORY && count == 0);
     EXPECT(pw_ray_hits(&world, &ray, &handle, 1, &count) == PW_NO_MEMORY && count == 0);
@@ -212,6 +212,14 @@ static void mask(size_t k) {
     EXPECT(status == PW_OK || before.marks > 0);
 }
 
+static void regroup(size_t k) {
+    pw_status status;
+    pw_world_info before = info_now();
+    do TELLS(status, pw_regroup(&world, handles[k], (pw_group){9, 1}));
+    while (goes_on(status, true, &before, before.boxes));
+    EXPECT(status == PW_OK || before.marks > 0);
+}
+
 static void back(void) {
     pw_status status;
     pw_world_info before = info_now();
@@ -289,12 +297,13 @@ static void mark(void) { ASK(pw_mark(&world)); }
 static void forget(void) { NEEDS_NONE(pw_forget(&world, 1)); }
 static void move_behind_mark(void) { move(MOVED, MOVED, -40); }
 static void mask_behind_mark(void) { mask(9); }
+static void regroup_behind_mark(void) { regroup(11); }
 static void remove_behind_mark(void) { remove_some(20, 30); }
 static void add_behind_mark(void) { add(BOXES, MORE, 10); }
 static void empty(void) { remove_some(0, BOXES); }
 
 /* The way back leads over what came and went behind both marks, so the handles of `fill` name its boxes again. */
-static void (*const steps[])(void) = {fill, update, ask, mark, move_half, update, mask_one, mark, forget, move_behind_mark, mask_behind_mark, update,
+static void (*const steps[])(void) = {fill, update, ask, mark, move_half, update, mask_one, mark, forget, move_behind_mark, mask_behind_mark, regroup_behind_mark, update,
                                       mark, remove_behind_mark, add_behind_mark, update, ask, back, ask, back, update, see, ask, empty, update};
 enum { STEPS = sizeof steps / sizeof *steps };
 

@@ -121,6 +121,17 @@ void boxes_by_slots() {
     EXPECT(World().boxes().begin() == World().boxes().end() && world.boxes().begin()->handle == *second);
 }
 
+// A box gets an owner after it came, and the pair with another of his is over.
+void regrouped() {
+    World world(Structure::skin);
+    auto crate = world.add(cube(0)), wheel = world.add(cube(5), {{1, ~0u}, {7, 0}});
+    EXPECT(crate && wheel && world.update().pairs == 1 && world.mark() == Status::ok);
+    EXPECT(world.regroup(*crate, {7, 1}) == Status::ok && world.get(*crate)->group.owner == 7 && world.get(*crate)->group.fixed == 1);
+    auto frame = world.update();
+    EXPECT(frame.pairs == 0 && frame.changes == 1 && world.back() == Status::ok && world.update().pairs == 1);
+    EXPECT(world.remove(*crate) == Status::ok && world.regroup(*crate, {0, 0}) == Status::stale);
+}
+
 // A refusal keeps its reason, and the forms of std::optional say the same without it.
 void reasons() {
     World world(Structure::tree);
@@ -240,7 +251,7 @@ static_assert(noexcept(World().is_open()) && noexcept(World().status()) && noexc
 static_assert(noexcept(World().add(inverted)) && noexcept(World().try_add(inverted)) && noexcept(World().move({}, inverted)));
 static_assert(noexcept(World().add(std::declval<std::vector<pw_box>&>(), {}, std::declval<std::vector<pw_handle>&>())));
 static_assert(noexcept(World().move(std::declval<std::vector<pw_handle>&>(), std::declval<std::vector<pw_box>&>())));
-static_assert(noexcept(World().mask({}, {})));
+static_assert(noexcept(World().mask({}, {})) && noexcept(World().regroup({}, {})));
 static_assert(noexcept(World().remove(pw_handle{})) && noexcept(World().remove({pw_handle{}, pw_handle{}})));
 static_assert(noexcept(World().get({})) && noexcept(World().try_get({})) && noexcept(World().info()) && noexcept(World().try_info()));
 static_assert(noexcept(World().update()) && noexcept(World().mark()) && noexcept(World().back()));
@@ -324,6 +335,7 @@ int main() {
     marks_and_refusals();
     forgotten_marks();
     boxes_by_slots();
+    regrouped();
     reasons();
     texts();
     open_worlds();

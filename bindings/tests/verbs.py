@@ -426,6 +426,23 @@ def boxes_by_slots(world):
     raises(ValueError, world.at, 2**32)
 
 
+def regrouped(world):
+    crate, wall = world.add(cube(0)), world.add(cube(0.5))
+    world.end_frame()
+    world.mark()
+    world.regroup(crate, owner=3)
+    world.regroup(wall, 3, True)
+    world.end_frame()
+    assert world.get(wall)[3:] == (3, True) and world.pairs() == []
+    assert world.pair_changes() == [Told(OVER, crate, wall)]
+    world.back()
+    world.end_frame()
+    assert world.get(wall)[3:] == (0, False) and len(world.pairs()) == 1
+    raises(ValueError, world.regroup, crate, 2**32)
+    world.remove(crate)
+    refused(Status.STALE, world.regroup, crate)
+
+
 def closed_worlds(world):
     handle = world.add(cube(0))
     raises(TypeError, copy.copy, world)
@@ -440,7 +457,7 @@ def closed_worlds(world):
         world.pair_changes, lambda: world.pairs_into(bytearray(16)), lambda: world.hits(cube(0)),
         lambda: world.ray_hits((0, 0, 0), (1, 0, 0)), lambda: world.first_hit((0, 0, 0), (1, 0, 0)), lambda: world.cast_hits(cube(0), (0, 0, 0)), lambda: world.nearest((0, 0, 0)),
         lambda: world.hits_into(bytearray(16), cube(0)), world.mark, world.forget, world.back, world.info,
-        lambda: world.at(0), lambda: list(world.boxes()),
+        lambda: world.at(0), lambda: list(world.boxes()), lambda: world.regroup(handle),
     ):  # fmt: skip
         refused(Status.CLOSED, call)
     for call in (lambda: world.add_all([cube(0)]), lambda: world.move_all([handle], [cube(0)]), lambda: world.remove_all([handle])):
@@ -756,7 +773,7 @@ def arrays_of_numpy():
 
 OVER_EACH_STRUCTURE = (
     slots_of_frames, handles_of_frames, long_lists, live_boxes, wrong_types, wrong_numbers, questions, batches_of_values,
-    batches_of_buffers, wrong_buffers, nothing_is_copied, marks, forgotten_marks, boxes_by_slots, closed_worlds, ends_of_worlds, threads,
+    batches_of_buffers, wrong_buffers, nothing_is_copied, marks, forgotten_marks, boxes_by_slots, regrouped, closed_worlds, ends_of_worlds, threads,
     threads_with_batches, turns, finalizers,
 )  # fmt: skip
 ONCE = (a_full_world, values, refusals, floats, types_of_the_library, imports, docs_and_types, arrays_of_numpy)

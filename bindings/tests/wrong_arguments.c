@@ -84,7 +84,7 @@ static void closed_world(void) {
     EMPTY(pw_move(&world, &none, 1, boxes, 1, &count), PW_CLOSED, count, out);
     EMPTY(pw_move(&world, &none, 0, boxes, 1, &count), PW_CLOSED, count, out);
     EMPTY(pw_remove(&world, &none, 1, &count), PW_CLOSED, count, out);
-    EXPECT(pw_mask(&world, none, how.masks) == PW_CLOSED);
+    EXPECT(pw_mask(&world, none, how.masks) == PW_CLOSED && pw_regroup(&world, none, how.group) == PW_CLOSED);
     memset(live, FILL, sizeof live);
     EXPECT(pw_get(&world, none, live) == PW_CLOSED && is_filled(live, sizeof live));
     memset(out, FILL, sizeof out);
@@ -146,6 +146,7 @@ static void wrong_moves(void) {
         pw_handle two[2] = {handles[0], stale[k]};
         pw_live live;
         pw_masks masks = {2, 2};
+        pw_group group = {7, 1};
         memset(&live, FILL, sizeof live);
         done = 99;
         REFUSED(pw_move(&world, &stale[k], 1, boxes, 1, &done), PW_STALE);
@@ -153,6 +154,7 @@ static void wrong_moves(void) {
         /* A box that is none is refused first. */
         REFUSED(pw_move(&world, &stale[k], 1, &inverted, 1, &done), PW_INVERTED);
         REFUSED(pw_mask(&world, stale[k], masks), PW_STALE);
+        REFUSED(pw_regroup(&world, stale[k], group), PW_STALE);
         REFUSED(pw_get(&world, stale[k], &live), PW_STALE);
         EXPECT(is_filled(&live, sizeof live));
         done = 99;

@@ -32,6 +32,10 @@ class RawMasks(ctypes.Structure):
     _fields_ = [("groups", c_uint32), ("sees", c_uint32)]
 
 
+class RawGroup(ctypes.Structure):
+    _fields_ = [("owner", c_uint32), ("fixed", c_uint32)]
+
+
 class RawNew(ctypes.Structure):
     _fields_ = [("masks", RawMasks), ("owner", c_uint32), ("fixed", c_uint32)]
 
@@ -138,6 +142,7 @@ _takes("pw_close", _WORLD)
 _takes("pw_add", _WORLD, _BOX, c_size_t, _To(RawNew), _HANDLE, c_size_t, _COUNT)
 _takes("pw_move", _WORLD, _HANDLE, c_size_t, _BOX, c_size_t, _COUNT)
 _takes("pw_mask", _WORLD, RawHandle, RawMasks)
+_takes("pw_regroup", _WORLD, RawHandle, RawGroup)
 _takes("pw_remove", _WORLD, _HANDLE, c_size_t, _COUNT)
 _takes("pw_get", _WORLD, RawHandle, _To(RawLive))
 _takes("pw_at", _WORLD, c_uint32, _HANDLE, _To(RawLive))

@@ -10,7 +10,7 @@ from typing import TYPE_CHECKING, Any, Callable, Iterable, Iterator, List, NoRet
 
 from ._buffers import BOXES, EVENTS, HANDLES, PAIRS, Boxes, Handles, Kind, Rows, new_rows, packed_handle, room_of, rows_of
 from ._library import (
-    ALL, BOX, CAST, HANDLE, INFO, LIVE, MOST, NEAR, NEW, NONE, ONE, PAIR, QUERY, RAY, SLOTS, TOLD, RawCast, RawCounts, RawHandle, RawMasks,
+    ALL, BOX, CAST, HANDLE, INFO, LIVE, MOST, NEAR, NEW, NONE, ONE, PAIR, QUERY, RAY, SLOTS, TOLD, RawCast, RawCounts, RawGroup, RawHandle, RawMasks,
     RawNear, RawNew, RawQuery, RawRay, RawWorld, Workspace, kept, library, unchecked, workspace,
 )  # fmt: skip
 from ._values import (
@@ -31,7 +31,8 @@ _pack_ray, _pack_cast, _pack_near, _handle_from = RAY.pack, CAST.pack, NEAR.pack
 
 _pw_open, _pw_close, _pw_info, _pw_at = map(unchecked, ("pw_open", "pw_close", "pw_info", "pw_at"))
 _pw_mark, _pw_forget, _pw_back = map(unchecked, ("pw_mark", "pw_forget", "pw_back"))
-_pw_add, _pw_move, _pw_mask, _pw_remove, _pw_get = map(unchecked, ("pw_add", "pw_move", "pw_mask", "pw_remove", "pw_get"))
+_pw_add, _pw_move, _pw_remove, _pw_get = map(unchecked, ("pw_add", "pw_move", "pw_remove", "pw_get"))
+_pw_mask, _pw_regroup = map(unchecked, ("pw_mask", "pw_regroup"))
 _pw_update, _pw_pairs, _pw_events, _pw_changes = map(unchecked, ("pw_update", "pw_pairs", "pw_events", "pw_changes"))
 _pw_hits, _pw_ray_hits, _pw_cast_hits, _pw_nearest = map(unchecked, ("pw_hits", "pw_ray_hits", "pw_cast_hits", "pw_nearest"))
 
@@ -165,6 +166,15 @@ class World:
         refuse_words(groups=groups, sees=sees)
         with self._lock:
             status = _pw_mask(self._world, name, RawMasks(index(groups), index(sees)))
+        if status:
+            raise Refused(status)
+
+    def regroup(self, handle: Handle, owner: int = 0, fixed: bool = False) -> None:
+        """Gives a box another owner and fixed mark: the next update has its pairs by them. STALE; NO_MEMORY, only while a mark is held."""
+        name = RawHandle.from_buffer_copy(packed_handle(handle))
+        refuse_words(owner=owner)
+        with self._lock:
+            status = _pw_regroup(self._world, name, RawGroup(index(owner), bool(fixed)))
         if status:
             raise Refused(status)
 

@@ -3,7 +3,7 @@
 //! A reference or a slice's pointer leads to what it says, aligned and not null: that of an empty slice too, which is all that the
 //! header asks of a pointer before a length of 0. What `&mut` leads to overlaps nothing else in the same call.
 
-use crate::values::{Body, Cast, Frame, Handle, How, Info, Live, Masks, Near, Pair, RawQuery, Ray, Told};
+use crate::values::{Body, Cast, Frame, Group, Handle, How, Info, Live, Masks, Near, Pair, RawQuery, Ray, Told};
 use std::ffi::c_void;
 
 /// A world as the library has it. Zero is a closed one.
@@ -32,6 +32,7 @@ extern "C" {
     pub fn pw_add(world: &mut Held, boxes: *const Body, boxes_len: usize, how: &How, out: *mut Handle, out_len: usize, done: &mut usize) -> u32;
     pub fn pw_move(world: &mut Held, handles: *const Handle, handles_len: usize, boxes: *const Body, boxes_len: usize, done: &mut usize) -> u32;
     pub fn pw_mask(world: &mut Held, handle: Handle, masks: Masks) -> u32;
+    pub fn pw_regroup(world: &mut Held, handle: Handle, group: Group) -> u32;
     pub fn pw_remove(world: &mut Held, handles: *const Handle, handles_len: usize, done: &mut usize) -> u32;
     pub fn pw_get(world: &mut Held, handle: Handle, out: &mut Live) -> u32;
     pub fn pw_at(world: &mut Held, slot: u32, handle: &mut Handle, out: &mut Live) -> u32;

@@ -1,7 +1,7 @@
 //! The owner of a world.
 
 use crate::library::{self, Held};
-use crate::values::{told, Body, Cast, Error, Frame, Handle, How, Info, Live, Masks, Near, Pair, Query, Ray, Stopped, Structure, Told};
+use crate::values::{told, Body, Cast, Error, Frame, Group, Handle, How, Info, Live, Masks, Near, Pair, Query, Ray, Stopped, Structure, Told};
 use crate::SLOTS;
 
 /// Moving boxes under handles. It is open for as long as it lives, and closed where it is dropped.
@@ -102,6 +102,12 @@ impl World {
     pub fn mask(&mut self, handle: Handle, masks: Masks) -> Result<(), Error> {
         // SAFETY: the words are those that the last call left; all else is passed by value.
         told(unsafe { library::pw_mask(&mut self.held, handle, masks) })
+    }
+
+    /// Gives a box another owner and fixed mark: `Stale` or `NoMemory`.
+    pub fn regroup(&mut self, handle: Handle, group: Group) -> Result<(), Error> {
+        // SAFETY: the words are those that the last call left; all else is passed by value.
+        told(unsafe { library::pw_regroup(&mut self.held, handle, group) })
     }
 
     /// Removes a box: `Stale` or `NoMemory`.

@@ -114,6 +114,19 @@ fn boxes_by_slots() {
 }
 
 #[test]
+fn another_owner() {
+    let mut world = World::new(Structure::Grid).unwrap();
+    let [crate_, wheel] = [0, 5].map(|x| world.add(cube(x), How::default()).unwrap());
+    assert_eq!(world.update().unwrap().pairs, 1);
+    world.mark().unwrap();
+    let group = Group::new(7, false);
+    assert_eq!((world.regroup(crate_, group), world.regroup(wheel, group), world.get(wheel).unwrap().group), (Ok(()), Ok(()), group));
+    assert_eq!((world.update().unwrap().pairs, world.back(), world.update().unwrap().pairs), (0, Ok(()), 1));
+    world.remove(wheel).unwrap();
+    assert_eq!(world.regroup(wheel, group), Err(Error::Stale));
+}
+
+#[test]
 fn refusals_and_empty_slices() {
     let mut world = World::new(Structure::Plain).unwrap();
     let handle = world.add(cube(0), How::default()).unwrap();

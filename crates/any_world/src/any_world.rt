@@ -4,7 +4,7 @@ ghost use Rattle.std.specs.Prelude.{◌≡◌, ◌≢◌, [], true, false, lengt
 ghost use Rattle.live_table.specs.Table.{next_handle};
 ghost use Rattle.world_marks.specs.declared.TheConstants.{MOST_MARKS};
 ghost use Rattle.box_world.specs.declared.refusal.Refusal.TheVariants.{NoMemory as no_memory};
-ghost use Rattle.box_world.specs.World.{added, moved, masked, removed, marked, forgotten, gone_back, pairs};
+ghost use Rattle.box_world.specs.World.{added, moved, masked, regrouped, removed, marked, forgotten, gone_back, pairs};
 ghost use Rattle.box_world.specs.Answers.{Answers, opened, with_world, with_time, after_frame};
 ghost use Rattle.box_world.specs.Answers.{add_refusal, shift_refusal, change_refusal, frame_refusal};
 ghost use Rattle.any_world.specs.AnyWorld.{state_of, structure_of, counts_of, runs_out};
@@ -128,6 +128,24 @@ impl AnyWorld {
             AnyWorld::Tree(world) => world.mask(handle, masks),
             AnyWorld::Grid(world) => world.mask(handle, masks),
             AnyWorld::Skin(world) => world.mask(handle, masks),
+        }
+    }
+
+    /// The handle's box gets another owner and fixed mark. `Stale` comes where no live box has the handle. It takes memory only where a mark is
+    /// held, and never spends the world.
+    pub fn regroup(&mut self, handle: Handle, group: Group) -> Result<(), Refusal>
+        ensures answer { let old = state_of self.old in let world = old.time.now in
+            Answers (change_refusal world handle) (with_world old (regrouped world handle group)) result old (state_of self.new) }
+        ensures unmarked { (state_of self.old).spent ≡ false → (state_of self.old).time.marks ≡ [] → result ≢ Err no_memory }
+        ensures same { OnErr result (state_of self.new ≡ state_of self.old) }
+        ensures structure { structure_of self.new ≡ structure_of self.old }
+    {
+        match self {
+            AnyWorld::Plain(world) => world.regroup(handle, group),
+            AnyWorld::Sap(world) => world.regroup(handle, group),
+            AnyWorld::Tree(world) => world.regroup(handle, group),
+            AnyWorld::Grid(world) => world.regroup(handle, group),
+            AnyWorld::Skin(world) => world.regroup(handle, group),
         }
     }
 

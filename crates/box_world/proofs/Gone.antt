@@ -4,10 +4,10 @@ use Rattle.std.specs.Prelude.{is_some}
 use Rattle.fixed_box.specs.declared.TheConstants.{SLOTS}
 use Rattle.live_table.specs.declared.handle.Handle.{Handle}
 use Rattle.live_table.specs.declared.live.Live.{Live}
-use Rattle.live_table.specs.Changes.{TableChange, give, set_box, set_masks, take, after_change, IsGone}
+use Rattle.live_table.specs.Changes.{TableChange, give, set_box, set_masks, set_group, take, after_change, IsGone}
 use Rattle.live_table.specs.Table.{Table, least_free}
 use Rattle.box_world.specs.Answers.{is_live}
-use Rattle.box_world.specs.Steps.{Step, add, move, mask, remove, frame, after_step, world_after}
+use Rattle.box_world.specs.Steps.{Step, add, move, mask, regroup, remove, frame, after_step, world_after}
 use Rattle.box_world.specs.World.{World, added}
 
 -- what is known of one change of a table
@@ -24,6 +24,7 @@ gone_over kept counts w (add body masks group) handle gone = came (least_free w.
     came false h = h
 gone_over kept counts w (move at body) handle gone = kept w.table handle (set_box at body) gone
 gone_over kept counts w (mask at masks) handle gone = kept w.table handle (set_masks at masks) gone
+gone_over kept counts w (regroup at group) handle gone = kept w.table handle (set_group at group) gone
 gone_over kept counts w (remove at) handle gone = kept w.table handle (take at) gone
 gone_over kept counts w frame handle gone = gone
 

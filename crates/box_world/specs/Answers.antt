@@ -59,7 +59,7 @@ add_refusal w =
 abbrev pub shift_refusal : World → Handle → Option Refusal
 shift_refusal w handle = if is_live w handle then (if is_counted_out w then Some Exhausted else None) else Some Stale
 
--- Why a box can't get other masks, or go: no live box has the handle.
+-- Why a box can't get other masks or another owner and fixed mark, or go: no live box has the handle.
 abbrev pub change_refusal : World → Handle → Option Refusal
 change_refusal w handle = if is_live w handle then None else Some Stale
 

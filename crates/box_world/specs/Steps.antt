@@ -6,13 +6,14 @@ use Rattle.live_table.specs.declared.group.Group.{Group}
 use Rattle.live_table.specs.declared.handle.Handle.{Handle}
 use Rattle.live_table.specs.declared.masks.Masks.{Masks}
 use Rattle.live_table.specs.Table.{least_free}
-use Rattle.box_world.specs.World.{World, added, moved, masked, removed, framed}
+use Rattle.box_world.specs.World.{World, added, moved, masked, regrouped, removed, framed}
 
--- a box comes, moves, gets other masks or goes, or a frame ends
+-- a box comes, moves, gets other masks or another owner and fixed mark, or goes, or a frame ends
 pub data Step : Type 0 where
   add : (body : Bounds) (masks : Masks) (group : Group) → Step
   move : (handle : Handle) (body : Bounds) → Step
   mask : (handle : Handle) (masks : Masks) → Step
+  regroup : (handle : Handle) (group : Group) → Step
   remove : (handle : Handle) → Step
   frame : Step
 
@@ -21,6 +22,7 @@ abbrev pub after_step : Bool → World → Step → World
 after_step counts w (add body masks group) = if least_free w.table == SLOTS then w else added counts w body masks group
 after_step counts w (move handle body) = moved counts w handle body
 after_step counts w (mask handle masks) = masked w handle masks
+after_step counts w (regroup handle group) = regrouped w handle group
 after_step counts w (remove handle) = removed w handle
 after_step counts w frame = framed w
 

@@ -5,7 +5,7 @@ use Rattle.live_table.specs.declared.group.Group.{Group}
 use Rattle.live_table.specs.declared.handle.Handle.{Handle}
 use Rattle.live_table.specs.declared.masks.Masks.{Masks}
 use Rattle.live_table.specs.Bodies.{slots_with_bodies, body_of}
-use Rattle.live_table.specs.Table.{Table, least_free, empty_table, after_give, after_set_box, after_set_masks, after_take}
+use Rattle.live_table.specs.Table.{Table, least_free, empty_table, after_give, after_set_box, after_set_masks, after_set_group, after_take}
 use Rattle.broad_index.specs.Exchanges.{passed_from_above, passed_from}
 use Rattle.pair_events.specs.declared.hpair.HPair.{HPair}
 use Rattle.live_queries.specs.Pairs.{pairs_of}
@@ -51,6 +51,10 @@ moved counts w handle body =
 -- the world after the handle's box got other masks
 abbrev pub masked : World → Handle → Masks → World
 masked w handle masks = record w { table = after_set_masks w.table handle masks }
+
+-- the world after the handle's box got another owner and fixed mark
+abbrev pub regrouped : World → Handle → Group → World
+regrouped w handle group = record w { table = after_set_group w.table handle group }
 
 -- the world after the handle's box went
 abbrev pub removed : World → Handle → World

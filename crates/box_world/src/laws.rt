@@ -8,10 +8,11 @@ ghost use Rattle.box_world.specs.declared.TheConstants.{MOST_FRAMES_COUNTED, MOS
 ghost use Rattle.box_world.specs.declared.refusal.Refusal.{Refusal};
 ghost use Rattle.box_world.specs.declared.refusal.Refusal.TheVariants.{NoMemory};
 ghost use Rattle.live_table.specs.declared.handle.Handle.{Handle};
+ghost use Rattle.live_table.specs.declared.group.Group.{Group};
 ghost use Rattle.live_table.specs.declared.masks.Masks.{Masks};
 ghost use Rattle.live_table.specs.Changes.{IsGone};
 ghost use Rattle.box_world.specs.Steps.{Step, world_after};
-ghost use Rattle.box_world.specs.World.{World, moved, masked, removed, counted, exchanges_of_add, exchanges_of_move};
+ghost use Rattle.box_world.specs.World.{World, moved, masked, regrouped, removed, counted, exchanges_of_add, exchanges_of_move};
 ghost use Rattle.box_world.specs.Answers.{Answers, State, is_live, add_refusal, shift_refusal, change_refusal, frame_refusal};
 
 use broad_index::exchange_laws;
@@ -38,6 +39,7 @@ pub fn answer_law<A>()
 pub fn stale_law()
     ensures moved { (counts : Bool) (w : World) (handle : Handle) (body : Bounds) → is_live w handle ≡ false → moved counts w handle body ≡ w }
     ensures masked { (w : World) (handle : Handle) (masks : Masks) → is_live w handle ≡ false → masked w handle masks ≡ w }
+    ensures regrouped { (w : World) (handle : Handle) (group : Group) → is_live w handle ≡ false → regrouped w handle group ≡ w }
     ensures removed { (w : World) (handle : Handle) → is_live w handle ≡ false → removed w handle ≡ w }
 {}
 

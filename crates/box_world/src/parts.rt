@@ -48,7 +48,7 @@ impl<B: BroadPhase + Drop> Parts<B> {
     ghost use Rattle.live_table.specs.Table.{IsTable, IsLeastFree, next_handle};
     ghost use Rattle.world_marks.specs.declared.TheConstants.{MOST_MARKS};
     ghost use Rattle.box_world.specs.declared.refusal.Refusal.TheVariants.{Stale, NoMemory as no_memory};
-    ghost use Rattle.box_world.specs.World.{beginning, added, moved, masked, removed, marked, forgotten, gone_back};
+    ghost use Rattle.box_world.specs.World.{beginning, added, moved, masked, regrouped, removed, marked, forgotten, gone_back};
     ghost use Rattle.box_world.specs.Answers.{is_counted_out};
     ghost use Rattle.box_world.specs.Parts.{world_in, timeline_in, IsSound, IsChanged, IsCutOff, IsToNote, Explains, TellSame, told_in, restored};
 
@@ -189,6 +189,33 @@ impl<B: BroadPhase + Drop> Parts<B> {
             self.marks.note(Undo::Masked {
                 handle,
                 masks: live.masks,
+            });
+        }
+        Ok(())
+    }
+
+    // The handle's box gets another owner and fixed mark. Where a mark is held, `before` is the box as it was, and there is room to note it.
+    pub(crate) fn regroup(
+        &mut self,
+        handle: Handle,
+        group: Group,
+        before: Option<Live>,
+    ) -> Result<(), Refusal>
+        requires sound { IsSound B.bodies B.spent B.exchanges self.old }
+        requires before { IsToNote self.old.marks.marks (entry_at handle self.old.table.entries) self.old.marks.spare before }
+        ensures regrouped { OnOk result (IsChanged B.bodies B.spent B.exchanges (regrouped (world_in B.exchanges self.old) handle group) self.old self.new) }
+        ensures live { OnOk result (is_some (entry_at handle self.old.table.entries) ≡ true) }
+        ensures err { OnErr result (self.new ≡ self.old) }
+        ensures stale { IfErr result (λ refusal. (refusal ≡ Stale) × (entry_at handle self.old.table.entries ≡ None)) }
+    {
+        undo_laws();
+        undone_laws();
+        self.table.set_group(handle, group)?;
+        self.since = Since::Changed;
+        if let Some(live) = before {
+            self.marks.note(Undo::Regrouped {
+                handle,
+                group: live.group,
             });
         }
         Ok(())

@@ -6,7 +6,7 @@ ghost use Rattle.box_world.specs.Parts.{still_current};
 // What of the last frame still holds of the boxes as they stand.
 #[derive(Clone, Copy)]
 pub(crate) enum Since {
-    // A box got other masks or went, or the world went back: nothing is known.
+    // A box got other masks or another owner and fixed mark, or went, or the world went back: nothing is known.
     Changed,
     // Boxes moved or came, and no more: those of the last pairs are live, and may pair.
     Current,

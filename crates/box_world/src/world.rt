@@ -4,7 +4,7 @@ ghost use Rattle.std.specs.Prelude.{◌≡◌, ◌≢◌, [], true, false, lengt
 ghost use Rattle.live_table.specs.Table.{next_handle};
 ghost use Rattle.world_marks.specs.declared.TheConstants.{MOST_MARKS};
 ghost use Rattle.box_world.specs.declared.refusal.Refusal.TheVariants.{NoMemory as no_memory};
-ghost use Rattle.box_world.specs.World.{added, moved, masked, removed, marked, forgotten, gone_back, pairs};
+ghost use Rattle.box_world.specs.World.{added, moved, masked, regrouped, removed, marked, forgotten, gone_back, pairs};
 ghost use Rattle.box_world.specs.Answers.{Answers, opened, with_world, with_time, after_frame};
 ghost use Rattle.box_world.specs.Answers.{add_refusal, shift_refusal, change_refusal, frame_refusal};
 
@@ -26,8 +26,8 @@ use work_pieces::MOST_WORKERS;
 /// Clauses see the world with its marks, what was told, and whether memory ran out in a change. No call but `new` asks for
 /// anything. What an answer says is the table `Answers`: an `Ok` made the world that the call is for, `Stale`, `Full` and
 /// `Exhausted` come exactly where that cause stands, the earlier one first, and leave the world as it was; `answer_law` has this
-/// as a law. `NoMemory` may come wherever memory is taken, and leaves the world as it was, or spent. Without a mark `mask` and `remove`
-/// take no memory.
+/// as a law. `NoMemory` may come wherever memory is taken, and leaves the world as it was, or spent. Without a mark `mask`, `regroup` and
+/// `remove` take no memory.
 ///
 /// A world is spent where memory ran out while its index was changed, since index and table may disagree then. That change wasn't
 /// done: the world has the live boxes, pairs, events, frames and marks that it had before. From then on it answers `NoMemory` to each
@@ -152,6 +152,21 @@ impl<B: BroadPhase + Drop> BoxWorld<B> {
         }
         let before = box_to_note(&mut self.parts.marks, &self.parts.table, handle)?;
         self.parts.mask(handle, masks, before)
+    }
+
+    /// The handle's box gets another owner and fixed mark. `Stale` comes where no live box has the handle. It takes memory only where a mark is
+    /// held, and never spends the world.
+    pub fn regroup(&mut self, handle: Handle, group: Group) -> Result<(), Refusal>
+        ensures answer { Answers (change_refusal self.old.time.now handle) (with_world self.old (regrouped self.old.time.now handle group)) result
+            self.old self.new }
+        ensures unmarked { self.old.spent ≡ false → self.old.time.marks ≡ [] → result ≢ Err no_memory }
+        ensures same { OnErr result (self.new ≡ self.old) }
+    {
+        if self.spent {
+            return Err(Refusal::NoMemory);
+        }
+        let before = box_to_note(&mut self.parts.marks, &self.parts.table, handle)?;
+        self.parts.regroup(handle, group, before)
     }
 
     /// The handle's box goes. `Stale` comes where no live box has the handle. It takes memory only where a mark is held, and never

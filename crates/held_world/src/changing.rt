@@ -1,15 +1,15 @@
-//! The calls that change a world once: other masks, the end of a frame, a mark, the end of old marks and a way back.
+//! The calls that change a world once: other masks, another owner, the end of a frame, a mark, the end of old marks and a way back.
 
 ghost use Rattle.std.specs.Prelude.{◌≡◌, ◌≢◌, ◌↔◌, ◌<◌, ◌+◌, [], true, false, None, length};
-ghost use Rattle.box_world.specs.World.{masked, marked, forgotten, gone_back};
+ghost use Rattle.box_world.specs.World.{masked, regrouped, marked, forgotten, gone_back};
 ghost use Rattle.box_world.specs.Answers.{with_world, with_time, after_frame, change_refusal, frame_refusal};
 ghost use Rattle.any_world.specs.AnyWorld.{state_of, structure_of};
 ghost use Rattle.held_world.specs.declared.TheConstants.{OK, NO_MEMORY, NO_MARK};
-ghost use Rattle.held_world.specs.Plain.{handle_in, masks_in};
+ghost use Rattle.held_world.specs.Plain.{handle_in, masks_in, group_in};
 ghost use Rattle.held_world.specs.Tells.{Tells, mark_refusal};
 
 use crate::answers::{status, status_of};
-use crate::plain::{PwHandle, PwMasks, handle_of, masks_of};
+use crate::plain::{PwGroup, PwHandle, PwMasks, group_of, handle_of, masks_of};
 use crate::reading::PwCounts;
 use crate::{FULL, HeldWorld, NO_MARK, OK};
 
@@ -24,6 +24,18 @@ impl HeldWorld {
         ensures structure { structure_of self.new.world ≡ structure_of self.old.world }
     {
         status(&self.world.mask(handle_of(handle), masks_of(masks)))
+    }
+
+    /// The handle's box gets another owner and fixed mark. It takes memory only where a mark is held.
+    pub fn regroup(&mut self, handle: &PwHandle, group: &PwGroup) -> u32
+        ensures answer { let old = state_of self.old.world in let world = old.time.now in
+            Tells (change_refusal world (handle_in handle.now)) (with_world old (regrouped world (handle_in handle.now) (group_in group.now)))
+            result old (state_of self.new.world) }
+        ensures unmarked { let old = state_of self.old.world in old.spent ≡ false → old.time.marks ≡ [] → result ≢ NO_MEMORY }
+        ensures same { result ≢ OK → state_of self.new.world ≡ state_of self.old.world }
+        ensures structure { structure_of self.new.world ≡ structure_of self.old.world }
+    {
+        status(&self.world.regroup(handle_of(handle), group_of(group)))
     }
 
     /// The frame ends, and `counts` tells how many pairs, events and changes it has: none where it doesn't end, and then all is as before.

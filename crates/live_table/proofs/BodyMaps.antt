@@ -16,10 +16,10 @@ use Rattle.fixed_box.specs.Bounds.{Bounds}
 use Rattle.live_table.specs.declared.handle.Handle.{Handle}
 use Rattle.live_table.specs.declared.live.Live.{Live}
 use Rattle.live_table.specs.declared.masks.Masks.{Masks}
-use Rattle.live_table.specs.Entries.{slot_of, has, live_at, entry_at, entered, with_body, with_masks, without, rises}
+use Rattle.live_table.specs.Entries.{slot_of, has, live_at, entry_at, entered, with_body, with_masks, with_group, without, rises}
 use Rattle.live_table.specs.Bodies.{slots_with_bodies, bodies_of, body_of}
 use Rattle.live_table.specs.declared.group.Group.{Group}
-use Rattle.live_table.specs.Table.{Table, IsTable, IsVacated, IsLeastFree, next_handle, after_give, after_set_box, after_set_masks, after_put_back}
+use Rattle.live_table.specs.Table.{Table, IsTable, IsVacated, IsLeastFree, next_handle, after_give, after_set_box, after_set_masks, after_set_group, after_put_back}
 use Rattle.fixed_box.proofs.Bools.{cond_not, true_to}
 use Rattle.fixed_box.proofs.Numbers.{less, equal, greater, lt_of}
 
@@ -172,6 +172,18 @@ bodies_of-with_masks h masks es = ap (λ xs. from_sorted {R = nat_cmp} xs) (same
           | false ↦ ap (λ xs. (slot_of e, e.body) ∷ xs) (same es)
         ]
 
+-- another owner or fixed mark changes no box
+pub bodies_of-with_group : (h : Handle) (group : Group) (es : List Live) → bodies_of (with_group h group es) ≡ bodies_of es
+bodies_of-with_group h group es = ap (λ xs. from_sorted {R = nat_cmp} xs) (same es)
+  where
+    same : (es : List Live) → slots_with_bodies (with_group h group es) ≡ slots_with_bodies es
+    same [] = refl
+    same (e ∷ es) = elim (has h e) as (λ t. (slot_of (cond t (record e { group = group }) e), (cond t (record e { group = group }) e).body) ∷
+        slots_with_bodies (with_group h group es) ≡ (slot_of e, e.body) ∷ slots_with_bodies es) [
+          | true ↦ ap (λ xs. (slot_of e, e.body) ∷ xs) (same es)
+          | false ↦ ap (λ xs. (slot_of e, e.body) ∷ xs) (same es)
+        ]
+
 -- a box that is gone
 abbrev other_than : ℕ → ℕ → Bool
 other_than k x = not (eq_by_cmp nat_cmp k x)
@@ -255,6 +267,9 @@ moved_bodies t u handle body live is_t is_u found after =
 
 pub masked_bodies : (t u : Table) (handle : Handle) (masks : Masks) → u ≡ after_set_masks t handle masks → bodies_of u.entries ≡ bodies_of t.entries
 masked_bodies t u handle masks after = ap (λ v. bodies_of v.entries) after ∙ bodies_of-with_masks handle masks t.entries
+
+pub grouped_bodies : (t u : Table) (handle : Handle) (group : Group) → u ≡ after_set_group t handle group → bodies_of u.entries ≡ bodies_of t.entries
+grouped_bodies t u handle group after = ap (λ v. bodies_of v.entries) after ∙ bodies_of-with_group handle group t.entries
 
 pub left_bodies : (t : Table) (es : List Live) (handle : Handle) (live : Live) → IsTable t → Some live ≡ entry_at handle t.entries
     → es ≡ without handle t.entries → bodies_of es ≡ remove (bodies_of t.entries) handle.slot

@@ -10,7 +10,7 @@ use Rattle.live_table.specs.declared.group.Group.{Group}
 use Rattle.live_table.specs.declared.handle.Handle.{Handle}
 use Rattle.live_table.specs.declared.live.Live.{Live}
 use Rattle.live_table.specs.declared.masks.Masks.{Masks}
-use Rattle.live_table.specs.Changes.{TableChange, give, set_box, set_masks, take, after_change, after_changes, IsGone}
+use Rattle.live_table.specs.Changes.{TableChange, give, set_box, set_masks, set_group, take, after_change, after_changes, IsGone}
 use Rattle.live_table.specs.Entries.{slot_of, has, entry_at, entered, changed, without}
 use Rattle.live_table.specs.Table.{Table, IsTable, raised, least_free, next_handle, after_give, after_take}
 use Rattle.live_table.proofs.EntryLemmas.{has_not, has_found}
@@ -104,6 +104,7 @@ gone_kept t h (give body masks group) gone =
     ]
 gone_kept t h (set_box k body) gone = (gone.0, none_changed h k (λ e. record e { body = body }) (λ e. refl) t.entries gone.1)
 gone_kept t h (set_masks k masks) gone = (gone.0, none_changed h k (λ e. record e { masks = masks }) (λ e. refl) t.entries gone.1)
+gone_kept t h (set_group k group) gone = (gone.0, none_changed h k (λ e. record e { group = group }) (λ e. refl) t.entries gone.1)
 gone_kept t h (take k) gone = (gone.0, none_left h k t.entries gone.1)
 
 pub gone_still : (t : Table) (changes : List TableChange) (h : Handle) → IsGone h t → entry_at h (after_changes t changes).entries ≡ None

@@ -9,13 +9,14 @@ use Rattle.std.proofs.lemmas.List.Elements.{All-cons}
 use Rattle.fixed_box.specs.Bounds.{Bounds, meets}
 use Rattle.fixed_box.specs.Space.{space}
 use Rattle.fixed_box.specs.declared.TheConstants.{SLOTS}
+use Rattle.live_table.specs.declared.group.Group.{Group}
 use Rattle.live_table.specs.declared.handle.Handle.{Handle}
 use Rattle.live_table.specs.declared.live.Live.{Live}
 use Rattle.live_table.specs.declared.masks.Masks.{Masks}
 use Rattle.live_table.specs.Bodies.{bodies_of}
 use Rattle.live_table.specs.Entries.{slot_of, has, live_at, entry_at, entered, changed, without, rises}
-use Rattle.live_table.specs.Table.{Table, IsTable, IsVacated, after_set_box, after_set_masks, after_ungive, after_put_back}
-use Rattle.live_table.proofs.BodyMaps.{entries-bodies_of, same_slot, indexed_present, remove-bodies_of, insert-with_body, bodies_of-with_masks}
+use Rattle.live_table.specs.Table.{Table, IsTable, IsVacated, after_set_box, after_set_masks, after_set_group, after_ungive, after_put_back}
+use Rattle.live_table.proofs.BodyMaps.{entries-bodies_of, same_slot, indexed_present, remove-bodies_of, insert-with_body, bodies_of-with_masks, bodies_of-with_group}
 use Rattle.live_table.proofs.BodyMaps.{vacated_slots, insert-put_back}
 use Rattle.live_table.proofs.EntryLemmas.{has_found}
 use Rattle.live_table.proofs.FreeSlots.{from_zero, len_between}
@@ -166,6 +167,12 @@ masked_table t h masks is = changed_table h (λ e. record e { masks = masks }) (
 
 pub masked_map : (t : Table) (h : Handle) (masks : Masks) → bodies_of (after_set_masks t h masks).entries ≡ bodies_of t.entries
 masked_map t h masks = bodies_of-with_masks h masks t.entries
+
+pub grouped_table : (t : Table) (h : Handle) (group : Group) → IsTable t → IsTable (after_set_group t h group)
+grouped_table t h group is = changed_table h (λ e. record e { group = group }) (λ e. refl) t is (λ e within. within)
+
+pub grouped_map : (t : Table) (h : Handle) (group : Group) → bodies_of (after_set_group t h group).entries ≡ bodies_of t.entries
+grouped_map t h group = bodies_of-with_group h group t.entries
 
 -- one entry more, in a slot that none has
 all_entered : (P : Live → Type 0) (new : Live) (es : List Live) → P new → All P es → All P (entered new es)

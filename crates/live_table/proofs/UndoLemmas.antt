@@ -12,7 +12,7 @@ use Rattle.live_table.specs.declared.live.Live.{Live}
 use Rattle.live_table.specs.declared.masks.Masks.{Masks}
 use Rattle.live_table.specs.Entries.{slot_of, has, live_at, entry_at, entered, changed, without, rises}
 use Rattle.live_table.specs.Table.{Table, IsTable, IsVacated, least_free, IsLeastFree, raised, lowered, next_handle, after_give, after_set_box}
-use Rattle.live_table.specs.Table.{after_set_masks, after_take, after_ungive, after_put_back}
+use Rattle.live_table.specs.Table.{after_set_masks, after_set_group, after_take, after_ungive, after_put_back}
 use Rattle.live_table.proofs.EntryLemmas.{Above, above_from, above_so, entered_first, live_above, has_not, changed_above, without_above}
 
 -- no entry has the slot
@@ -113,11 +113,20 @@ masked_back t h masks live is found =
     ap (λ es. record t { entries = es })
     (changed_back h (λ e. record e { masks = masks }) (λ e. record e { masks = live.masks }) (λ e. refl) t.entries live is.rising found refl)
 
+pub grouped_back : (t : Table) (h : Handle) (group : Group) (live : Live) → IsTable t → entry_at h t.entries ≡ Some live
+    → after_set_group (after_set_group t h group) h live.group ≡ t
+grouped_back t h group live is found =
+    ap (λ es. record t { entries = es })
+    (changed_back h (λ e. record e { group = group }) (λ e. record e { group = live.group }) (λ e. refl) t.entries live is.rising found refl)
+
 pub moved_live : (t : Table) (h : Handle) (body : Bounds) → is_some (entry_at h (after_set_box t h body).entries) ≡ is_some (entry_at h t.entries)
 moved_live t h body = live-changed h (λ e. record e { body = body }) (λ e. e) (λ e. refl) t.entries
 
 pub masked_live : (t : Table) (h : Handle) (masks : Masks) → is_some (entry_at h (after_set_masks t h masks).entries) ≡ is_some (entry_at h t.entries)
 masked_live t h masks = live-changed h (λ e. record e { masks = masks }) (λ e. e) (λ e. refl) t.entries
+
+pub grouped_live : (t : Table) (h : Handle) (group : Group) → is_some (entry_at h (after_set_group t h group).entries) ≡ is_some (entry_at h t.entries)
+grouped_live t h group = live-changed h (λ e. record e { group = group }) (λ e. e) (λ e. refl) t.entries
 
 -- what all entries meet, the one that is found meets
 pub all_found : (P : Live → Type 0) (h : Handle) (es : List Live) (live : Live) → All P es → entry_at h es ≡ Some live → P live

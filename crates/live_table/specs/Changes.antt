@@ -6,13 +6,14 @@ use Rattle.live_table.specs.declared.group.Group.{Group}
 use Rattle.live_table.specs.declared.handle.Handle.{Handle}
 use Rattle.live_table.specs.declared.masks.Masks.{Masks}
 use Rattle.live_table.specs.Entries.{entry_at}
-use Rattle.live_table.specs.Table.{Table, least_free, after_give, after_set_box, after_set_masks, after_take}
+use Rattle.live_table.specs.Table.{Table, least_free, after_give, after_set_box, after_set_masks, after_set_group, after_take}
 
 -- a call that changes a table and undoes nothing
 pub data TableChange : Type 0 where
   give : (body : Bounds) (masks : Masks) (group : Group) → TableChange
   set_box : (handle : Handle) (body : Bounds) → TableChange
   set_masks : (handle : Handle) (masks : Masks) → TableChange
+  set_group : (handle : Handle) (group : Group) → TableChange
   take : (handle : Handle) → TableChange
 
 -- what the call makes of the table; a give changes nothing where no slot is free
@@ -20,6 +21,7 @@ abbrev pub after_change : Table → TableChange → Table
 after_change t (give body masks group) = if least_free t == SLOTS then t else after_give t body masks group
 after_change t (set_box handle body) = after_set_box t handle body
 after_change t (set_masks handle masks) = after_set_masks t handle masks
+after_change t (set_group handle group) = after_set_group t handle group
 after_change t (take handle) = after_take t handle
 
 -- what several make of it, the first one first

@@ -10,7 +10,7 @@ use Rattle.live_table.specs.declared.handle.Handle.{Handle}
 use Rattle.live_table.specs.declared.masks.Masks.{Masks}
 use Rattle.live_table.specs.declared.live.Live.{Live}
 use Rattle.live_table.specs.Bodies.{slots_with_bodies, bodies_of}
-use Rattle.live_table.specs.Entries.{slot_of, live_at, least_from, entered, with_body, with_masks, without, rises}
+use Rattle.live_table.specs.Entries.{slot_of, live_at, least_from, entered, with_body, with_masks, with_group, without, rises}
 use Rattle.fixed_box.specs.Space.{space}
 
 -- The live boxes in order of their slots, and how often each of the `SLOTS` slots was given.
@@ -58,6 +58,10 @@ after_set_box t handle body = record t { entries = with_body handle body t.entri
 -- the handle's box has other masks
 abbrev pub after_set_masks : Table → Handle → Masks → Table
 after_set_masks t handle masks = record t { entries = with_masks handle masks t.entries }
+
+-- the handle's box has another owner and fixed mark
+abbrev pub after_set_group : Table → Handle → Group → Table
+after_set_group t handle group = record t { entries = with_group handle group t.entries }
 
 -- the handle's box is gone
 abbrev pub after_take : Table → Handle → Table

@@ -15,10 +15,10 @@ ghost use Rattle.live_table.specs.Bodies.{bodies_of};
 ghost use Rattle.live_table.specs.Changes.{TableChange, after_change, after_changes, IsGone};
 ghost use Rattle.live_table.specs.Entries.{slot_of, entry_at};
 ghost use Rattle.live_table.specs.Table.{Table, IsTable, IsVacated, least_free, IsLeastFree, next_handle, after_give, after_set_box, after_set_masks};
-ghost use Rattle.live_table.specs.Table.{after_take, after_ungive, after_put_back};
+ghost use Rattle.live_table.specs.Table.{after_set_group, after_take, after_ungive, after_put_back};
 
-/// Laws of tables for proofs, with nothing to run: `ungive` undoes `give`, `put_back` undoes `take`, and `set_box` and
-/// `set_masks` undo themselves. What each of these asks for holds then.
+/// Laws of tables for proofs, with nothing to run: `ungive` undoes `give`, `put_back` undoes `take`, and `set_box`, `set_masks` and
+/// `set_group` undo themselves. What each of these asks for holds then.
 pub fn undo_laws()
     ensures given { (t : Table) (body : Bounds) (masks : Masks) (group : Group) → IsTable t → IsLeastFree (least_free t) t
         → least_free t < SLOTS → after_ungive (after_give t body masks group) (next_handle t) ≡ t }
@@ -26,6 +26,8 @@ pub fn undo_laws()
         → after_set_box (after_set_box t handle body) handle live.body ≡ t }
     ensures masked { (t : Table) (handle : Handle) (masks : Masks) (live : Live) → IsTable t → entry_at handle t.entries ≡ Some live
         → after_set_masks (after_set_masks t handle masks) handle live.masks ≡ t }
+    ensures grouped { (t : Table) (handle : Handle) (group : Group) (live : Live) → IsTable t → entry_at handle t.entries ≡ Some live
+        → after_set_group (after_set_group t handle group) handle live.group ≡ t }
     ensures taken { (t : Table) (handle : Handle) (live : Live) → IsTable t → entry_at handle t.entries ≡ Some live
         → after_put_back (after_take t handle) live ≡ t }
     ensures given_lives { (t : Table) (body : Bounds) (masks : Masks) (group : Group) → IsLeastFree (least_free t) t
@@ -34,6 +36,8 @@ pub fn undo_laws()
         → is_some (entry_at handle (after_set_box t handle body).entries) ≡ is_some (entry_at handle t.entries) }
     ensures masked_lives { (t : Table) (handle : Handle) (masks : Masks)
         → is_some (entry_at handle (after_set_masks t handle masks).entries) ≡ is_some (entry_at handle t.entries) }
+    ensures grouped_lives { (t : Table) (handle : Handle) (group : Group)
+        → is_some (entry_at handle (after_set_group t handle group).entries) ≡ is_some (entry_at handle t.entries) }
     ensures vacated { (t : Table) (handle : Handle) (live : Live) → IsTable t → entry_at handle t.entries ≡ Some live
         → IsVacated live (after_take t handle) }
 {}
@@ -75,6 +79,9 @@ pub fn map_laws()
     ensures masked { (t : Table) (handle : Handle) (masks : Masks)
         → bodies_of (after_set_masks t handle masks).entries ≡ bodies_of t.entries }
     ensures masked_table { (t : Table) (handle : Handle) (masks : Masks) → IsTable t → IsTable (after_set_masks t handle masks) }
+    ensures grouped { (t : Table) (handle : Handle) (group : Group)
+        → bodies_of (after_set_group t handle group).entries ≡ bodies_of t.entries }
+    ensures grouped_table { (t : Table) (handle : Handle) (group : Group) → IsTable t → IsTable (after_set_group t handle group) }
     ensures vacant { (t : Table) (live : Live) → IsTable t → IsVacated live t → contains_key (bodies_of t.entries) (slot_of live) ≡ false }
     ensures put_back { (t : Table) (live : Live) → IsTable t → IsVacated live t
         → bodies_of (after_put_back t live).entries ≡ insert (bodies_of t.entries) (slot_of live) live.body }

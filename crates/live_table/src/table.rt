@@ -7,7 +7,7 @@ ghost use Rattle.std.specs.Result.{result_ok};
 ghost use Rattle.live_table.specs.Bodies.{bodies_of, body_of};
 ghost use Rattle.live_table.specs.Entries.{slot_of, live_at, entry_at};
 ghost use Rattle.live_table.specs.Table.{empty_table, next_handle, after_give, after_set_box, after_set_masks, after_take, after_ungive, after_put_back};
-ghost use Rattle.live_table.specs.Table.{IsTable, IsVacated, least_free, IsLeastFree};
+ghost use Rattle.live_table.specs.Table.{after_set_group, IsTable, IsVacated, least_free, IsLeastFree};
 
 use crate::freed_slots::FreedSlots;
 use crate::slot::{Slot, gives_so_far, least_open, open_slot};
@@ -186,6 +186,20 @@ impl LiveTable {
     {
         let live = self.find(handle)?;
         self.slots[handle.slot as usize].live = Some(Live { masks, ..live });
+        Ok(())
+    }
+
+    /// Gives the handle's box another owner and fixed mark.
+    pub fn set_group(&mut self, handle: Handle, group: Group) -> Result<(), Stale>
+        ensures known { is_ok result ≡ is_some (entry_at handle self.old.entries) }
+        ensures after { self.new ≡ after_set_group self.old handle group }
+        ensures err { OnErr result (self.new ≡ self.old) }
+        ensures small { OnOk result (handle.slot < SLOTS) }
+        ensures bodies { bodies_of self.new.entries ≡ bodies_of self.old.entries }
+        ensures table { IsTable self.new }
+    {
+        let live = self.find(handle)?;
+        self.slots[handle.slot as usize].live = Some(Live { group, ..live });
         Ok(())
     }
 

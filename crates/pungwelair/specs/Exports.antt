@@ -7,7 +7,7 @@ use Rattle.live_table.specs.declared.handle.Handle.{Handle}
 use Rattle.live_table.specs.declared.live.Live.{Live}
 use Rattle.live_table.specs.declared.masks.Masks.{Masks}
 use Rattle.live_table.specs.Entries.{live_at}
-use Rattle.box_world.specs.World.{masked, marked, forgotten, gone_back}
+use Rattle.box_world.specs.World.{masked, regrouped, marked, forgotten, gone_back}
 use Rattle.box_world.specs.Answers.{opened, with_world, with_time, after_frame, change_refusal, frame_refusal}
 use Rattle.any_world.specs.declared.any_world.AnyWorld.{AnyWorld}
 use Rattle.any_world.specs.AnyWorld.{state_of, structure_of, counts_of, runs_out}
@@ -118,6 +118,14 @@ pub record IsInfo (status : ℕ) (info : PwInfo) (was : AnyWorld) : Type 0 where
 pub record SetsMasks (handle : Handle) (masks : Masks) (status : ℕ) (was now : AnyWorld) : Type 0 where
   pub answer : let old = state_of was in let world = old.time.now in
       Tells (change_refusal world handle) (with_world old (masked world handle masks)) status old (state_of now)
+  pub unmarked : (state_of was).spent ≡ false → (state_of was).time.marks ≡ [] → status ≢ NO_MEMORY
+  pub same : status ≢ OK → state_of now ≡ state_of was
+  pub structure : structure_of now ≡ structure_of was
+
+-- what a call says that gives a box another owner and fixed mark
+pub record SetsGroup (handle : Handle) (group : Group) (status : ℕ) (was now : AnyWorld) : Type 0 where
+  pub answer : let old = state_of was in let world = old.time.now in
+      Tells (change_refusal world handle) (with_world old (regrouped world handle group)) status old (state_of now)
   pub unmarked : (state_of was).spent ≡ false → (state_of was).time.marks ≡ [] → status ≢ NO_MEMORY
   pub same : status ≢ OK → state_of now ≡ state_of was
   pub structure : structure_of now ≡ structure_of was

@@ -1,12 +1,12 @@
-//! The exports that set masks, end a frame, mark the world, give up old marks and go back.
+//! The exports that set masks and owners, end a frame, mark the world, give up old marks and go back.
 
 ghost use Rattle.std.specs.Prelude.{◌≡◌};
 ghost use Rattle.held_world.specs.declared.TheConstants.{CLOSED};
-ghost use Rattle.held_world.specs.Plain.{handle_in, masks_in};
-ghost use Rattle.pungwelair.specs.Exports.{Calls, SetsMasks, Updates, MarksWorld, Forgets, GoesBack};
+ghost use Rattle.held_world.specs.Plain.{handle_in, masks_in, group_in};
+ghost use Rattle.pungwelair.specs.Exports.{Calls, SetsMasks, SetsGroup, Updates, MarksWorld, Forgets, GoesBack};
 
 use crate::world::PwWorld;
-use held_world::{CLOSED, PwCounts, PwHandle, PwMasks};
+use held_world::{CLOSED, PwCounts, PwGroup, PwHandle, PwMasks};
 use std::alloc::Global;
 
 /// A box gets other masks.
@@ -24,6 +24,25 @@ pub extern "C" fn pw_mask(
         return CLOSED;
     };
     let status = held.mask(&handle, &masks);
+    world.put(held);
+    status
+}
+
+/// A box gets another owner and fixed mark.
+#[unsafe(no_mangle)]
+pub extern "C" fn pw_regroup(
+    alloc: Global,
+    world: &mut PwWorld,
+    handle: PwHandle,
+    group: PwGroup,
+) -> u32
+    ensures { Calls (λ was now. SetsGroup (handle_in handle) (group_in group) result was.world now.world) (result ≡ CLOSED)
+        world.old.held.inner world.new.held.inner }
+{
+    let Some(mut held) = world.take(alloc) else {
+        return CLOSED;
+    };
+    let status = held.regroup(&handle, &group);
     world.put(held);
     status
 }

@@ -5,7 +5,7 @@ use Rattle.std.proofs.lemmas.List.{set_past}
 use Rattle.std.proofs.lemmas.List.Sums.{sum_by-set}
 use Rattle.live_table.specs.Table.{Table, lowered}
 use Rattle.world_marks.specs.declared.undo.Undo.{Undo}
-use Rattle.world_marks.specs.declared.undo.Undo.TheVariants.{Given, Moved, Masked, Taken}
+use Rattle.world_marks.specs.declared.undo.Undo.TheVariants.{Given, Moved, Masked, Regrouped, Taken}
 use Rattle.world_marks.specs.Undone.{after_undo, undone, CanUndo, AreUndoable}
 
 pub undone-append : (us vs : List Undo) (t : Table) → undone (us ++ vs) t ≡ undone us (undone vs t)
@@ -46,4 +46,5 @@ undone_few [] t = omega arith
 undone_few (Given handle ∷ us) t = omega (arith, lowered_few (undone us t).gives handle.slot, undone_few us t)
 undone_few (Moved handle body ∷ us) t = undone_few us t
 undone_few (Masked handle masks ∷ us) t = undone_few us t
+undone_few (Regrouped handle group ∷ us) t = undone_few us t
 undone_few (Taken live ∷ us) t = undone_few us t

@@ -58,6 +58,7 @@ fn undo_box<B: BroadPhase>(undo: &Undo, index: &mut B) -> Result<(), NoMemory>
             index.shift(handle.slot, *body)
         }
         Undo::Masked { .. } => Ok(()),
+        Undo::Regrouped { .. } => Ok(()),
         Undo::Taken { live } => {
             space_law(&live.body);
             index.add(live.handle.slot, live.body)
@@ -92,6 +93,10 @@ fn undo_change(undo: &Undo, table: &mut LiveTable)
             Err(Stale) => unreachable!(),
         },
         Undo::Masked { handle, masks } => match table.set_masks(*handle, *masks) {
+            Ok(()) => (),
+            Err(Stale) => unreachable!(),
+        },
+        Undo::Regrouped { handle, group } => match table.set_group(*handle, *group) {
             Ok(()) => (),
             Err(Stale) => unreachable!(),
         },

@@ -10,5 +10,9 @@ pub returns-clause-masked : goal.returns-clause-masked
 returns-clause-masked c w handle masks stale =
     ap (λ es. record w { table = record w.table { entries = es } }) (unchanged handle (λ entry. record entry { masks = masks }) w.table.entries stale)
 
+pub returns-clause-regrouped : goal.returns-clause-regrouped
+returns-clause-regrouped c w handle group stale =
+    ap (λ es. record w { table = record w.table { entries = es } }) (unchanged handle (λ entry. record entry { group = group }) w.table.entries stale)
+
 pub returns-clause-removed : goal.returns-clause-removed
 returns-clause-removed c w handle stale = ap (λ es. record w { table = record w.table { entries = es } }) (none_gone handle w.table.entries stale)

@@ -1,7 +1,7 @@
 -- Each clause is a lemma on tables.
 use Rattle.live_table.proofs.BodyMaps.{vacated_absent}
 use Rattle.live_table.proofs.TableChanges.{slot_small, slot_present, ungiven_map, ungiven_table, moved_map}
-use Rattle.live_table.proofs.TableChanges.{moved_table, masked_map, masked_table, put_back_map, put_back_table}
+use Rattle.live_table.proofs.TableChanges.{moved_table, masked_map, masked_table, grouped_map, grouped_table, put_back_map, put_back_table}
 use Rattle.live_table.proofs.laws.map_laws.Goals as goal
 
 pub returns-clause-small : goal.returns-clause-small
@@ -27,6 +27,12 @@ returns-clause-masked c = masked_map
 
 pub returns-clause-masked_table : goal.returns-clause-masked_table
 returns-clause-masked_table c = masked_table
+
+pub returns-clause-grouped : goal.returns-clause-grouped
+returns-clause-grouped c = grouped_map
+
+pub returns-clause-grouped_table : goal.returns-clause-grouped_table
+returns-clause-grouped_table c = grouped_table
 
 pub returns-clause-vacant : goal.returns-clause-vacant
 returns-clause-vacant c = vacated_absent
