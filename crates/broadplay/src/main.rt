@@ -3,8 +3,7 @@
 #![tactic(auto)]
 
 use frame_player::Status;
-pub use job_runs::broadplay;
-pub use job_words::{Job, Structure, Task, read_words};
+pub use job_runs::{Job, Structure, Task, broadplay, read_words};
 pub use made_scene::drill_scene;
 use pair_report::put_refused;
 use play_io::{FileSink, FileSource};
@@ -63,20 +62,22 @@ fn tell_refused(rt: &(impl Eprint + AllocGlobal), words: &[String], status: Stat
     let Status::Refused { line, cause } = status else {
         return;
     };
-    let Some(
-        Job {
-            task: Task::Upgrade,
-            ..
-        },
-    ) = read_words(words)
-    else {
+    if !is_upgrade(words) {
         return;
-    };
+    }
     let mut text = Vec::new(rt.alloc());
     if put_refused(line, cause, &mut text).is_ok() {
         if let Ok(text) = str::from_utf8(&text) {
             let _ = eprint!(rt; "{text}");
         }
+    }
+}
+
+// Whether a command line that has a meaning is that of an upgrade.
+fn is_upgrade(words: &[String]) -> bool {
+    match words.first() {
+        Some(word) => word.as_str() == "upgrade",
+        None => false,
     }
 }
 
@@ -90,6 +91,3 @@ fn exit_code(status: Status) -> u8 {
         Status::NoMemory => 5,
     }
 }
-
-#[cfg(test)]
-mod tests;

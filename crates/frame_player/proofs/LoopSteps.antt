@@ -17,11 +17,11 @@ use Rattle.play_rules.specs.Course.{Course, Played, run_from, whole}
 use Rattle.play_rules.specs.Outcome.{IsBegun}
 use Rattle.play_rules.specs.OutcomeLaws.{append_known-nil}
 use Rattle.play_rules.specs.Readable.{readable, unless_full}
-use Rattle.scene_steps.specs.declared.step.Step.{Step}
-use Rattle.scene_steps.specs.declared.step.Step.TheVariants as what
-use Rattle.scene_steps.specs.Reached.{IsReached, IsTextOf}
-use Rattle.scene_steps.specs.ReachedLaws.{opened, line_played, line_refused, input_ended, input_unbegun, read_failed, replied_within}
-use Rattle.scene_steps.specs.Step.{IsStepOf, IsPast, IsAhead}
+use Rattle.frame_player.specs.declared.step.Step.{Step}
+use Rattle.frame_player.specs.declared.step.Step.TheVariants as what
+use Rattle.frame_player.specs.Reached.{IsReached, IsTextOf}
+use Rattle.frame_player.proofs.ReachedLaws.{opened, line_played, line_refused, input_ended, input_unbegun, read_failed, replied_within}
+use Rattle.frame_player.specs.Step.{IsStepOf, IsPast, IsAhead}
 use Rattle.frame_player.specs.Outlet.{Outlet, IsHanded, IsStopped, IsSaid, IsCutShort}
 use Rattle.frame_player.proofs.Sending.{begun_within, on_some, said_each, said_on, said_stopped, on_fault}
 

@@ -11,8 +11,8 @@ use Rattle.play_rules.specs.declared.status.Status.{Status}
 use Rattle.play_rules.specs.declared.status.Status.TheVariants.{Done, Refused, ReadFault}
 use Rattle.play_rules.specs.Course.{Played, whole}
 use Rattle.play_rules.specs.Outcome.{Ends, IsBegun, IsReportBegun, IsWriteFault, IsOutcome}
-use Rattle.scene_steps.specs.Reached.{IsTextOf}
-use Rattle.scene_steps.specs.ReachedLaws.{Begins, text_within}
+use Rattle.frame_player.specs.Reached.{IsTextOf}
+use Rattle.frame_player.proofs.ReachedLaws.{Begins, text_within}
 use Rattle.frame_player.specs.Ending.{IsCountedAs, after_fault, ended}
 use Rattle.frame_player.specs.Outlet.{Outlet, outlet, IsSaid, IsSent}
 use Rattle.frame_player.proofs.Sending.{begun_all, begun_within, on_some, said_all, said_each, said_stopped}

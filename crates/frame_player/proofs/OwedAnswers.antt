@@ -1,13 +1,15 @@
 -- The answers that are owed, as queries are held and answered.
-use Rattle.std.proofs.Common.{◌≡◌, ℕ, ◌++◌, ◌∷◌, Bool, true, false, List, [], Option, None, Some, refl, sym, ap, ◌∙◌}
+use Rattle.std.proofs.Common.{◌≡◌, ℕ, ◌++◌, ◌∷◌, Bool, List, [], Result, refl, sym, ap, subst, ◌∙◌}
 use Rattle.std.proofs.lemmas.List.{append_assoc, append-nil}
 use Rattle.live_table.specs.declared.live.Live.{Live}
 use Rattle.frame_player.specs.declared.asked.Asked.{Asked}
+use Rattle.play_rules.specs.World.{World, reply}
 use Rattle.scene_words.specs.declared.command.Command.{Command}
-use Rattle.scene_words.specs.declared.command.Command.TheVariants.{Blank, Header, Add, Move, Mask, Remove, Frame, BoxQ, PointQ, RayQ, SegQ, Cast, Near, Mark}
-use Rattle.scene_words.specs.declared.command.Command.TheVariants.{Back}
-use Rattle.play_rules.specs.World.{World, live_in, reply}
-use Rattle.frame_player.specs.Owed.{asked_by, answer_line, answers}
+use Rattle.play_io.specs.declared.sink.SinkFault.{SinkFault}
+use Rattle.std.specs.Result.{IsErrAnd}
+use Rattle.frame_player.specs.Outlet.{Outlet, IsHanded, IsStopped, IsSent}
+use Rattle.frame_player.proofs.Sending.{on_always, sent_after, stopped_more, stopped_so}
+use Rattle.frame_player.specs.Owed.{answer_line, answers}
 
 -- one more query is held
 answers_push : (entries : List Live) (run : List Asked) (asked : Asked)
@@ -26,25 +28,15 @@ one_more_owed entries text run longer asked is =
 pub none_owed : (entries : List Live) (text : List ℕ) (run : List Asked) → run ≡ [] → text ≡ text ++ answers entries run
 none_owed entries text run none = sym (append-nil text) ∙ ap (λ r. text ++ answers entries r) (sym none)
 
-abbrev line_in : World → Option Asked → List ℕ
-line_in w None = []
-line_in w (Some asked) = answer_line (live_in w) asked
+-- the answers that are owed can't go on, and so no reply can
+pub reply_stopped : {T : Type 0} (a b : Outlet) (start said held : List ℕ) (r : Result T SinkFault) (fault : SinkFault) → IsErrAnd r (λ e. e ≡ fault)
+    → IsStopped a b start fault → IsSent a b (start ++ said) held r
+reply_stopped a b start said held r fault is stopped = stopped_so a b (start ++ said) held r fault is (stopped_more a b start said fault stopped)
 
--- a query that can wait is answered by its line
-pub asked_reply : (shows : Bool) (w : World) (c : Command) (asked : Asked) → asked_by c ≡ Some asked → answer_line (live_in w) asked ≡ reply shows w c
-asked_reply shows w Blank asked h = absurd (cc)
-asked_reply shows w (Header version) asked h = absurd (cc)
-asked_reply shows w (Add body masks group) asked h = absurd (cc)
-asked_reply shows w (Move handle body) asked h = absurd (cc)
-asked_reply shows w (Mask handle masks) asked h = absurd (cc)
-asked_reply shows w (Remove handle) asked h = absurd (cc)
-asked_reply shows w Frame asked h = absurd (cc)
-asked_reply shows w (BoxQ body mask) asked h = ap (line_in w) (sym h)
-asked_reply shows w (PointQ at mask) asked h = ap (line_in w) (sym h)
-asked_reply shows w (RayQ ray mask true) asked h = ap (line_in w) (sym h)
-asked_reply shows w (RayQ ray mask false) asked h = ap (line_in w) (sym h)
-asked_reply shows w (SegQ seg mask) asked h = ap (line_in w) (sym h)
-asked_reply shows w (Cast cast mask) asked h = ap (line_in w) (sym h)
-asked_reply shows w (Near at want mask) asked h = absurd (cc)
-asked_reply shows w Mark asked h = absurd (cc)
-asked_reply shows w Back asked h = absurd (cc)
+-- the answers that were owed went on, and the reply of a command goes behind them
+pub reply_sent : {T : Type 0} (a b c : Outlet) (w : World) (shows : Bool) (d e : Command) (start text left : List ℕ) (entries : List Live) (run : List Asked)
+    (r : Result T SinkFault) → IsHanded a b start text → IsSent b c (text ++ reply shows w d) left r → run ≡ [] → d ≡ e
+    → IsSent a c (start ++ reply shows w e) (left ++ answers entries run) r
+reply_sent a b c w shows d e start text left entries run r first second none same =
+    subst (λ k. IsSent a c (start ++ reply shows w k) (left ++ answers entries run) r) same
+    (sent_after a b c start text (reply shows w d) left (left ++ answers entries run) r first second (on_always r (none_owed entries left run none)))

@@ -1,30 +1,18 @@
 -- Serves proofs alone: the answers to queries that are gathered.
-use Rattle.std.specs.Prelude.{◌≡◌, ℕ, ◌<◌, true, false, List, length, map, flat_map, Option, Some, None}
+use Rattle.std.specs.Prelude.{◌≡◌, ℕ, ◌<◌, List, length, map, flat_map}
 use Rattle.live_table.specs.declared.live.Live.{Live}
 use Rattle.broad_index.specs.declared.query.Query.{Query}
-use Rattle.broad_index.specs.declared.query.Query.TheVariants.{Region, Spot, Along, Between}
+use Rattle.broad_index.specs.declared.query.Query.TheVariants.{Region, Along}
 use Rattle.broad_index.specs.declared.query.QKind.TheVariants as kind
 use Rattle.broad_index.specs.Found.{kind_of}
 use Rattle.box_cast.specs.Hull.{cast_hull}
 use Rattle.pair_report.specs.PairReport.{hits_line, cast_line}
-use Rattle.scene_words.specs.declared.command.Command.{Command}
-use Rattle.scene_words.specs.declared.command.Command.TheVariants.{BoxQ, PointQ, RayQ, SegQ, Cast}
 use Rattle.live_queries.specs.Pairs.{hits_of}
 use Rattle.live_queries.specs.Queries.{entered_of, cast_of}
 use Rattle.frame_player.specs.declared.asked.Asked.{Asked}
 use Rattle.frame_player.specs.declared.asked.Asked.TheVariants as asked
 use Rattle.frame_player.specs.declared.query_run.QueryRun.{QueryRun}
 use Rattle.frame_player.specs.declared.query_run.TheConstants.{LONGEST_RUN}
-
--- what a command asks, where it is a query that can wait
-abbrev pub asked_by : Command → Option Asked
-asked_by (BoxQ body mask) = Some (asked.Hits (Region body) mask)
-asked_by (PointQ at mask) = Some (asked.Hits (Spot at) mask)
-asked_by (RayQ ray mask true) = Some (asked.Entered ray mask)
-asked_by (RayQ ray mask false) = Some (asked.Hits (Along ray) mask)
-asked_by (SegQ seg mask) = Some (asked.Hits (Between seg) mask)
-asked_by (Cast cast mask) = Some (asked.Met cast mask)
-asked_by _ = None
 
 -- what the index is asked for it
 abbrev pub query_for : Asked → Query

@@ -5,8 +5,6 @@ use Rattle.live_table.specs.declared.live.Live.{Live}
 use Rattle.box_world.specs.Answers.{State, add_refusal, shift_refusal, frame_refusal}
 use Rattle.box_world.specs.World.{World as Boxes}
 use Rattle.box_world.specs.declared.refusal.Refusal.TheVariants.{Exhausted}
-use Rattle.scene_words.specs.declared.command.Command.{Command}
-use Rattle.scene_words.specs.declared.command.Command.TheVariants.{Blank, Frame, BoxQ, PointQ, RayQ, SegQ, Cast, Near}
 use Rattle.scene_words.specs.declared.version.Version.{Version}
 use Rattle.play_rules.specs.World.{World}
 
@@ -23,19 +21,3 @@ pub record HasRoom (w : Boxes) : Type 0 where
   pub add : add_refusal w ≢ Some Exhausted
   pub shift : (handle : Handle) → shift_refusal w handle ≢ Some Exhausted
   pub frame : frame_refusal w ≢ Some Exhausted
-
--- a command that is answered at once: neither a blank line nor a query that can wait
-abbrev pub IsAtOnce : Command → Type 0
-IsAtOnce Blank = ⊥
-IsAtOnce (BoxQ body mask) = ⊥
-IsAtOnce (PointQ at mask) = ⊥
-IsAtOnce (RayQ ray mask entry) = ⊥
-IsAtOnce (SegQ seg mask) = ⊥
-IsAtOnce (Cast cast mask) = ⊥
-IsAtOnce other = Unit {0}
-
--- a command that changes the world at once, and replies in at most one line
-abbrev pub IsChange : Command → Type 0
-IsChange Frame = ⊥
-IsChange (Near at want mask) = ⊥
-IsChange other = IsAtOnce other

@@ -4,7 +4,7 @@ ghost use Rattle.std.specs.Prelude.{◌≡◌, ◌++◌, OnOk, OnErr};
 ghost use Rattle.broad_index.specs.Found.{found};
 ghost use Rattle.live_table.specs.Bodies.{bodies_of};
 ghost use Rattle.live_table.specs.Table.{IsTable};
-ghost use Rattle.frame_player.specs.Owed.{asked_by, query_for, answer_line};
+ghost use Rattle.frame_player.specs.Owed.{query_for, answer_line};
 
 use box_cast::Cast;
 use broad_index::{QKind, Query};
@@ -13,7 +13,6 @@ use live_queries::{push_cast, push_entered, push_hits};
 use live_table::{Handle, LiveTable};
 use pair_report::{put_cast, put_hits};
 use ray_slabs::Ray;
-use scene_words::Command;
 
 // A query that can wait for its answer.
 #[derive(Clone, Copy)]
@@ -27,43 +26,6 @@ pub(crate) enum Asked {
 }
 
 impl Asked {
-    // What a command asks, where it is a query that can wait.
-    pub(crate) fn by(command: &Command) -> Option<Asked>
-        ensures { result ≡ asked_by command.now }
-    {
-        match command {
-            Command::BoxQ { body, mask } => Some(Asked::Hits {
-                query: Query::Region(*body),
-                mask: *mask,
-            }),
-            Command::PointQ { at, mask } => Some(Asked::Hits {
-                query: Query::Spot(*at),
-                mask: *mask,
-            }),
-            Command::RayQ {
-                ray,
-                mask,
-                entry: true,
-            } => Some(Asked::Entered {
-                ray: *ray,
-                mask: *mask,
-            }),
-            Command::RayQ { ray, mask, .. } => Some(Asked::Hits {
-                query: Query::Along(*ray),
-                mask: *mask,
-            }),
-            Command::SegQ { seg, mask } => Some(Asked::Hits {
-                query: Query::Between(*seg),
-                mask: *mask,
-            }),
-            Command::Cast { cast, mask } => Some(Asked::Met {
-                cast: *cast,
-                mask: *mask,
-            }),
-            _ => None,
-        }
-    }
-
     // What an index is asked for it.
     pub(crate) fn query(&self) -> Query
         ensures { result ≡ query_for self.now }

@@ -5,11 +5,12 @@ ghost use Rattle.live_queries.specs.Queries.{nearest_to};
 ghost use Rattle.pair_report.specs.PairReport.{near_line};
 ghost use Rattle.play_rules.specs.World.{after, allowed, reply};
 ghost use Rattle.scene_words.specs.Ranges.{IsPrintable, IsWanted};
+ghost use Rattle.frame_player.specs.Deed.{changing};
 ghost use Rattle.frame_player.specs.Outlet.{IsAppended, IsSentBy};
 ghost use Rattle.frame_player.specs.Owed.{owed, IsRun};
-ghost use Rattle.frame_player.specs.Player.{world_of, live_in, HasRoom, IsAtOnce, IsChange};
+ghost use Rattle.frame_player.specs.Player.{world_of, live_in, HasRoom};
 
-use crate::asked::Asked;
+use crate::deed::{Change, Deed};
 use crate::player::Player;
 use crate::query_run::{QueryRun, gather, settle};
 use crate::report::Report;
@@ -44,67 +45,42 @@ pub(crate) fn obey<R: Threads + Sync, B: BroadPhase + Sync + Drop, G: Gate + Syn
         (out.new.text.now.items ++ owed (live_in player.new.world) run.new) result }
     ensures run { OnOk result (IsRun run.new) }
 {
-    if matches!(command, Command::Blank) {
-        return Ok(());
-    }
-    if let Some(asked) = Asked::by(command) {
-        return gather(setup, player, run, asked, out);
-    }
-    settle(setup, player, run, out)?;
-    obey_now(setup, player, command, out)
-}
-
-// Does what a line asks for that is answered at once, where nothing is owed.
-fn obey_now<R: Threads + Sync, B: BroadPhase + Sync + Drop, G: Gate + Sync, K: Sink>(
-    setup: &Setup<'_, R, G>,
-    player: &mut Player<B>,
-    command: &Command,
-    out: &mut Report<'_, K>,
-) -> Result<(), SinkFault>
-    requires sound { player.old.world.spent ≡ false }
-    requires allowed { allowed (world_of player.old.version player.old.world) (Ok command.now) ≡ Ok command.now }
-    requires printable { IsPrintable command.now }
-    requires room { HasRoom player.old.world.time.now }
-    requires at_once { IsAtOnce command.now }
-    ensures obeyed { OnOk result (world_of player.new.version player.new.world
-        ≡ after B.COUNTS (world_of player.old.version player.old.world) command.now) }
-    ensures sound { OnOk result (player.new.world.spent ≡ false) }
-    ensures sent { IsAppended K.written K.faults K.since out.old out.new
-        (reply setup.now.options.exchanges (world_of player.old.version player.old.world) command.now) result }
-{
-    match command {
-        Command::Frame => player.end_frame(setup, out),
-        Command::Near { at, want, mask } => {
-            let query = NearQuery {
-                at: *at,
-                want: *want,
-                mask: *mask,
-            };
+    match Deed::of(command) {
+        Deed::Nothing => Ok(()),
+        Deed::Ask(asked) => gather(setup, player, run, asked, out),
+        Deed::Nearest(query) => {
+            settle(setup, player, run, out)?;
             send_nearest(player, &query, out)
         }
-        _ => change(player, command, out),
+        Deed::EndFrame => {
+            settle(setup, player, run, out)?;
+            player.end_frame(setup, out)
+        }
+        Deed::Change(change) => {
+            settle(setup, player, run, out)?;
+            send_change(player, &change, out)
+        }
     }
 }
 
 // Changes the world at once, and hands the reply on.
 #[tactic(auto, using(crate::proofs::Sending::report_out_of_memory))]
-fn change<B: BroadPhase + Drop, K: Sink>(
+fn send_change<B: BroadPhase + Drop, K: Sink>(
     player: &mut Player<B>,
-    command: &Command,
+    change: &Change,
     out: &mut Report<'_, K>,
 ) -> Result<(), SinkFault>
     requires sound { player.old.world.spent ≡ false }
-    requires allowed { allowed (world_of player.old.version player.old.world) (Ok command.now) ≡ Ok command.now }
+    requires allowed { allowed (world_of player.old.version player.old.world) (Ok (changing change.now)) ≡ Ok (changing change.now) }
     requires room { HasRoom player.old.world.time.now }
-    requires change { IsChange command.now }
     ensures obeyed { OnOk result (world_of player.new.version player.new.world
-        ≡ after B.COUNTS (world_of player.old.version player.old.world) command.now) }
+        ≡ after B.COUNTS (world_of player.old.version player.old.world) (changing change.now)) }
     ensures sound { OnOk result (player.new.world.spent ≡ false) }
     // It tells no exchanges.
     ensures sent { (shows : Bool) → IsAppended K.written K.faults K.since out.old out.new
-        (reply shows (world_of player.old.version player.old.world) command.now) result }
+        (reply shows (world_of player.old.version player.old.world) (changing change.now)) result }
 {
-    player.change(command, out.text)?;
+    player.change(change, out.text)?;
     out.hand_on()
 }
 

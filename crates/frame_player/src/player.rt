@@ -10,8 +10,11 @@ ghost use Rattle.box_world.specs.declared.refusal.Refusal.TheVariants.{Exhausted
 ghost use Rattle.play_rules.specs.World.{opening, after, allowed, reply, shown};
 ghost use Rattle.frame_player.specs.FrameText.{shown_number};
 ghost use Rattle.frame_player.specs.Outlet.{IsAppended};
-ghost use Rattle.frame_player.specs.Player.{world_of, live_in, HasRoom, IsChange};
+ghost use Rattle.frame_player.specs.Deed.{changing};
+ghost use Rattle.frame_player.specs.Player.{world_of, live_in, HasRoom};
+ghost use Rattle.scene_words.specs.declared.command.Command.{Command};
 
+use crate::deed::Change;
 use crate::frame_text::send_frame;
 use crate::report::Report;
 use crate::setup::Setup;
@@ -21,7 +24,7 @@ use fixed_box::{FBox, NoMemory};
 use live_table::{Group, Handle, Masks};
 use pair_report::{HandleTexts, put_add, put_back, put_mark, put_nomark, put_stale};
 use play_io::{Sink, SinkFault};
-use scene_words::{Command, Version};
+use scene_words::Version;
 use std::alloc::Global;
 use std::thread::Threads;
 
@@ -61,29 +64,28 @@ impl<B: BroadPhase + Drop> Player<B> {
     }
 
     // Changes the world, and appends the reply of at most one line.
-    pub(crate) fn change(&mut self, command: &Command, out: &mut Vec<u8>) -> Result<(), NoMemory>
+    pub(crate) fn change(&mut self, change: &Change, out: &mut Vec<u8>) -> Result<(), NoMemory>
         requires sound { self.old.world.spent ≡ false }
-        requires allowed { allowed (world_of self.old.version self.old.world) (Ok command.now) ≡ Ok command.now }
+        requires allowed { allowed (world_of self.old.version self.old.world) (Ok (changing change.now)) ≡ Ok (changing change.now) }
         requires room { HasRoom self.old.world.time.now }
-        requires change { IsChange command.now }
-        ensures obeyed { OnOk result (world_of self.new.version self.new.world ≡ after B.COUNTS (world_of self.old.version self.old.world) command.now) }
+        ensures obeyed { OnOk result (world_of self.new.version self.new.world
+            ≡ after B.COUNTS (world_of self.old.version self.old.world) (changing change.now)) }
         ensures sound { OnOk result (self.new.world.spent ≡ false) }
         ensures text { (shows : Bool) → OnOk result (out.new.items ≡ out.old.items
-            ++ reply shows (world_of self.old.version self.old.world) command.now) }
+            ++ reply shows (world_of self.old.version self.old.world) (changing change.now)) }
         ensures err { OnErr result (out.new.items ≡ out.old.items) }
     {
-        match command {
-            Command::Header { version } => {
-                self.version = Some(*version);
+        match *change {
+            Change::Header { version } => {
+                self.version = Some(version);
                 Ok(())
             }
-            Command::Add { body, masks, group } => self.add(*body, *masks, *group, out),
-            Command::Move { handle, body } => self.shift(*handle, *body, out),
-            Command::Mask { handle, masks } => self.mask(*handle, *masks, out),
-            Command::Remove { handle } => self.remove(*handle, out),
-            Command::Mark => self.mark(out),
-            Command::Back => self.back(out),
-            _ => unreachable!(),
+            Change::Add { body, masks, group } => self.add(body, masks, group, out),
+            Change::Move { handle, body } => self.shift(handle, body, out),
+            Change::Mask { handle, masks } => self.mask(handle, masks, out),
+            Change::Remove { handle } => self.remove(handle, out),
+            Change::Mark => self.mark(out),
+            Change::Back => self.back(out),
         }
     }
 

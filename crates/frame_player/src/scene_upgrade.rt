@@ -9,18 +9,18 @@ ghost use Rattle.play_rules.specs.Course.{whole};
 ghost use Rattle.play_rules.specs.Outcome.{ends, IsOutcome, IsBegun};
 ghost use Rattle.play_rules.specs.Play.{report};
 ghost use Rattle.play_rules.specs.Upgrade.{as_two, upgraded, version_after};
-ghost use Rattle.scene_steps.specs.Reached.{IsTextOf};
+ghost use Rattle.frame_player.specs.Reached.{IsTextOf};
 ghost use Rattle.frame_player.specs.Ending.{IsCountedAs};
 ghost use Rattle.frame_player.specs.Outlet.{IsAppended, IsSaidBy, IsCutShortBy};
 
 use crate::ending::ended;
 use crate::report::Report;
+use crate::step::{Step, next_step};
 use crate::{Limits, Status};
 use pair_report::Cause;
 use play_io::{Sink, SinkFault, Source};
 use play_rules::upgraded_plays_alike;
 use scene_lines::{LineReader, MOST_LINES, line_laws};
-use scene_steps::{Step, next_step};
 use scene_words::{Command, Version, print_command};
 use std::alloc::Global;
 

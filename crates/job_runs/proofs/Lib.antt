@@ -1,1 +1,2 @@
+mod OptionWords
 mod TaskOutcomes

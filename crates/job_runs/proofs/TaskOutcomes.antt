@@ -6,8 +6,8 @@ use Rattle.play_rules.specs.OutcomeLaws.{append_known-nil, uncalled_ends}
 use Rattle.play_rules.specs.Play.{played}
 use Rattle.play_rules.specs.Upgrade.{upgraded}
 use Rattle.scene_lines.specs.declared.TheConstants.{MOST_LINES}
-use Rattle.job_words.specs.declared.job.Task.{Task}
-use Rattle.job_words.specs.declared.job.Task.TheVariants.{Play, Drill, Upgrade}
+use Rattle.job_runs.specs.declared.words.Task.{Task}
+use Rattle.job_runs.specs.declared.words.Task.TheVariants.{Play, Drill, Upgrade}
 use Rattle.job_runs.specs.JobOutcome.{IsTaskDone}
 
 pub uncalled_task : (task : Task) (shows : Bool) (here : Ends) → IsTaskDone task shows here here NoMemory

@@ -10,9 +10,9 @@ use Rattle.play_rules.specs.Play.{played, report}
 use Rattle.play_rules.specs.Upgrade.{upgraded}
 use Rattle.scene_drill.specs.declared.load.Load.{Load}
 use Rattle.scene_drill.specs.Drill.{Output, output, drill_text, IsDrilled}
-use Rattle.job_words.specs.declared.job.Job.{Job}
-use Rattle.job_words.specs.declared.job.Task.{Task}
-use Rattle.job_words.specs.declared.job.Task.TheVariants.{Play, Drill, Upgrade}
+use Rattle.job_runs.specs.declared.words.Job.{Job}
+use Rattle.job_runs.specs.declared.words.Task.{Task}
+use Rattle.job_runs.specs.declared.words.Task.TheVariants.{Play, Drill, Upgrade}
 
 -- the sink's end alone
 abbrev pub sink_end : Ends → Output

@@ -1,1 +1,2 @@
 pub mod JobOutcome
+pub mod JobWords

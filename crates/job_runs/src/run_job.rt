@@ -5,15 +5,15 @@ ghost use Rattle.play_rules.specs.declared.status.Status.TheVariants.{Usage};
 ghost use Rattle.play_rules.specs.Outcome.{ends};
 ghost use Rattle.work_pieces.specs.declared.TheConstants.{MOST_WORKERS};
 ghost use Rattle.named_index.specs.Structures.{counts};
-ghost use Rattle.job_words.specs.JobWords.{job, IsLoad};
+ghost use Rattle.job_runs.specs.JobWords.{job, IsLoad};
 ghost use Rattle.job_runs.specs.JobOutcome.{IsJobDone, IsTaskDone, is_drill, reads_nothing};
 
+use crate::words::{Job, Task, read_words};
 use box_tree::BoxTree;
 use broad_index::{NoGate, PlainIndex};
 use frame_player::{Limits, Status, play, upgrade};
 use hier_grid::HierGrid;
-use job_words::{Job, Structure, Task, read_words};
-use named_index::{Named, SkinTree};
+use named_index::{Named, SkinTree, Structure};
 use play_io::{Sink, Source};
 use scene_drill::{DrillJob, Load, drill};
 use scene_lines::MOST_LINES;

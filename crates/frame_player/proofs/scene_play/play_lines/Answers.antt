@@ -13,8 +13,8 @@ use Rattle.play_rules.specs.Play.{playing, played, report}
 use Rattle.play_rules.specs.Readable.{allowed_in, readable, unless_full}
 use Rattle.play_rules.specs.World as world
 use Rattle.play_rules.specs.World.{World, opening, reply}
-use Rattle.scene_steps.specs.Reached.{IsTextOf}
-use Rattle.scene_steps.specs.declared.step.Step.TheVariants as what
+use Rattle.frame_player.specs.Reached.{IsTextOf}
+use Rattle.frame_player.specs.declared.step.Step.TheVariants as what
 use Rattle.frame_player.specs.Outlet.{outlet_of, IsCutShort}
 use Rattle.frame_player.specs.Owed.{owed}
 use Rattle.frame_player.specs.Player.{world_of, live_in}

@@ -2,7 +2,7 @@
 use Rattle.std.proofs.Common.{None, rules, subst, sym}
 use Rattle.play_rules.specs.Outcome.{ends, IsOutcome}
 use Rattle.play_rules.specs.Upgrade.{upgrading, upgraded}
-use Rattle.scene_steps.specs.ReachedLaws.{run_begins}
+use Rattle.frame_player.proofs.ReachedLaws.{run_begins}
 use Rattle.frame_player.specs.Outlet.{outlet_of}
 use Rattle.frame_player.proofs.Outcomes.{final_sink, run_ended}
 use Rattle.frame_player.proofs.scene_upgrade.upgrade.Goals as goal

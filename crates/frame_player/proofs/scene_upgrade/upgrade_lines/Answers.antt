@@ -11,7 +11,7 @@ use Rattle.scene_words.specs.Printed.{line_of}
 use Rattle.play_rules.specs.declared.status.Status.TheVariants.{Done, Refused}
 use Rattle.play_rules.specs.Readable.{readable, unless_full}
 use Rattle.play_rules.specs.Upgrade.{upgrading, upgraded}
-use Rattle.scene_steps.specs.declared.step.Step.TheVariants as what
+use Rattle.frame_player.specs.declared.step.Step.TheVariants as what
 use Rattle.frame_player.specs.Outlet.{outlet_of}
 use Rattle.frame_player.proofs.LoopSteps.{begins, cut_short, ended_there, goes_on, next_command, no_last_line}
 use Rattle.frame_player.proofs.LoopSteps.{read_fault_there, refused_there, says_within, unbegun_there}
