@@ -1,7 +1,7 @@
 /* Pungwelair's broad phase for programs in C and C++: which of many moving boxes meet, and which of them a question finds.
  *
- * A world has moving boxes under handles. It is proved that its answers are those of testing every live box (and every two of
- * them), whatever structure it keeps them in.
+ * A world has moving boxes under handles. It is proved that its answers are those of testing every live box, and every two of
+ * them, whatever structure it keeps them in.
  *
  *     pw_world world = PW_WORLD_INIT;
  *     pw_open(&world, PW_TREE);                             // PW_GRID if most boxes move, PW_SKIN if by little in each tick
@@ -14,22 +14,22 @@
  *     }
  *     pw_close(&world);
  *
- * Every call gives a status. Whatever the numbers are that it is given, it does what it says or refuses: no number leads to
- * undefined behavior. A call that is refused changes nothing of the world but what its comment names, and the numbers that it
- * tells are 0 (batches: those done).
+ * Every call gives a status. Whatever numbers a call is given, it does what it says or refuses: no number leads to undefined
+ * behavior. A call that is refused changes nothing of the world except what its comment names, and the numbers that it tells
+ * are 0 (of a batch: how many were done).
  *
  * What the caller owes, and nothing checks:
- *   - a pointer isn't null, not even before a length of 0, is aligned, and leads to as many items as the length says; what it
+ *   - a pointer isn't null, also before a length of 0. It is aligned, and leads to as many items as the length says. What it
  *     leads to isn't written meanwhile, and doesn't overlap what another pointer of the same call leads to;
  *   - the two words of a pw_world are zero, or those that the last call left there. A copy of an open pw_world isn't another
  *     world: use one of the two and forget the other;
- *   - one call at a time has a world. Different worlds may be used by different threads at once: the library has no state of
- *     its own, takes no lock and starts no thread;
+ *   - use a world from one thread at a time, also for questions. Different worlds may be used by different threads at once:
+ *     the library has no state of its own, takes no lock and starts no thread;
  *   - malloc, realloc and free are those of one allocator, which aligns to 16, and no call comes from a signal handler.
  *
- * Link by `pkg-config --libs pungwelair` or CMake's `pungwelair::pungwelair` where bindings/install has put the library, and else
- * libpungwelair.a and pungwelair_heap.c (three functions over malloc, realloc and free). Costs are told for n live boxes and k
- * answers. */
+ * If bindings/install has put the library somewhere, link by `pkg-config --libs pungwelair` or CMake's `pungwelair::pungwelair`.
+ * Else link libpungwelair.a and pungwelair_heap.c (three functions over malloc, realloc and free). Costs are told for n live
+ * boxes. */
 #ifndef PUNGWELAIR_H
 #define PUNGWELAIR_H
 
@@ -41,17 +41,17 @@
 extern "C" {
 #endif
 
-/* The version, for #if and as a text. Another major number is another library for a program that is linked already, and the number of
- * the shared library's soname. */
+/* The version, for #if and as a text. The shared library's soname has the major number: for a program that is linked already,
+ * another major number is another library. */
 #define PW_VERSION_MAJOR 0
-#define PW_VERSION_MINOR 1
+#define PW_VERSION_MINOR 2
 #define PW_VERSION_PATCH 0
 #define PW_VERSION_QUOTED(major, minor, patch) #major "." #minor "." #patch
 #define PW_VERSION_OF(major, minor, patch) PW_VERSION_QUOTED(major, minor, patch)
 #define PW_VERSION PW_VERSION_OF(PW_VERSION_MAJOR, PW_VERSION_MINOR, PW_VERSION_PATCH)
 
-/* The most boxes that live at once. Slots are below it, so an array of this length has room for the answer to any question (there may be
- * more pairs, events and changes). */
+/* The most boxes that live at once. Slots are below it, so an array of this length has room for the answer to any question.
+ * (There may be more pairs, events and changes.) */
 #define PW_SLOTS 8192u
 
 /* The most marks that a world holds. */
@@ -70,19 +70,20 @@ enum {
     PW_OK = 0,
     PW_STALE = 1,         /* no live box has the handle, or is in the slot */
     PW_FULL = 2,          /* PW_SLOTS boxes live, or PW_MOST_MARKS marks are held */
-    PW_NO_MEMORY = 3,     /* malloc gave none, and what ran out wasn't done: of a batch the steps before it were. After pw_add,
-                             pw_move or pw_back a world over PW_PLAIN or PW_SAP may be spent, which pw_info tells; one over PW_TREE,
-                             PW_GRID or PW_SKIN never is. A spent world keeps what it had: pw_get, pw_at, pw_pairs, pw_events,
-                             pw_changes and pw_info tell its boxes, pairs, events, frames and marks, and all that would change or ask it gives
-                             this. Close it, open another one and add its boxes there. After any other call all is as before: ask
-                             again. */
-    PW_INVERTED = 4,      /* lo > hi on some axis */
+    PW_NO_MEMORY = 3,     /* malloc gave no memory, and the step that ran out wasn't done: of a batch the steps before it were.
+                             After pw_add, pw_move or pw_back a world over PW_PLAIN or PW_SAP may be spent, which pw_info tells;
+                             one over PW_TREE, PW_GRID or PW_SKIN never is. A spent world keeps what it had: pw_get, pw_at,
+                             pw_pairs, pw_events, pw_changes and pw_info tell its boxes, pairs, events, frames and marks. Each
+                             call that would change it or ask it gives PW_NO_MEMORY. Close it, open another one and add its
+                             boxes there. After any other call all is as before: ask again. */
+    PW_INVERTED = 4,      /* not a box: lo > hi on some axis */
     PW_CLOSED = 5,        /* the world isn't open */
-    PW_ARGUMENT = 6,      /* no such structure or kind of question, a region whose lo > hi, lengths that don't agree, or an open
-                             world that would be opened */
-    PW_EXHAUSTED = 7,     /* a number is at its end, which no game comes to: each slot without a box was given 4,294,967,295 times, as
-                             many frames ended as 64 bits count, or over PW_SAP 2^62 exchanges were counted since the last one */
-    PW_NO_MARK = 8,       /* no mark is held to go back to, or fewer are than are to be given up */
+    PW_ARGUMENT = 6,      /* no such structure, no such kind of question, a region whose lo > hi, lengths that don't agree, or
+                             pw_open of a world that is open */
+    PW_EXHAUSTED = 7,     /* a number is at its end, which no game comes to: each slot without a box was given 4,294,967,295
+                             times, as many frames ended as 64 bits count, or over PW_SAP 2^62 exchanges were counted since the
+                             last frame */
+    PW_NO_MARK = 8,       /* no mark is held to go back to, or fewer marks are held than are to be given up */
     PW_NOT_A_NUMBER = 9,  /* a float is a NaN */
     PW_OUT_OF_RANGE = 10  /* a float, rounded as the call says, is below -32,768 or above 32,767.99998, or it is an infinity */
 };
@@ -91,9 +92,9 @@ enum {
 enum {
     PW_PLAIN = 0, /* tests every two: for a few hundred boxes */
     PW_SAP = 1,   /* sweep and prune, for its count of exchanges: slow by far if boxes go far or are added often */
-    PW_TREE = 2,  /* a dynamic tree of enlarged boxes that keeps its pairs: where few boxes move, or much is asked */
-    PW_GRID = 3,  /* a hashed grid of levels: where most boxes move */
-    PW_SKIN = 4   /* boxes in skins, a margin around each, over the tree, which hears only of those that leave it: where boxes move by
+    PW_TREE = 2,  /* a dynamic tree of enlarged boxes that keeps its pairs: if few boxes move, or much is asked */
+    PW_GRID = 3,  /* a hashed grid of levels: if most boxes move */
+    PW_SKIN = 4   /* boxes in skins, a margin around each, over the tree, which hears only of those that leave it: if boxes move by
                      little in each tick, as bodies at rest or near it do */
 };
 
@@ -101,7 +102,7 @@ enum {
 enum {
     PW_BEGIN = 0, /* it is new */
     PW_STAY = 1,  /* it was there in the frame before, too */
-    PW_OVER = 2   /* it was there in the frame before, and is no more */
+    PW_OVER = 2   /* it was there in the frame before, and isn't there now */
 };
 
 /* The kinds of pw_query. */
@@ -122,7 +123,7 @@ typedef struct pw_box {
     pw_point lo, hi;
 } pw_box;
 
-/* The groups that a box is in and those that it sees, a bit each. Two boxes pair where each sees a group that the other is in. */
+/* The groups that a box is in and those that it sees, a bit each. Two boxes pair if each sees a group that the other is in. */
 typedef struct pw_masks {
     uint32_t is, sees;
 } pw_masks;
@@ -139,9 +140,9 @@ typedef struct pw_new {
     pw_group group;
 } pw_new;
 
-/* What names a live box: its slot, and how often that slot was given before. A new box takes the least free slot, so index
- * your own arrays by it. A handle of a box that is gone stays stale for ever, unless pw_back undoes what was done since. After
- * pw_back the handles of boxes that came behind the mark are given again, to other boxes: forget them. */
+/* What names a live box: its slot, and how often that slot was given before. A new box takes the least slot that no live box has,
+ * so index your own arrays by it. A handle of a box that is gone stays stale for ever, unless pw_back undoes what was done since.
+ * After pw_back the handles of boxes that came behind the mark are given again, to other boxes: forget them. */
 typedef struct pw_handle {
     uint32_t slot, generation;
 } pw_handle;
@@ -167,8 +168,8 @@ typedef struct pw_told {
     pw_pair pair;
 } pw_told;
 
-/* How many pairs the frame has that pw_update ended, how many events, and how many changes, which are the events of pairs that began
- * or are over. */
+/* How many pairs the frame has that pw_update ended, how many events, and how many changes: the events of pairs that began or are
+ * over. */
 typedef struct pw_counts {
     size_t pairs, events, changes;
 } pw_counts;
@@ -198,7 +199,7 @@ typedef struct pw_near {
     pw_point at;
 } pw_near;
 
-/* What a world is. `exchanges` are those of the endpoint lists since the last frame, where it is PW_SAP, and else 0. */
+/* What a world is. `exchanges` are those of the endpoint lists since the last frame if it is over PW_SAP, and else 0. */
 typedef struct pw_world_info {
     uint32_t structure, spent;
     uint32_t boxes, marks;
@@ -221,55 +222,57 @@ pw_status pw_open(pw_world *world, uint32_t structure);
 pw_status pw_close(pw_world *world);
 
 /* Adds boxes in order, all with the masks and the group of `how`, up to the first that is refused, whose status it gives:
- * PW_INVERTED, PW_FULL, PW_EXHAUSTED or PW_NO_MEMORY. `done` tells how many were added; their handles are out[0] to
- * out[done - 1], and the rest of `out` is as it was. PW_ARGUMENT, and none is added, where out_len < boxes_len. PW_SAP walks its
- * lists for each box (up to n exchanges an axis and end); the others take some log n steps. */
+ * PW_INVERTED, PW_FULL, PW_EXHAUSTED or PW_NO_MEMORY. `done` tells how many were added. Their handles are out[0] to
+ * out[done - 1], and the rest of `out` is as it was. If out_len < boxes_len it gives PW_ARGUMENT and adds no box. PW_SAP walks
+ * its lists for each box (up to n exchanges an axis and end); the others take some log n steps. */
 pw_status pw_add(pw_world *world, const pw_box *boxes, size_t boxes_len, const pw_new *how, pw_handle *out, size_t out_len,
                  size_t *done);
 
 /* Moves boxes in order, each with its handle, up to the first that is refused: PW_INVERTED, PW_STALE, PW_EXHAUSTED or
- * PW_NO_MEMORY. `done` tells how many were moved. PW_ARGUMENT, and none is moved, where the lengths differ. */
+ * PW_NO_MEMORY. `done` tells how many were moved. If the lengths differ it gives PW_ARGUMENT and moves no box. */
 pw_status pw_move(pw_world *world, const pw_handle *handles, size_t handles_len, const pw_box *boxes, size_t boxes_len,
                   size_t *done);
 
-/* Gives a box other masks. PW_STALE. PW_NO_MEMORY, only while a mark is held: all is as before. */
+/* Gives a box other masks: the next update has its pairs by them. PW_STALE. PW_NO_MEMORY, only while a mark is held: all is as
+ * before. */
 pw_status pw_mask(pw_world *world, pw_handle handle, pw_masks masks);
 
-/* Gives a box another owner and fixed mark: the next update has its pairs by them. PW_STALE. PW_NO_MEMORY, only while a mark is held: all
- * is as before. */
+/* Gives a box another owner and fixed mark: the next update has its pairs by them. PW_STALE. PW_NO_MEMORY, only while a mark is
+ * held: all is as before. */
 pw_status pw_regroup(pw_world *world, pw_handle handle, pw_group group);
 
-/* Removes boxes in order, up to the first that is refused: PW_STALE, or PW_NO_MEMORY, only while a mark is held. `done` tells how many
- * were removed. */
+/* Removes boxes in order, up to the first that is refused: PW_STALE, or PW_NO_MEMORY, only while a mark is held. `done` tells how
+ * many were removed. */
 pw_status pw_remove(pw_world *world, const pw_handle *handles, size_t handles_len, size_t *done);
 
 /* The live box that has a handle. PW_STALE, and `out` is as it was. One look-up; it also answers in a spent world. */
 pw_status pw_get(pw_world *world, pw_handle handle, pw_live *out);
 
-/* The live box in a slot, with its handle. A loop over the slots from 0 to PW_SLOTS - 1 reads all live boxes: to draw them, to store them,
- * or to add them to another world. PW_STALE: no live box is in the slot, as in none from PW_SLOTS on, and `handle` and `out` are as they
- * were. One look-up; it also answers in a spent world. */
+/* The live box in a slot, with its handle. A loop over the slots from 0 to PW_SLOTS - 1 reads all live boxes: to draw them, to
+ * store them, or to add them to another world. PW_STALE: no live box is in the slot, as always from PW_SLOTS on, and `handle` and
+ * `out` are as they were. One look-up; it also answers in a spent world. */
 pw_status pw_at(pw_world *world, uint32_t slot, pw_handle *handle, pw_live *out);
 
 /* Ends the frame: finds the pairs of the boxes as they stand and what became of each since the last frame, and tells how many
- * there are. They stay readable until the next update. Where no box came, moved, got other masks or another group, or went since the last update, and
- * nobody went back, nothing is searched, nothing begins and nothing is over: it takes the same time however many boxes and pairs there
- * are. PW_EXHAUSTED, PW_NO_MEMORY: all is as before. */
+ * there are. They stay readable until the next update. If since the last update no box came, moved, got other masks or another
+ * group, or went, and nobody went back, nothing is searched, nothing begins and nothing is over. That takes the same time however
+ * many boxes and pairs there are. PW_EXHAUSTED, PW_NO_MEMORY: all is as before. */
 pw_status pw_update(pw_world *world, pw_counts *counts);
 
 /* Copies the pairs of the last frame from number `from` on, in order of (a's slot, b's slot), as many as there is room for, and
- * tells how many those are: none where `from` is past the end. After pw_back they are those of the last frame before the mark.
- * A handle of a pair may be stale by now. */
+ * tells how many those are: 0 if `from` is past the end. After pw_back they are those of the last frame before the mark. A handle
+ * of a pair may be stale by now. */
 pw_status pw_pairs(pw_world *world, size_t from, pw_pair *out, size_t out_len, size_t *copied);
 
 /* Copies what the last update told, from number `from` on: each of its pairs in order, PW_BEGIN or PW_STAY, and then in order those
- * that are over. As many as there is room for, and tells how many those are. After pw_back they stay what the last update told. Events
- * are made while they are copied, with a step for each before `from` too: read all by one call, or pw_changes. */
+ * that are over, PW_OVER. It copies as many as there is room for, and tells how many those are. After pw_back they stay what the
+ * last update told. Events are made while they are copied, with a step for each before `from` too: read all by one call, or call
+ * pw_changes. */
 pw_status pw_events(pw_world *world, size_t from, pw_told *out, size_t out_len, size_t *copied);
 
-/* The same without the pairs that stayed: from number `from` on, each pair that began in order, PW_BEGIN, and then in order those that
- * are over, PW_OVER. It takes a step for each up to the last one copied and none for a pair that stayed, so it is what an engine reads
- * that keeps pairs of its own. After pw_back they, too, stay what the last update told. */
+/* The same without the pairs that stayed: from number `from` on, each pair that began in order, PW_BEGIN, and then in order those
+ * that are over, PW_OVER. It takes a step for each up to the last one copied and no step for a pair that stayed. So an engine that
+ * keeps pairs of its own reads this. After pw_back they, too, stay what the last update told. */
 pw_status pw_changes(pw_world *world, size_t from, pw_told *out, size_t out_len, size_t *copied);
 
 /* Tells how many live boxes meet a question, and copies the handles of the first of them, in order of slots, as many as there
@@ -277,25 +280,27 @@ pw_status pw_changes(pw_world *world, size_t from, pw_told *out, size_t out_len,
 pw_status pw_hits(pw_world *world, const pw_query *query, pw_handle *out, size_t out_len, size_t *count);
 
 /* The same for the boxes that a ray meets, in the order in which it first meets them; those that it meets at one place come by
- * their slots. The order is exact: no rounding. PW_NO_MEMORY. */
+ * their slots. The order is exact: no rounding. Of the direction only its way counts, not its length. No call tells how far off a
+ * box is met: docs/LIBRARY.md has the formula, from the box that pw_get tells. PW_NO_MEMORY. */
 pw_status pw_ray_hits(pw_world *world, const pw_ray *ray, pw_handle *out, size_t out_len, size_t *count);
 
-/* The same for the boxes that a moved box meets on its way, in the order in which it first meets them (those that it meets where it
- * stands come first), and then by their slots. PW_INVERTED: lo > hi on some axis. PW_NO_MEMORY. */
+/* The same for the boxes that a moved box meets on its way, in the order in which it first meets them, and then by their slots.
+ * Those that it touches before it moves come first, as the floor that it stands on. PW_INVERTED: not a box, lo > hi on some axis.
+ * PW_NO_MEMORY. */
 pw_status pw_cast_hits(pw_world *world, const pw_cast *cast, pw_handle *out, size_t out_len, size_t *count);
 
-/* The nearest live boxes to a place, at most `want` and at most PW_SLOTS, in rising order of the square of their distance (0 for a box
- * that holds it) and then of their slots. PW_NO_MEMORY. */
+/* The nearest live boxes to a place, at most `want` and at most PW_SLOTS, in rising order of the square of their distance (0 for a
+ * box that holds it) and then of their slots. PW_NO_MEMORY. */
 pw_status pw_nearest(pw_world *world, const pw_near *near_to, pw_handle *out, size_t out_len, size_t *count);
 
-/* Marks the world as it stands, for rollback. It takes no memory, so that PW_NO_MEMORY comes of a spent world alone. PW_FULL:
+/* Marks the world as it stands, for rollback. It takes no memory, so that PW_NO_MEMORY comes only of a spent world. PW_FULL:
  * PW_MOST_MARKS are held. */
 pw_status pw_mark(pw_world *world);
 
-/* Gives up the `count` oldest marks, which makes room for new ones: the world as it stands and the newer marks are as before, and
- * the older worlds can't be gone back to any more. So marks are a ring for a netcode that marks each tick and mostly goes on: where as many
- * are held as ticks may be wrong, forget 1 and mark. It takes no memory, so that PW_NO_MEMORY comes of a spent world alone. PW_NO_MARK:
- * fewer are held, and none is given up. */
+/* Gives up the `count` oldest marks, which makes room for new ones. The world as it stands and the newer marks are as before, and
+ * the older worlds can't be gone back to any more. So marks are a ring for a netcode that marks each tick and mostly goes on: if
+ * as many are held as ticks may be wrong, forget 1 and mark. It takes no memory, so that PW_NO_MEMORY comes only of a spent world.
+ * PW_NO_MARK: fewer are held, and no mark is given up. */
 pw_status pw_forget(pw_world *world, uint32_t count);
 
 /* Goes back to the newest mark, which is then gone: the live boxes, their handles and those of later boxes, the pairs of the last frame
@@ -312,9 +317,9 @@ pw_status pw_fix_above_32(uint32_t bits, int32_t *out);
 pw_status pw_fix_below_64(uint64_t bits, int32_t *out);
 pw_status pw_fix_above_64(uint64_t bits, int32_t *out);
 
-/* The least box in raw units that holds a box of floats: the lower corner is rounded down and the upper one up, so boxes of floats with a
- * common point have boxes that meet. PW_NOT_A_NUMBER, PW_OUT_OF_RANGE, PW_INVERTED (a lower float above the upper one): the first fault by
- * axes decides, and `out` is as it was. */
+/* The least box in raw units that holds a box of floats: the lower corner is rounded down and the upper one up, so boxes of floats
+ * with a common point have boxes that meet. PW_NOT_A_NUMBER, PW_OUT_OF_RANGE, PW_INVERTED (a lower float above the upper one): the
+ * first fault by axes decides, and `out` is as it was. */
 pw_status pw_box_around_32(const pw_bits_32 *lo, const pw_bits_32 *hi, pw_box *out);
 pw_status pw_box_around_64(const pw_bits_64 *lo, const pw_bits_64 *hi, pw_box *out);
 
@@ -353,10 +358,10 @@ static inline pw_status pw_fix_above_double(double number, int32_t *out) {
     return pw_fix_above_64(bits, out);
 }
 
-/* From C11 on pw_fix_below and pw_fix_above take a double as the double that it is, since as a float it may be past the number that is
- * asked for: 30000.99999 is 30001 there. A float and a whole number are taken as floats (each whole one within range is a float), and
- * another type, as a long double, is refused by the compiler. In C++ (where fix_below and fix_above of pungwelair.hpp take either) and
- * before C11 they are the functions above, to which a double comes narrowed: call pw_fix_below_double. */
+/* From C11 on pw_fix_below and pw_fix_above take a double as the double that it is. As a float it may be past the number that is
+ * asked for: 30000.99999 is 30001 there. A float and a whole number are taken as floats (each whole one within range is a float).
+ * Another type, as a long double, is refused by the compiler. Before C11 and in C++ they are the functions above, to which a double
+ * comes narrowed: call pw_fix_below_double, or in C++ fix_below and fix_above of pungwelair.hpp, which take either. */
 #if !defined __cplusplus && defined __STDC_VERSION__ && __STDC_VERSION__ >= 201112L
 #define pw_fix_below(number, out) _Generic((number) + 0.0f, float: pw_fix_below, double: pw_fix_below_double)((number), (out))
 #define pw_fix_above(number, out) _Generic((number) + 0.0f, float: pw_fix_above, double: pw_fix_above_double)((number), (out))
