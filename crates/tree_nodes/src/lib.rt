@@ -3,7 +3,7 @@
 //! down where asked.
 #![tactic(auto)]
 
-mod adjusting;
+mod comparing;
 mod insertion;
 mod kin;
 mod laws;
@@ -11,16 +11,13 @@ mod leaf_key;
 mod linked_nodes;
 mod median;
 mod moving;
-mod nearness;
 mod node;
 mod node_view;
 mod nodes;
 mod path;
 mod rebuilding;
-mod refitting;
 mod removal;
 mod resizing;
-mod rotation;
 
 pub use laws::tree_laws;
 pub use node::{Node, Role};

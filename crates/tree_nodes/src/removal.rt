@@ -75,7 +75,7 @@ impl LinkedNodes {
                     return (stay, at);
                 };
                 let (below, freed) = self.remove_below(down, *after, rest);
-                (self.adjust(at, below, stay), freed)
+                (self.rebalance(at, below, stay), freed)
             }
         }
     }

@@ -1,4 +1,4 @@
--- One child grows by at most one, and the node is adjusted.
+-- One child grows by at most one, and the node is rebalanced.
 use Rattle.std.proofs.Common.{◌≡◌, ◌⊎◌, ℕ, ◌+◌, ◌<◌, false, ap, ◌∙◌, sym, subst, refl, Some, arith, IsSome}
 use Rattle.slab.specs.Slab.{get}
 use Rattle.fixed_box.specs.Bounds.{Bounds}
@@ -8,6 +8,7 @@ use Rattle.tree_nodes.specs.Moved.{refitted}
 use Rattle.tree_nodes.specs.Rotation.{ToAdjust}
 use Rattle.tree_nodes.specs.Stored.{Holds}
 use Rattle.tree_nodes.specs.Tree.{Tree, tip, fork, count_of, one}
+use Rattle.tree_nodes.proofs.Adjusted.{adjusted}
 use Rattle.tree_nodes.proofs.InsertingBelow.{leaf_children, leaf_inserted, step_down, step_rebalance, step_inserted, step_adjust, stay_free}
 use Rattle.tree_nodes.proofs.InsertingBelow.{below_low, alike_of, untouched, still_inserted}
 use Rattle.tree_nodes.proofs.Frames.{one_same, apart_held, writes_fewer, writes_both}
@@ -74,13 +75,13 @@ insert_below-below-requires t c =
     let lt = below_low c.args.self.now c.args.at c.by_distance-down.result.0 c.by_distance-down.result.1 p.2 o.0 o.1 p.3.kept o.2 in
     (subst (λ m. height_shown (get c.args.self.now c.by_distance-down.result.0) < m) c.decreases lt, (p.0, p.1, o.0, o.3))
 
-pub adjust-top-requires : goal.adjust-top-requires
-adjust-top-requires t c =
+pub rebalance-top-requires : goal.rebalance-top-requires
+rebalance-top-requires t c =
     let p = c.requires in
-    let at = goal.at.adjust-top-requires t c in
+    let at = goal.at.rebalance-top-requires t c in
     let o = below t at.After-by_distance-down p.0 p.1 p.2 p.3 in
     let g = grown t at.After-insert_below-below p.0 p.1 p.2 o.0 o.1 p.3 o.2 o.3 in
-    (g.0, o.1, g.4)
+    (g.0, o.1, g.4.near)
 
 pub returns-in-Leaf-clause-there : goal.returns-in-Leaf-clause-there
 returns-in-Leaf-clause-there t c s b u p = (
@@ -96,10 +97,11 @@ returns-else-not-changed-clause-there t c s b x p =
     let at = goal.at.returns-else-not-changed-clause-there t c in
     let o = below t at.After-by_distance-down s b x p in
     let g = grown t at.After-insert_below-below s b x o.0 o.1 p o.2 o.3 in
-    let w = c.adjust-top.ensures.there g.0 o.1 g.4 in (
+    let w = adjusted c.insert_below-below.new.self c.rebalance-top.new.self c.args.at c.insert_below-below.result.0
+    c.by_distance-down.result.1 c.rebalance-top.result g.0 o.1 g.4 (c.rebalance-top.ensures.there g.0 o.1) in (
       w.0,
-      step_inserted c.args.self.now c.insert_below-below.new.self c.adjust-top.new.self c.args.at c.by_distance-down.result.0 c.by_distance-down.result.1
-          c.insert_below-below.result.0 c.adjust-top.result c.args.leaf c.args.new_parent s b x o.0 o.1 g.0 w.0 o.2 g.1 w.1,
+      step_inserted c.args.self.now c.insert_below-below.new.self c.rebalance-top.new.self c.args.at c.by_distance-down.result.0 c.by_distance-down.result.1
+          c.insert_below-below.result.0 c.rebalance-top.result c.args.leaf c.args.new_parent s b x o.0 o.1 g.0 w.0 o.2 g.1 w.1,
       λ still. alike_of c.args.at c.in-Inner.height c.in-Inner.hull x o.0 o.1 w.0 o.4 (c.is_other.ensures w.0 w.1.kept still),
     )
 
@@ -109,7 +111,8 @@ is_other-requires t c =
     let at = goal.at.is_other-requires t c in
     let o = below t at.After-by_distance-down p.0 p.1 p.2 p.3 in
     let g = grown t at.After-insert_below-below p.0 p.1 p.2 o.0 o.1 p.3 o.2 o.3 in
-    let w = c.adjust-top.ensures.there g.0 o.1 g.4 in
+    let w = adjusted c.insert_below-below.new.self c.rebalance-top.new.self c.args.at c.insert_below-below.result.0
+    c.by_distance-down.result.1 c.rebalance-top.result g.0 o.1 g.4 (c.rebalance-top.ensures.there g.0 o.1) in
     (w.0, w.1.kept)
 
 -- Where nothing of the child changed, the node is as it was.
@@ -145,9 +148,9 @@ returns-else-not-changed-clause-writes t c s b x p =
     let at = goal.at.returns-else-not-changed-clause-writes t c in
     let o = below t at.After-by_distance-down s b x p in
     let g = grown t at.After-insert_below-below s b x o.0 o.1 p o.2 o.3 in
-    writes_both c.args.self.now c.insert_below-below.new.self c.adjust-top.new.self
+    writes_both c.args.self.now c.insert_below-below.new.self c.rebalance-top.new.self
     (λ k. count_of o.0 k + (one c.args.leaf k + one c.args.new_parent k))
     (λ k. one c.args.at k + (one c.insert_below-below.result.0 k + one c.by_distance-down.result.1 k))
-    (λ k. count_of x k + (one c.args.leaf k + one c.args.new_parent k)) (c.insert_below-below.ensures.writes s b o.0 o.3) c.adjust-top.ensures.writes
+    (λ k. count_of x k + (one c.args.leaf k + one c.args.new_parent k)) (c.insert_below-below.ensures.writes s b o.0 o.3) c.rebalance-top.ensures.writes
     (untouched c.args.self.now c.insert_below-below.new.self c.args.at c.by_distance-down.result.0 c.by_distance-down.result.1
     c.insert_below-below.result.0 c.args.leaf c.args.new_parent s b x o.0 o.1 g.0 o.2 g.1)

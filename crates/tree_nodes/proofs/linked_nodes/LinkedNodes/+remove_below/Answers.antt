@@ -1,7 +1,8 @@
--- One child shrinks by at most one, and the node is adjusted.
+-- One child shrinks by at most one, and the node is rebalanced.
 use Rattle.std.proofs.Common.{◌≡◌, ◌<◌, ◌+◌, ◌-◌, ℕ, List, [], ◌∷◌, take, drop, get_or, length, ap, ◌∙◌, sym, subst, refl, Some, arith, IsSome}
 use Rattle.tree_nodes.specs.Path.{Leads}
 use Rattle.tree_nodes.specs.Tree.{count_of, one}
+use Rattle.tree_nodes.proofs.Adjusted.{adjusted}
 use Rattle.tree_nodes.proofs.Frames.{apart_held, writes_none, writes_both}
 use Rattle.tree_nodes.proofs.Removing.{onward, parted, step_toward, stay_apart, leaf_cut, removed_rebalance, step_removed, removed_adjust, removed_untouched}
 use Rattle.tree_nodes.proofs.linked_nodes.LinkedNodes.+remove_below.Goals as goal
@@ -35,8 +36,8 @@ remove_below-below-requires t c =
       ),
     )
 
-pub adjust-requires : goal.adjust-requires
-adjust-requires t c =
+pub rebalance-requires : goal.rebalance-requires
+rebalance-requires t c =
     let q = c.requires in
     let o = onward c.args.self.now c.args.at c.in-Inner.left c.in-Inner.right c.in-Inner.height c.in-Inner.hull q.0 c.args.next c.args.path.now q.1
     c.toward-down.result q.2 (c.view.ensures ∙ ap Some c.in-Inner.is) c.toward-down.ensures.either c.toward-down.ensures.left
@@ -47,14 +48,13 @@ adjust-requires t c =
     let g = c.remove_below-below.ensures.there q.0 o.0 k in (
       g.0,
       o.1,
-      removed_adjust c.remove_below-below.new.self c.args.self.now c.args.at c.toward-down.result.0 c.toward-down.result.1 c.remove_below-below.result.0
-          c.remove_below-below.result.1 q.0 q.1 o.0 o.1 g.0 o.2 g.1 (removed_rebalance c.args.self.now c.remove_below-below.new.self c.args.at
+      removed_rebalance c.args.self.now c.remove_below-below.new.self c.args.at
           c.toward-down.result.0 c.toward-down.result.1 c.remove_below-below.result.0 c.remove_below-below.result.1 q.0 c.args.next c.args.path.now q.1 o.0
           o.1 g.0 q.2 o.2 g.1
           ((c.remove_below-below.ensures.writes q.0 o.0 k).kept.here c.args.at (subst IsSome (sym c.view.ensures) refl))
           (apart_held c.args.self.now c.remove_below-below.new.self (λ j. count_of o.0 j) (c.remove_below-below.ensures.writes q.0 o.0 k) o.1
           (stay_apart c.args.self.now c.args.at c.toward-down.result.0 c.toward-down.result.1 q.0 c.args.next c.args.path.now q.1 o.0 o.1 q.2 o.2)
-          o.2.stay_kept.holds)),
+          o.2.stay_kept.holds),
     )
 
 pub returns-in-len1-up-clause-there : goal.returns-in-len1-up-clause-there
@@ -71,11 +71,12 @@ returns-in-len1-up-clause-there t c node x p =
     (apart_held c.args.self.now c.remove_below-below.new.self (λ j. count_of o.0 j) (c.remove_below-below.ensures.writes node o.0 k) o.1
     (stay_apart c.args.self.now c.args.at c.toward-down.result.0 c.toward-down.result.1 node c.args.next c.args.path.now x o.0 o.1 p o.2)
     o.2.stay_kept.holds) in
-    let w = c.adjust.ensures.there g.0 o.1 (removed_adjust c.remove_below-below.new.self c.args.self.now c.args.at c.toward-down.result.0
-    c.toward-down.result.1 c.remove_below-below.result.0 c.remove_below-below.result.1 node x o.0 o.1 g.0 o.2 g.1 n) in (
+    let w = adjusted c.remove_below-below.new.self c.rebalance.new.self c.args.at c.remove_below-below.result.0 c.toward-down.result.1 c.rebalance.result
+    g.0 o.1 (removed_adjust c.remove_below-below.new.self c.args.self.now c.args.at c.toward-down.result.0
+    c.toward-down.result.1 c.remove_below-below.result.0 c.remove_below-below.result.1 node x o.0 o.1 g.0 o.2 g.1 n) (c.rebalance.ensures.there g.0 o.1) in (
       w.0,
-      step_removed c.args.self.now c.remove_below-below.new.self c.adjust.new.self c.args.at c.toward-down.result.0 c.toward-down.result.1
-          c.remove_below-below.result.0 c.remove_below-below.result.1 c.adjust.result node x o.0 o.1 g.0 w.0 o.2 g.1 w.1,
+      step_removed c.args.self.now c.remove_below-below.new.self c.rebalance.new.self c.args.at c.toward-down.result.0 c.toward-down.result.1
+          c.remove_below-below.result.0 c.remove_below-below.result.1 c.rebalance.result node x o.0 o.1 g.0 w.0 o.2 g.1 w.1,
     )
 
 pub returns-in-Leaf-clause-writes : goal.returns-in-Leaf-clause-writes
@@ -92,8 +93,8 @@ returns-in-len1-up-clause-writes t c node x p =
     let k = step_toward c.args.self.now c.args.at c.toward-down.result.0 c.toward-down.result.1 node c.args.next
     (get_or c.args.path.now 0 0) c.args.path.now (take (length c.args.path.now - 1) (drop 1 c.args.path.now)) x o.0 o.1 p o.2 o.3 e in
     let g = c.remove_below-below.ensures.there node o.0 k in
-    writes_both c.args.self.now c.remove_below-below.new.self c.adjust.new.self (λ j. count_of o.0 j)
+    writes_both c.args.self.now c.remove_below-below.new.self c.rebalance.new.self (λ j. count_of o.0 j)
     (λ j. one c.args.at j + (one c.remove_below-below.result.0 j + one c.toward-down.result.1 j)) (λ j. count_of x j)
-    (c.remove_below-below.ensures.writes node o.0 k) c.adjust.ensures.writes
+    (c.remove_below-below.ensures.writes node o.0 k) c.rebalance.ensures.writes
     (removed_untouched c.args.self.now c.remove_below-below.new.self c.args.at c.toward-down.result.0 c.toward-down.result.1
     c.remove_below-below.result.0 c.remove_below-below.result.1 node x o.0 o.1 g.0 o.2 g.1)
