@@ -1,8 +1,7 @@
 -- What a change of one slot does to boxes and fat boxes, as maps.
-use Rattle.std.proofs.Common.{◌≡◌, ℕ, ◌<◌, true, false, cond, Option, None, Some, List, length, get_or, set, sym, ap, ◌∙◌, refl}
+use Rattle.std.proofs.Common.{◌≡◌, ℕ, ◌<◌, true, false, cond, Option, None, Some, List, length, get_or, set, sym, ap, ◌∙◌}
 use Rattle.std.specs.FinMap.{insert}
-use Rattle.std.proofs.lemmas.Bool.{false≢true}
-use Rattle.fixed_box.specs.Bounds.{Bounds, encloses, fattened}
+use Rattle.fixed_box.specs.Bounds.{Bounds, fattened}
 use Rattle.box_tree.specs.declared.TheConstants.{MARGIN}
 use Rattle.box_tree.specs.declared.moved.Moved.TheVariants.{Inside, Relinked}
 use Rattle.box_tree.specs.Boxes.{is_inside, shifted, told}
@@ -25,7 +24,3 @@ module _ (fats : List (Option Bounds)) (slot : ℕ) (b : Bounds) where
   outside_shifted e lt =
       map_put fats slot (fattened b MARGIN) lt
       ∙ sym (ap (λ i. cond i (map_of fats) (insert (map_of fats) slot (fattened b MARGIN))) (ap (λ o. is_inside o b) (get_map fats slot) ∙ e))
-
-pub inside_some : (o : Option Bounds) (b : Bounds) → is_inside o b ≡ true → (f : Bounds) × (o ≡ Some f) × (encloses f b ≡ true)
-inside_some None b e = absurd (false≢true e)
-inside_some (Some f) b e = (f, refl, e)

@@ -1,7 +1,7 @@
 -- Fat boxes beside the boxes that they enclose.
-use Rattle.std.proofs.Common.{◌≡◌, ℕ, zero, suc, ◌<◌, true, false, Option, None, Some, is_some, IfSome, List, [], ◌∷◌, length, map}
+use Rattle.std.proofs.Common.{◌≡◌, ℕ, zero, suc, ◌<◌, true, false, Option, None, Some, is_some, List, [], ◌∷◌, length, map}
 use Rattle.std.proofs.Common.{cond, get_or, set, refl, sym, ap, ◌∙◌, subst, arith, ⊎_elim, ◌⊎◌}
-use Rattle.std.specs.FinMap.{contains_key, get}
+use Rattle.std.specs.FinMap.{contains_key}
 use Rattle.std.specs.List.{Contains, count_by}
 use Rattle.std.proofs.lemmas.Bool.{cases_eq, false≢true}
 use Rattle.std.proofs.lemmas.List.{get_or-set_same, get_or-set_other}
@@ -10,7 +10,7 @@ use Rattle.std.proofs.lemmas.List.Sums.{sum_by-cons}
 use Rattle.fixed_box.specs.declared.TheConstants.{SLOTS}
 use Rattle.fixed_box.specs.Bounds.{Bounds, encloses}
 use Rattle.broad_index.specs.Held.{Holds}
-use Rattle.tree_nodes.specs.Tree.{Tree, Leaf, leaves_in}
+use Rattle.tree_nodes.specs.Tree.{Tree, leaves_in}
 use Rattle.box_tree.specs.Boxes.{fat_entry}
 use Rattle.slot_lists.specs.SlotMap.{map_of}
 use Rattle.slot_lists.specs.SlotMapLaws.{get_map}
@@ -104,43 +104,33 @@ module _ (fats bodies : List (Option Bounds)) (fat : AreFat fats bodies) (slot :
   pub both_present : contains_key (map_of fats) slot ≡ contains_key (map_of bodies) slot
   both_present = has_map fats ∙ fat.same slot ∙ sym (has_map bodies)
 
-  module _ (r : Option Bounds) (e : r ≡ get_or fats slot None) where
-    pub none_read : (r ≡ None → contains_key (map_of bodies) slot ≡ false) × (contains_key (map_of bodies) slot ≡ false → r ≡ None)
-    none_read = ((λ n. has_map bodies ∙ sym (fat.same slot) ∙ ap is_some (sym e ∙ n)), (λ n. e ∙ absent_fat n))
+-- what a list of images has is the image of something, and the image of what the list has is there
+module _ {X Y : Type 0} (f : X → Y) where
+  pub mapped_from : (xs : List X) (y : Y) (k : ℕ) → k < length (map f xs) → get_or (map f xs) k y ≡ y → (z : X) × Contains xs z × (f z ≡ y)
+  mapped_from [] y k lt e = absurd (omega arith)
+  mapped_from (x ∷ xs) y zero lt e = (x, (0, omega arith, refl), e)
+  mapped_from (x ∷ xs) y (suc k) lt e =
+      let r = mapped_from xs y k (omega arith) e in
+      (r.0, Contains-append_right (x ∷ []) xs r.0 r.1, r.2)
 
-    pub inside_read : (body : Bounds) → get (map_of bodies) slot ≡ Some body → IfSome r (λ f. encloses f body ≡ true)
-    inside_read body h = at r e
-      where
-        at : (r : Option Bounds) → r ≡ get_or fats slot None → IfSome r (λ f. encloses f body ≡ true)
-        at None e = tt
-        at (Some f) e = fat.inside slot f body (sym e) (sym (get_map bodies slot) ∙ h)
-
-mapped_from : (xs : List Leaf) (y : ℕ × Bounds) (k : ℕ) → k < length (map fat_entry xs) → get_or (map fat_entry xs) k y ≡ y
-    → (z : Leaf) × Contains xs z × (fat_entry z ≡ y)
-mapped_from [] y k lt e = absurd (omega arith)
-mapped_from (x ∷ xs) y zero lt e = (x, (0, omega arith, refl), e)
-mapped_from (x ∷ xs) y (suc k) lt e =
-    let r = mapped_from xs y k (omega arith) e in
-    (r.0, Contains-append_right (x ∷ []) xs r.0 r.1, r.2)
-
-contains_map : (xs : List Leaf) (x : Leaf) → Contains xs x → Contains (map fat_entry xs) (fat_entry x)
-contains_map xs x h = at xs h.0 h.1 h.2
-  where
-    at : (xs : List Leaf) (k : ℕ) → k < length xs → get_or xs k x ≡ x → Contains (map fat_entry xs) (fat_entry x)
-    at [] k lt e = absurd (omega arith)
-    at (y ∷ ys) zero lt e = (0, omega arith, ap fat_entry e)
-    at (y ∷ ys) (suc k) lt e = Contains-append_right (fat_entry y ∷ []) (map fat_entry ys) (fat_entry x) (at ys k (omega arith) e)
+  pub contains_map : (xs : List X) (x : X) → Contains xs x → Contains (map f xs) (f x)
+  contains_map xs x h = at xs h.0 h.1 h.2
+    where
+      at : (xs : List X) (k : ℕ) → k < length xs → get_or xs k x ≡ x → Contains (map f xs) (f x)
+      at [] k lt e = absurd (omega arith)
+      at (y ∷ ys) zero lt e = (0, omega arith, ap f e)
+      at (y ∷ ys) (suc k) lt e = Contains-append_right (f y ∷ []) (map f ys) (f x) (at ys k (omega arith) e)
 
 -- the leaves have exactly the slots with fat boxes
 pub fats_held : (o : Option Tree) (fats : List (Option Bounds)) → Leafed o fats → Holds (map_of fats) (map fat_entry (leaves_in o))
 fats_held o fats leafed = record {
   present = λ k b c.
-      let r = mapped_from (leaves_in o) (k, b) c.0 c.1 c.2 in
+      let r = mapped_from fat_entry (leaves_in o) (k, b) c.0 c.1 c.2 in
       let e : get_or fats (fat_entry r.0).0 None ≡ Some (fat_entry r.0).1 = leafed.fat_is r.0 r.1 in
       get_map fats k ∙ subst (λ (x : ℕ × Bounds). get_or fats x.0 None ≡ Some x.1) r.2 e;
   whole = λ k b e.
       let c = leafed.whole k b (sym (get_map fats k) ∙ e) in
-      contains_map (leaves_in o) (record { node = c.0; slot = k; fat = b }) c.1;
+      contains_map fat_entry (leaves_in o) (record { node = c.0; slot = k; fat = b }) c.1;
 }
 
 -- no value is counted where there is none

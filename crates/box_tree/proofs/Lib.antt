@@ -2,6 +2,7 @@ pub mod LeafCounts
 pub mod LeafTies
 pub mod Soundness
 pub mod Changes
+pub mod FatLists
 pub mod Fats
 pub mod MarkedLeaves
 pub mod Searching

@@ -1,5 +1,6 @@
 -- Serves proofs alone: what ties the boxes, their fat boxes and the tree to one another.
-use Rattle.std.specs.Prelude.{◌≡◌, ℕ, List, length, count_by, slice_index_or, Option, None, Some, is_some, IsTrue, Contains, refl}
+use Rattle.std.specs.Prelude.{◌≡◌, ◌<◌, ◌==◌, if◌then◌else◌, ℕ, List, [], ◌∷◌, length, map, count_by, slice_index_or, Option, None, Some, is_some, IsTrue, Contains, refl}
+use Rattle.std.specs.List.{range_with_len}
 use Rattle.std.specs.Coded.{Coded, code_by, coded×, coded_list, coded_option}
 use Rattle.fixed_box.specs.declared.TheConstants.{SLOTS}
 use Rattle.fixed_box.specs.Bounds.{Bounds, coded_bounds, encloses}
@@ -28,6 +29,15 @@ coded_box_lists =
     (coded× (coded_list (coded_option coded_bounds)) (coded× (coded_list (coded_option coded_bounds)) coded_tree))
     (λ b. (b.bodies, (b.fats, b.tree))) (λ t. record { bodies = t.0; fats = t.1.0; tree = t.1.1 }) (λ _. refl)
 
+-- the fat box of a slot among leaves, if one has it
+abbrev pub fat_under : List Leaf → ℕ → Option Bounds
+fat_under [] k = None
+fat_under (x ∷ xs) k = if x.slot == k then Some x.fat else fat_under xs k
+
+-- the fat boxes of leaves by their slots
+unfoldable pub fats_by : List Leaf → List (Option Bounds)
+fats_by xs = map (λ k. fat_under xs k) (range_with_len 0 SLOTS)
+
 -- The leaves of the tree are the slots with fat boxes.
 pub record Leafed (tree : Option Tree) (fats : List (Option Bounds)) : Type 0 where
   pub is_tree : IsTreeIn tree
@@ -38,9 +48,10 @@ pub record Leafed (tree : Option Tree) (fats : List (Option Bounds)) : Type 0 wh
       → (n : ℕ) × Contains (leaves_in tree) (record { node = n; slot = k; fat = f })
 
 -- Each leaf stands under the number that is noted for its slot.
-pub record Ties (tree : Option Tree) (fats : List (Option Bounds)) (numbers : List ℕ) : Type 0 where
-  pub leafed : Leafed tree fats
+pub record Ties (tree : Option Tree) (numbers : List ℕ) : Type 0 where
+  pub is_tree : IsTreeIn tree
   pub numbers_len : length numbers ≡ SLOTS
+  pub small : (x : Leaf) → Contains (leaves_in tree) x → x.slot < SLOTS
   pub number_is : (x : Leaf) → Contains (leaves_in tree) x → slice_index_or numbers x.slot 0 ≡ x.node
 
 -- The slots with fat boxes are those with boxes, and the fat boxes enclose these.

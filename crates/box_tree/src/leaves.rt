@@ -5,7 +5,6 @@ ghost use Rattle.fixed_box.specs.declared.TheConstants.{SLOTS};
 ghost use Rattle.box_tree.specs.Ties.{Leafed};
 
 use fixed_box::{FBox, NoMemory, SLOTS};
-use slot_lists::no_boxes;
 use std::alloc::Global;
 use std::marker::Model;
 use tree_nodes::{Nodes, tree_laws};
@@ -22,24 +21,25 @@ const CHANGES_PER_LEAF: usize = 8;
 /// tree is rebuilt.
 #[derive(Drop)]
 pub(crate) struct Leaves {
+    // A leaf's node has its slot and its fat box.
     nodes: Nodes,
-    // Of each slot that has a leaf: its fat box, and the number of the leaf.
-    fats: Vec<Option<FBox>>,
+    // Of each slot that has a leaf the number of the leaf.
     numbers: Vec<usize>,
     // How many more changes of the tree there are before it is rebuilt.
     until_rebuild: usize,
 }
 
 impl Model for Leaves {
-    ghost use Rattle.box_tree.specs.Ties.{LeafLists, coded_leaf_lists, Ties};
+    ghost use Rattle.box_tree.specs.Ties.{LeafLists, coded_leaf_lists, fats_by, Ties};
+    ghost use Rattle.tree_nodes.specs.Tree.{leaves_in};
 
     ghost Value = { LeafLists };
 
     ghost coded = { coded_leaf_lists };
 
-    ghost view = { λ l. record { fats = l.fats.items; tree = l.nodes } };
+    ghost view = { λ l. record { fats = fats_by (leaves_in l.nodes); tree = l.nodes } };
 
-    ghost invariant = { λ l. Ties l.nodes l.fats.items l.numbers.items };
+    ghost invariant = { λ l. Ties l.nodes l.numbers.items };
 }
 
 impl Leaves {
@@ -50,7 +50,6 @@ impl Leaves {
     {
         Ok(Leaves {
             nodes: Nodes::new(alloc)?,
-            fats: no_boxes(alloc)?,
             numbers: vec![in alloc; 0; SLOTS as usize]?,
             until_rebuild: 0,
         })
@@ -61,7 +60,7 @@ impl Leaves {
         ensures { Leafed self.now.tree self.now.fats }
     {
         // what a value keeps is known where it is read
-        let _fats = &self.fats;
+        let _numbers = &self.numbers;
     }
 
     /// The tree.
@@ -71,16 +70,13 @@ impl Leaves {
         &self.nodes
     }
 
-    /// The fat box of a slot, if it has one.
-    pub(crate) fn fat_of(&self, slot: u32) -> Option<FBox>
-        ensures { result ≡ slice_index_or self.now.fats slot None }
+    /// The fat box of a slot that has one: it stands in the leaf's node.
+    pub(crate) fn fat_of(&self, slot: u32) -> FBox
+        requires { is_some (slice_index_or self.now.fats slot None) ≡ true }
+        ensures { slice_index_or self.now.fats slot None ≡ Some result }
     {
-        let slot = slot as usize;
-        if slot < self.fats.len() {
-            self.fats[slot]
-        } else {
-            None
-        }
+        tree_laws();
+        self.nodes.node(self.numbers[slot as usize]).bounds
     }
 
     /// Gives a slot that has none a leaf.
@@ -108,9 +104,7 @@ impl Leaves {
         ensures { self.new.fats ≡ slice_set self.old.fats slot None }
     {
         tree_laws();
-        let slot = slot as usize;
-        self.nodes.drop_leaf(self.numbers[slot]);
-        self.fats[slot] = None;
+        self.nodes.drop_leaf(self.numbers[slot as usize]);
     }
 
     // Counts a change of the tree, and rebuilds it after some for each leaf: the more it is changed, the more nodes a
@@ -133,7 +127,6 @@ impl Leaves {
         ensures { self.new.fats ≡ slice_set self.old.fats slot (Some fat) }
     {
         self.numbers[slot as usize] = self.nodes.add_leaf(slot, fat);
-        self.fats[slot as usize] = Some(fat);
     }
 
     // Gives the leaf of a slot another box in its place.
@@ -142,9 +135,7 @@ impl Leaves {
         ensures { self.new.fats ≡ slice_set self.old.fats slot (Some fat) }
     {
         tree_laws();
-        let slot = slot as usize;
-        self.nodes.move_leaf(self.numbers[slot], fat);
-        self.fats[slot] = Some(fat);
+        self.nodes.move_leaf(self.numbers[slot as usize], fat);
     }
 
     // Moves a leaf in its place where its box stays near, and else puts it where it fits best.
@@ -165,10 +156,7 @@ impl Leaves {
 // Whether a leaf may stay in its place, for speed alone: in a grid whose cells are at least four times as long as the box,
 // its lower corner stays in its cell. So no leaf that is only moved goes far from where it was put, however often it moves.
 // In shorter cells more leaves are dropped and added than searches gain by it, and in longer ones searches look at more.
-fn is_near(old: &Option<FBox>, fat: &FBox) -> bool {
-    let Some(old) = old else {
-        return false;
-    };
+fn is_near(old: &FBox, fat: &FBox) -> bool {
     let bits = (34 - fat.longest_side().leading_zeros()).min(32);
     let (from, to) = (old.lo(), fat.lo());
     is_one_cell(from.x, to.x, bits)

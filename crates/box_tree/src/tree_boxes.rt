@@ -8,7 +8,7 @@ ghost use Rattle.slot_lists.specs.SlotMap.{map_of};
 ghost use Rattle.broad_index.specs.Held.{Holds};
 ghost use Rattle.tree_nodes.specs.Tree.{leaves_in, IsTreeIn};
 ghost use Rattle.box_tree.specs.declared.TheConstants.{MARGIN};
-ghost use Rattle.box_tree.specs.Boxes.{fat_entry, is_inside, shifted, told};
+ghost use Rattle.box_tree.specs.Boxes.{fat_entry, shifted, told};
 ghost use Rattle.tree_search.specs.Exact.{exact_in, IsInsideIn};
 ghost use Rattle.box_tree.specs.Ties.{HaveLeaves};
 
@@ -119,7 +119,11 @@ impl TreeBoxes {
         ensures inside { (body : Bounds) → map.get (map_of self.now.bodies) slot ≡ Some body →
             IfSome result (λ fat. IsTrue (encloses fat body)) }
     {
-        self.leaves.fat_of(slot)
+        if self.box_of(slot).is_some() {
+            Some(self.leaves.fat_of(slot))
+        } else {
+            None
+        }
     }
 
     /// Puts a box under an absent slot.
@@ -145,7 +149,7 @@ impl TreeBoxes {
         self.leaves.leaf_law();
         let at = slot as usize;
         self.bodies[at] = Some(body);
-        if is_inside(&self.leaves.fat_of(slot), &body) {
+        if self.leaves.fat_of(slot).holds_box(&body) {
             return Moved::Inside;
         }
         self.leaves.relink(slot, body.fatten(MARGIN));
@@ -162,15 +166,5 @@ impl TreeBoxes {
         self.leaves.leaf_law();
         self.bodies[slot as usize] = None;
         self.leaves.take(slot);
-    }
-}
-
-// Whether a fat box is there and encloses a box.
-fn is_inside(fat: &Option<FBox>, body: &FBox) -> bool
-    ensures { result ≡ is_inside fat.now body.now }
-{
-    match fat {
-        Some(fat) => fat.holds_box(body),
-        None => false,
     }
 }
