@@ -1,6 +1,6 @@
 #!/usr/bin/env python3
 """Makes scenes/deep.scene, for what short scenes don't reach: marks 64 deep, ways back over more than a thousand changes, and
-`near`, `cast`, `entry` and boxes with hundreds of hits. A call that gives up where it is asked for much is seen by it.
+`near`, `cast`, `entry` and boxes with hundreds of hits. A call that gives up if it is asked for much is seen by it.
 
     bench/deep_scene.py > scenes/deep.scene
     bench/reference.py < scenes/deep.scene > scenes/deep.report

@@ -1,4 +1,4 @@
-// Times a frame in process: each structure of the library, and Bullet's dynamic tree, Embree and CGAL where it is built with them, over the
+// Times a frame in process: each structure of the library, and Bullet's dynamic tree, Embree and CGAL if it is built with them, over the
 // same moving boxes and the same questions. Text is nowhere. All answers are compared by a sum before any time is told.
 //
 // A frame is what an engine does that keeps something for each pair: it tells what moved, has the pairs found, and hears which began and
@@ -6,7 +6,7 @@
 // that its pair cache calls for each pair that comes or goes. No list of all pairs is read in that time. Bullet's pairs are those of
 // enlarged boxes, and some have parted already: which of them meet is found for the sum alone, outside of the time.
 //
-// Embree and CGAL keep no pairs. Embree's tree over all boxes is refitted, or built anew, where a box moved, and is collided with itself,
+// Embree and CGAL keep no pairs. Embree's tree over all boxes is refitted, or built anew, if a box moved, and is collided with itself,
 // on one thread; CGAL intersects all boxes anew. Each pair that they tell is tested exactly.
 //
 //     in_process BOXES FRAMES ROUNDS [LOAD..]
@@ -319,7 +319,7 @@ struct Bullet final : Engine {
 };
 #endif
 
-// A peer that keeps no pairs: it finds all of them anew where a box moved, tests each exactly, and then sorts and compares them with the
+// A peer that keeps no pairs: it finds all of them anew if a box moved, tests each exactly, and then sorts and compares them with the
 // last ones, which tells what began and what is over. "pairs alone" leave that out of the time.
 struct Searcher : Engine {
     bool hears_in_time, is_changed = true;

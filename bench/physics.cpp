@@ -1,4 +1,4 @@
-// Writes the boxes of bodies that Bullet simulates, as a scene: how an engine's boxes move, where made loads make them jump.
+// Writes the boxes of bodies that Bullet simulates, as a scene: how an engine's boxes move, while made loads make them jump.
 //
 //     physics KIND BODIES STEPS > SCENE      KIND is tower, hopper, chains, train or rest
 //

@@ -142,7 +142,7 @@ def ask(world, words):
         region = Box((0, 0), at[:3], at[3:], 0, 0, 0, False)
         return [found(kind, [box for box in boxes if meet(region, box)])]
     if kind == "cast":
-        # A moved box meets another where its lower corner comes into that one, grown downwards by the moved one's sides.
+        # A moved box meets another if its lower corner comes into that one, grown downwards by the moved one's sides.
         sides = tuple(at[3 + k] - at[k] for k in range(3))
         placed = [
             (first_met(at[:3], at[6:], tuple(box.lo[k] - sides[k] for k in range(3)), box.hi, Fraction(1)), box)

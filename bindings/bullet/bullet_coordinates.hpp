@@ -1,5 +1,6 @@
-// How places of a Bullet world lie in the range of the library, for pungwelair_broadphase.hpp: boxes by steps that never turn two numbers
-// round, so that boxes which meet have boxes here that meet, and rays by doubles with room for all that is rounded on the way.
+// How places of a Bullet world lie in the range of the library, for pungwelair_broadphase.hpp. Boxes are taken there by steps that never
+// turn two numbers round, so boxes that meet have boxes here that meet. Rays are taken by doubles, with room for all that is rounded on
+// the way.
 #ifndef PUNGWELAIR_BULLET_COORDINATES_HPP
 #define PUNGWELAIR_BULLET_COORDINATES_HPP
 
@@ -50,7 +51,7 @@ public:
         int parts = 0;
         bool is_whole = true;  // it misses no box but such as are at the rim
     };
-    // Cut to where the moved box stands in the range. No part where it never does.
+    // Cut to where the moved box stands in the range. No part if it never does.
     Way way(const btVector3& from, const btVector3& to, const btVector3& low, const btVector3& high) const {
         Way way;
         double longest = 0;

@@ -1,7 +1,7 @@
-// Which pairs a Bullet world has over the library and over btDbvtBroadphase, both told the same: groups of the user's own, filters that are
-// written into proxies, filter callbacks that come, change their mind and go, pairs that are taken out, ghosts, and pair caches of the
-// user's. At each step every pair whose boxes meet and which the filter allows, found by testing all, must be in the library's cache, and
-// no other; and what that cache was told, by a listener of its own, must never be told twice.
+// Which pairs a Bullet world has over the library and over btDbvtBroadphase, if both are told the same. There are groups of the user's
+// own, filters that are written into proxies, filter callbacks that come, change their mind and go, pairs that are taken out, ghosts, and
+// pair caches of the user's. At each step the library's cache must have every pair whose boxes meet and which the filter allows, found by
+// testing all, and no other. A listener of the cache's own sees that nothing is told to it twice.
 #include "pungwelair_broadphase.hpp"
 #include <BulletCollision/CollisionDispatch/btGhostObject.h>
 #include <BulletDynamics/btBulletDynamicsCommon.h>

@@ -2,9 +2,9 @@
 // btDbvtBroadphase. Bullet's pair cache is fed by the changes of each update alone: a pair that began comes in, one that is over goes out.
 //
 // Bullet's boxes are moved by an origin, scaled, rounded outward to 1/65,536 and cut to -32,768 .. 32,767, so that boxes which meet
-// always have boxes here that meet. A plane or a terrain without end may stand in the world. What lies beyond the range is kept at its rim:
-// it loses no pair, but all boxes beyond one side meet there, so choose origin and scale such that the bodies stand inside (a world in
-// centimetres with a scale of 0.01 reaches 327 km), and a ray that leaves the range while boxes stand at the rim tests each box.
+// always have boxes here that meet. A plane or a terrain without end may stand in the world. What lies beyond the range is kept at its
+// rim. It loses no pair, but all boxes beyond one side meet there. So choose origin and scale such that the bodies stand inside: a world
+// in centimetres with a scale of 0.01 reaches 327 km. A ray that leaves the range while boxes stand at the rim tests each box.
 //
 // Groups and masks are Bullet's, as they stand in each proxy, and a filter callback of the pair cache, or a cache of the user's, decides in
 // place of them. What is written there, or taken out of the cache, is seen by the next calculateOverlappingPairs: a pair that may no longer
@@ -89,8 +89,8 @@ public:
         is_changed = true;
     }
 
-    // The box goes to the library with others, at the next question or update. One that stays where it was is no move, but of a ghost, to
-    // which others may have come.
+    // The box goes to the library with others, at the next question or update. One that stays where it was is no move, except of a
+    // ghost, to which others may have come.
     void setAabb(btBroadphaseProxy* given, const btVector3& low, const btVector3& high, btDispatcher*) override {
         if (!given) return;
         auto& proxy = *static_cast<Proxy*>(given);
@@ -211,7 +211,7 @@ private:
                static_cast<btCollisionObject*>(object)->getInternalType() == btCollisionObject::CO_GHOST_OBJECT;
     }
 
-    // The proxy of a handle, and none if it was destroyed since.
+    // The proxy of a handle, and null if it was destroyed since.
     Proxy* proxy_of(pw_handle handle) const {
         Proxy* proxy = by_slot[handle.slot];
         return proxy && proxy->handle.generation == handle.generation ? proxy : nullptr;
@@ -250,7 +250,7 @@ private:
         return !info || info->spent != 0;
     }
 
-    // Opens a world anew and adds all boxes as they stand, where memory ran out in a change of the one before. Not within a question, whose
+    // Opens a world anew and adds all boxes as they stand, if memory ran out in a change of the one before. Not within a question, whose
     // handles are of the world that it asked.
     bool renew() {
         if (depth > 0) return false;

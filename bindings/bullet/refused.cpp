@@ -1,5 +1,5 @@
-// A Bullet broad phase over a library whose requests of memory are refused, each in turn and then several in a row: the program goes on,
-// the user is told of what couldn't be kept, questions find all the same, and once there is memory again the pairs are those that meet.
+// A Bullet broad phase over a library whose requests of memory are refused, each in turn and then several in a row. The program goes on,
+// the user is told of what couldn't be kept, and questions find all the same. Once there is memory again the pairs are those that meet.
 #include "pungwelair_broadphase.hpp"
 #include <cstdio>
 #include <cstdlib>

@@ -128,7 +128,7 @@ struct Played {
     Pairs pairs;
 };
 
-// Plays a record to a broad phase. Where `all` is given, the pairs that testing all boxes finds come in there.
+// Plays a record to a broad phase. If `all` is given, the pairs that testing all boxes finds come in there.
 Played play(btBroadphaseInterface& broadphase, const Record& record, Pairs* all) {
     Played played;
     std::vector<btBroadphaseProxy*> proxies;

@@ -1,6 +1,6 @@
-// What a user of Bullet asks a broad phase over the library and gives it: regions (which dbvt is asked too), questions within questions, rays
-// of all lengths with and without a box, rays that callbacks shorten, worlds far out, wrong boxes, and one proxy too many. What a question
-// must find is found by testing all boxes.
+// What a user of Bullet asks a broad phase over the library and gives it. There are regions (which dbvt is asked too), questions within
+// questions, rays of all lengths with and without a box, and rays that callbacks shorten. There are also worlds far out, wrong boxes, and
+// one proxy too many. What a question must find is found by testing all boxes.
 #include "pungwelair_broadphase.hpp"
 #include <BulletDynamics/btBulletDynamicsCommon.h>
 #include <algorithm>
@@ -289,7 +289,7 @@ void within(Structure structure) {
     expect(far_ray.met.size() >= 3 && boxes.proxies.size() == 4, name, "a box that goes costs no other its call");
 }
 
-// Boxes far out: by origin and scale they have the pairs that meet, and none besides; at the rim none is lost.
+// Boxes far out: by origin and scale they have the pairs that meet and no other; at the rim no pair is lost.
 void far_out(Structure structure) {
     struct Place {
         const char* name;

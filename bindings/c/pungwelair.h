@@ -80,9 +80,9 @@ enum {
     PW_CLOSED = 5,        /* the world isn't open */
     PW_ARGUMENT = 6,      /* no such structure, no such kind of question, a region whose lo > hi, lengths that don't agree, or
                              pw_open of a world that is open */
-    PW_EXHAUSTED = 7,     /* a number is at its end, which no game comes to: each slot without a box was given 4,294,967,295
+    PW_EXHAUSTED = 7,     /* a number is at its end, which no game comes to. Each slot without a box was given 4,294,967,295
                              times, as many frames ended as 64 bits count, or over PW_SAP 2^62 exchanges were counted since the
-                             last frame */
+                             last frame. */
     PW_NO_MARK = 8,       /* no mark is held to go back to, or fewer marks are held than are to be given up */
     PW_NOT_A_NUMBER = 9,  /* a float is a NaN */
     PW_OUT_OF_RANGE = 10  /* a float, rounded as the call says, is below -32,768 or above 32,767.99998, or it is an infinity */
@@ -259,7 +259,7 @@ pw_status pw_at(pw_world *world, uint32_t slot, pw_handle *handle, pw_live *out)
  * many boxes and pairs there are. PW_EXHAUSTED, PW_NO_MEMORY: all is as before. */
 pw_status pw_update(pw_world *world, pw_counts *counts);
 
-/* Copies the pairs of the last frame from number `from` on, in order of (a's slot, b's slot), as many as there is room for, and
+/* Copies the pairs of the last frame from number `from` on, in order of a's slot and then of b's, as many as there is room for. It
  * tells how many those are: 0 if `from` is past the end. After pw_back they are those of the last frame before the mark. A handle
  * of a pair may be stale by now. */
 pw_status pw_pairs(pw_world *world, size_t from, pw_pair *out, size_t out_len, size_t *copied);
@@ -303,7 +303,7 @@ pw_status pw_mark(pw_world *world);
  * PW_NO_MARK: fewer are held, and no mark is given up. */
 pw_status pw_forget(pw_world *world, uint32_t count);
 
-/* Goes back to the newest mark, which is then gone: the live boxes, their handles and those of later boxes, the pairs of the last frame
+/* Goes back to the newest mark, which is then gone. The live boxes, their handles and those of later boxes, the pairs of the last frame
  * and the numbers of frames and exchanges are exactly what they were. It takes a step for each change since. PW_NO_MARK. */
 pw_status pw_back(pw_world *world);
 

@@ -84,10 +84,10 @@ public:
 
     [[nodiscard]] constexpr bool has_value() const noexcept { return reason == Status::ok; }
     constexpr explicit operator bool() const noexcept { return has_value(); }
-    // Why there is no value, and ok where there is one.
+    // Why there is no value, and ok if there is one.
     constexpr Status error() const noexcept { return reason; }
 
-    // Where there is none, this is one of zeros.
+    // If there is no value, this is one of zeros.
     [[nodiscard]] constexpr const Value& operator*() const noexcept { return kept; }
     [[nodiscard]] constexpr Value& operator*() noexcept { return kept; }
     constexpr const Value* operator->() const noexcept { return &kept; }
@@ -97,7 +97,7 @@ public:
 };
 
 // Items that stand one behind the other, as std::span of C++20: of a vector, an array, a std::span, or a pointer and a number; of
-// items in braces too, where they are only read. An empty one leads to a place as well, since the library takes no null pointer.
+// items in braces too, if they are only read. An empty one leads to a place as well, since the library takes no null pointer.
 template <class Item>
 class Span {
     static inline std::remove_const_t<Item> nowhere{};
@@ -116,7 +116,7 @@ public:
     [[nodiscard]] std::size_t size() const noexcept { return length; }
 };
 
-// How many items of a batch were done before it ended, and why it did. `done` is all of them where the status is ok.
+// How many items of a batch were done before it ended, and why it did. `done` is all of them if the status is ok.
 struct [[nodiscard]] Batch {
     Status status;
     std::size_t done;
@@ -137,7 +137,7 @@ struct [[nodiscard]] Frame {
     explicit operator bool() const noexcept { return status == Status::ok; }
 };
 
-// What the calls named try_ share: a value where its status is ok.
+// What the calls named try_ share: a value if its status is ok.
 template <class Value>
 Result<Value> result_of(pw_status status, const Value& value) noexcept {
     return status == PW_OK ? Result<Value>(value) : Result<Value>(Status(status));
@@ -202,7 +202,7 @@ struct Placed {
     pw_live live;
 };
 
-// A world, which is closed where it ends. It can be moved and not copied; what it was moved from is a closed world. Questions aren't
+// A world, which is closed when it ends. It can be moved and not copied; what it was moved from is a closed world. Questions aren't
 // const: each takes the world out of its words and puts it back, so two threads may not ask at once either.
 class World {
     pw_world world = PW_WORLD_INIT;
@@ -210,7 +210,7 @@ class World {
 
 public:
     World() = default;
-    // An open world, or a closed one where memory ran out: `status` tells.
+    // An open world, or a closed one if memory ran out: `status` tells.
     explicit World(Structure structure) noexcept { static_cast<void>(open(structure)); }
     ~World() { pw_close(&world); }
     World(World&& other) noexcept : world(std::exchange(other.world, PW_WORLD_INIT)), opened(std::exchange(other.opened, Status::closed)) {}
@@ -231,10 +231,10 @@ public:
         opened = Status::closed;
         return Status(pw_close(&world));
     }
-    // ok where the world is open, else why it isn't: what the last `open` or the constructor came to, or closed.
+    // ok if the world is open, else why it isn't: what the last `open` or the constructor came to, or closed.
     Status status() const noexcept { return opened; }
     [[nodiscard]] bool is_open() const noexcept { return opened == Status::ok; }
-    // For calls of pungwelair.h, but for pw_open and pw_close. It is this world's, not another.
+    // For calls of pungwelair.h, except pw_open and pw_close. It is this world's, not another.
     [[nodiscard]] pw_world* native() noexcept { return &world; }
 
     Batch add(Span<const pw_box> boxes, const pw_new& how, Span<pw_handle> out) noexcept {
@@ -277,7 +277,7 @@ public:
     }
     [[nodiscard]] std::optional<Placed> at(uint32_t slot) noexcept { return try_at(slot); }
     class Boxes;
-    // All live boxes, by their slots, for a loop: none of a closed world. The loop may change the world, since each slot is read when its
+    // All live boxes, by their slots, for a loop: no box of a closed world. The loop may change the world, since each slot is read when its
     // turn comes.
     [[nodiscard]] Boxes boxes() noexcept;
 
@@ -324,20 +324,20 @@ public:
         found.status = Status(pw_nearest(&world, &near_to, out.data(), out.size(), &found.count));
         return found;
     }
-    // The box that a ray meets first, which is none where it meets none.
+    // The box that a ray meets first, and no value if it meets no box.
     Result<std::optional<pw_handle>> try_first_hit(const pw_ray& ray) noexcept {
         pw_handle first{};
         Count found = ray_hits(ray, {&first, 1});
         return result_of(pw_status(found.status), found.count > 0 ? std::optional(first) : std::nullopt);
     }
-    // The same, and none also where the world is closed or memory ran out.
+    // The same, and no value also if the world is closed or memory ran out.
     [[nodiscard]] std::optional<pw_handle> first_hit(const pw_ray& ray) noexcept { return *try_first_hit(ray); }
 
     Status mark() noexcept { return Status(pw_mark(&world)); }
     // Gives up the oldest marks.
     Status forget(uint32_t count = 1) noexcept { return Status(pw_forget(&world, count)); }
     Status back() noexcept { return Status(pw_back(&world)); }
-    // Refused where the world is closed.
+    // Refused if the world is closed.
     Result<pw_world_info> try_info() noexcept {
         pw_world_info info{};
         pw_status status = pw_info(&world, &info);

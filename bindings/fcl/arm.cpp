@@ -1,5 +1,5 @@
-// A robot's links among a thousand obstacles, over the library and over FCL's naive manager, which tests all: the same pairs collide, and
-// the same distances are least, while the robot moves, obstacles come and go, and walls without end stand around. Times are told.
+// A robot's links among a thousand obstacles, over the library and over FCL's naive manager, which tests all. The robot moves, obstacles
+// come and go, and walls without end stand around. The same pairs must collide, and the same distances be least. Times are told.
 #include "pungwelair_manager.hpp"
 #include <cstdio>
 #include <ctime>

@@ -191,7 +191,7 @@ private:
         return objects;
     }
 
-    // Whether a callback has had enough. FCL hands the asking object first where one object asks, and last where a manager does.
+    // Whether a callback has had enough. FCL hands the asking object first if one object asks, and last if a manager does.
     bool collide_with(Object *object, void *data, OnCollision callback, bool asks_last) const {
         for (Object *found : meeting(object->getAABB())) {
             if (found == object || !object->getAABB().overlap(found->getAABB())) continue;

@@ -1,6 +1,6 @@
 //! Links the static library. `bindings/build` makes it; `PUNGWELAIR_LIB` names another folder that has it, as the one where
-//! `bindings/install` puts it. Where it is missing a warning says so and the crate is checked and documented all the same: a linker
-//! fails, by a name that says what to do, since a warning of a dependency isn't shown.
+//! `bindings/install` puts it. If it is missing a warning says so, and the crate is checked and documented all the same. A
+//! linker fails, by a name that says what to do, since a warning of a dependency isn't shown.
 
 const MISSING: &str = "pungwelair_of_bindings_build_or_PUNGWELAIR_LIB";
 

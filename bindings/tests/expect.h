@@ -1,4 +1,4 @@
-/* What the tests in C share: a claim that is counted, and named where it fails, and room that is filled. */
+/* What the tests in C share: a claim that is counted, and named if it fails, and room that is filled. */
 #ifndef EXPECT_H
 #define EXPECT_H
 

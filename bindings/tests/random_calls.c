@@ -339,7 +339,7 @@ static void try_info(uint32_t structure) {
     EXPECT(structure == PW_SAP || info.exchanges == 0);
 }
 
-/* Marks come about as often as they go, so that a long run holds none and all that there may be. */
+/* Marks come about as often as they go, so that a long run holds no mark and all that there may be. */
 static void try_some_call(uint32_t structure) {
     switch (below(20)) {
     case 0: case 1: try_add(); break;

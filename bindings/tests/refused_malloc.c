@@ -65,7 +65,7 @@ static pw_pair pairs[ROOM];
 static pw_told events[ROOM], changes[ROOM];
 static size_t change_count;
 
-/* A call says that memory was refused exactly where some was. */
+/* A call says that memory was refused exactly if some was. */
 #define TELLS(status, call)                                         \
     do {                                                            \
         long before = refusals;                                     \
@@ -73,7 +73,7 @@ static size_t change_count;
         EXPECT(((status) == PW_NO_MEMORY) == (refusals > before));  \
     } while (0)
 
-/* A call that changes nothing where memory is refused: asked again, it answers. */
+/* A call that changes nothing if memory is refused: asked again, it answers. */
 #define ASK(call)                                                   \
     do {                                                            \
         pw_status status;                                           \
@@ -89,7 +89,7 @@ static size_t change_count;
         EXPECT((call) == PW_OK && requests == before);              \
     } while (0)
 
-/* Where no frame ended since, the changes are those that were told last. */
+/* If no frame ended since, the changes are those that were told last. */
 static void expect_same_changes(void) {
     static pw_told again[ROOM];
     size_t copied;
@@ -146,7 +146,7 @@ static bool has_box(pw_handle handle, const pw_box *box) {
     return pw_get(&world, handle, &live) == PW_OK && !memcmp(&live.body, box, sizeof *box);
 }
 
-/* After a change, whether there is more to do for it: where memory was refused and the world isn't spent, the rest of it. Spent or not, the
+/* After a change, whether there is more to do for it: if memory was refused and the world isn't spent, the rest of it. Spent or not, the
  * world is as what was done has made it: so many boxes, and the frames and marks that it had. */
 static bool goes_on(pw_status status, bool is_done, const pw_world_info *before, size_t boxes) {
     if (status != PW_NO_MEMORY) {

@@ -362,7 +362,7 @@ def wrong_buffers(world):
     raises(ValueError, world.move_all, memoryview(common)[:16], memoryview(common)[12:60])
     assert world.add_all_into(memoryview(common)[48:], memoryview(common)[:48]) == 2
     assert world.info().boxes == 4 and [world.get(handle).box for handle in handles] == [raw(0)] * 2
-    # A buffer is let go of, also where the batch stops and its refusal is kept.
+    # A buffer is let go of, also if the batch stops and its refusal is kept.
     fault = stopped(Status.STALE, 0, world.remove_all, array.array("I", [99, 0]))
     grown = array.array("I", [0, 0, 99, 0])
     fault = stopped(Status.STALE, 1, world.remove_all, grown)

@@ -151,7 +151,7 @@ static void wrong_moves(void) {
         done = 99;
         REFUSED(pw_move(&world, &stale[k], 1, boxes, 1, &done), PW_STALE);
         EXPECT(done == 0);
-        /* A box that is none is refused first. */
+        /* An inverted box is refused first. */
         REFUSED(pw_move(&world, &stale[k], 1, &inverted, 1, &done), PW_INVERTED);
         REFUSED(pw_mask(&world, stale[k], masks), PW_STALE);
         REFUSED(pw_regroup(&world, stale[k], group), PW_STALE);
@@ -190,7 +190,7 @@ static void removed_twice(void) {
     EXPECT(done == 0);
 }
 
-/* Less room than there are answers, more room, none, and a start past the end. */
+/* Less room than there are answers, more room, no room, and a start past the end. */
 static void room_for_lists(void) {
     pw_pair pairs[ROOM];
     pw_told events[ROOM];

@@ -61,7 +61,7 @@ class Rows:
             raise ValueError(f"the buffer of {kind.name} doesn't stand at a multiple of 4")
 
     def refuse_common(self, other: Rows) -> None:
-        """Raises where both have a byte, of which the library would read what it has just written."""
+        """Raises if both have a byte, of which the library would read what it has just written."""
         if self.start < other.end and other.start < self.end:
             raise ValueError("two buffers of one call share memory")
 

@@ -1,4 +1,4 @@
-"""What goes in and what comes out: values, which are equal where their parts are, serve as keys, and don't change."""
+"""What goes in and what comes out: values, which are equal if their parts are, serve as keys, and don't change."""
 
 from __future__ import annotations
 
@@ -37,9 +37,9 @@ class Structure(enum.IntEnum):
 
     PLAIN = 0  #: tests every two: for a few hundred boxes
     SAP = 1  #: sweep and prune: if you want exchanges counted
-    TREE = 2  #: a dynamic tree of enlarged boxes: where few boxes move, or much is asked
-    GRID = 3  #: a hashed grid of levels: where most boxes move
-    SKIN = 4  #: boxes in skins over the tree: where boxes move by little in each tick
+    TREE = 2  #: a dynamic tree of enlarged boxes: if few boxes move, or much is asked
+    GRID = 3  #: a hashed grid of levels: if most boxes move
+    SKIN = 4  #: boxes in skins over the tree: if boxes move by little in each tick
 
 
 class Event(enum.IntEnum):
@@ -99,7 +99,7 @@ class Box(tuple[int, ...]):
     """A closed axis-aligned box in raw units, from two corners. Boxes that touch meet.
 
     It is a row of six numbers, as a buffer has them: the lower corner's, and then the upper one's. One whose `lo` is above its `hi` on
-    some axis is none, and calls refuse it.
+    some axis is no box, and calls refuse it.
     """
 
     __slots__ = ()
@@ -215,7 +215,7 @@ made: Any = tuple.__new__
 
 
 def call(name: str, *arguments: Any) -> None:
-    """Calls a function of pungwelair.h by its name, and raises `Refused` where it doesn't give PW_OK.
+    """Calls a function of pungwelair.h by its name, and raises `Refused` if it doesn't give PW_OK.
 
     A `World` has each of them: this is for the few that want its structs, which stand in `pungwelair._library`.
     """

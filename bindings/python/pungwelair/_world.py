@@ -45,7 +45,7 @@ def _from(start: int) -> int:
 
 
 def _checked(status: int, count: int) -> int:
-    """A count, where the call that told it wasn't refused. A frame that raises holds no buffer of the caller: its traceback would."""
+    """A count, if the call that told it wasn't refused. A frame that raises holds no buffer of the caller: its traceback would."""
     if status:
         raise Refused(status)
     return count
@@ -54,11 +54,11 @@ def _checked(status: int, count: int) -> int:
 class World:
     """Moving boxes under handles, and what they meet.
 
-    Calls of several threads take turns, and other worlds answer meanwhile. Where a world isn't closed it ends with its last
+    Calls of several threads take turns, and other worlds answer meanwhile. If a world isn't closed it ends with its last
     reference. A closed world refuses: CLOSED.
 
     Boxes and handles go in as values, or many at once as a list or a buffer, which is read where it stands: rows of six int32 for
-    boxes, of two uint32 for handles. Answers are lists of values; the calls that end in `_into` write them to a buffer of the caller
+    boxes, of two uint32 for handles. Answers are lists of values. The calls that end in `_into` write them to a buffer of the caller
     in place: rows of two uint32 for handles, of four for pairs, of five for events (the event, and the handles of both boxes). No
     other thread may write to a buffer while a call has it.
     """
@@ -67,14 +67,14 @@ class World:
     _world: Any = byref(RawWorld())
 
     def __init__(self, structure: int = TREE) -> None:
-        """An open world with no box, over one of the five structures. NO_MEMORY, or ARGUMENT where there is no such structure."""
+        """An open world with no box, over one of the five structures. NO_MEMORY, or ARGUMENT if there is no such structure."""
         structure = index(structure)
         refuse_words(structure=structure)
         self._held = RawWorld()
         self._world = byref(self._held)
         # A lock that its holder may take again: a collector's finalizer may call in the middle of a call.
         self._lock = threading.RLock()
-        # What the calls of one box write to and nobody reads, since it is 1 where they aren't refused.
+        # What the calls of one box write to and nobody reads, since it is 1 if they aren't refused.
         self._done = byref(c_size_t())
         self._counts = RawCounts()
         self._counts_at = byref(self._counts)
@@ -107,7 +107,7 @@ class World:
     def add(self, box: Box, groups: int = 1, sees: int = ALL, owner: int = 0, fixed: bool = False) -> Handle:
         """Adds a box under the least free slot. INVERTED, FULL, EXHAUSTED, NO_MEMORY.
 
-        It is in the groups of one mask and sees those of another; two boxes pair where each sees a group that the other is in. Boxes of
+        It is in the groups of one mask and sees those of another; two boxes pair if each sees a group that the other is in. Boxes of
         one owner (but 0) don't pair, nor do two fixed ones.
         """
         if not isinstance(box, Box):
@@ -213,7 +213,7 @@ class World:
     def add_all(self, boxes: Boxes, groups: int = 1, sees: int = ALL, owner: int = 0, fixed: bool = False) -> List[Handle]:
         """Adds boxes in order, all in one way, and gives their handles.
 
-        `Stopped` where one is refused: its `handles` are those of the boxes before it.
+        `Stopped` if one is refused: its `handles` are those of the boxes before it.
         """
         status, handles = self._added(boxes, groups, sees, owner, fixed)
         if status:
@@ -229,7 +229,7 @@ class World:
     def add_all_into(self, out: Buffer, boxes: Boxes, groups: int = 1, sees: int = ALL, owner: int = 0, fixed: bool = False) -> int:
         """The same, with the handles written to a buffer, and how many boxes were added.
 
-        `Stopped`: the handles of those that are done stand in the buffer. ARGUMENT, and none is added, where it has less room than
+        `Stopped`: the handles of those that are done stand in the buffer. ARGUMENT, and no box is added, if it has less room than
         there are boxes.
         """
         status, done = self._add_rows(rows_of(BOXES, boxes), room_of(HANDLES, out), groups, sees, owner, fixed)
@@ -247,7 +247,7 @@ class World:
         return status, _counted(work)
 
     def move_all(self, handles: Handles, boxes: Boxes) -> None:
-        """Moves boxes in order, each with its handle. `Stopped` where one is refused, and with ARGUMENT where the lengths differ."""
+        """Moves boxes in order, each with its handle. `Stopped` if one is refused, and with ARGUMENT if the lengths differ."""
         status, done = self._moved(handles, boxes)
         if status:
             raise Stopped(status, done)
@@ -261,7 +261,7 @@ class World:
         return status, _counted(work)
 
     def remove_all(self, handles: Handles) -> None:
-        """Removes boxes in order. `Stopped` where one is refused."""
+        """Removes boxes in order. `Stopped` if one is refused."""
         status, done = self._removed(handles)
         if status:
             raise Stopped(status, done)
@@ -290,7 +290,7 @@ class World:
 
     @property
     def frame(self) -> Frame:
-        """How many pairs, events and changes the last call of `end_frame` or `update` told: none where it was refused."""
+        """How many pairs, events and changes the last call of `end_frame` or `update` told: 0 if it was refused."""
         with self._lock:
             return Frame(self._counts.pairs, self._counts.events, self._counts.changes)
 
@@ -331,7 +331,7 @@ class World:
         return self._read_long(long, kind, expected, values)
 
     def _read_long(self, copies: Any, kind: Kind, expected: int, values: Callable[[bytearray], List[_Value]]) -> List[_Value]:
-        # A row more than is expected: where it stays free, all were read. Another thread or a way back may have made them more.
+        # A row more than is expected: if it stays free, all were read. Another thread or a way back may have made them more.
         start, room, parts = 0, expected + 1, []
         while True:
             memory, rows = new_rows(kind, room)
@@ -362,7 +362,7 @@ class World:
     def hits(self, question: Question, mask: int = ALL) -> List[Handle]:
         """The live boxes of the groups of `mask` that meet a box, hold a point, or meet a ray or a segment, in order of their slots.
 
-        ARGUMENT where a box is inverted, NO_MEMORY.
+        ARGUMENT if a box is inverted, NO_MEMORY.
         """
         return self._found(_pw_hits, _query(question, mask))
 
@@ -434,14 +434,14 @@ class World:
         return status, _counted(work)
 
     def mark(self) -> None:
-        """Marks the world as it stands, for rollback. FULL where MOST_MARKS are held."""
+        """Marks the world as it stands, for rollback. FULL if MOST_MARKS are held."""
         with self._lock:
             status = _pw_mark(self._world)
         if status:
             raise Refused(status)
 
     def forget(self, count: int = 1) -> None:
-        """Gives up the oldest marks, so many of them: the world as it stands and the newer marks are as before. NO_MARK where fewer are held."""
+        """Gives up the oldest marks, so many of them: the world as it stands and the newer marks are as before. NO_MARK if fewer are held."""
         refuse_words(count=count)
         with self._lock:
             status = _pw_forget(self._world, c_uint32(count))

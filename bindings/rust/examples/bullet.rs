@@ -19,7 +19,7 @@ fn shifted(body: Body, by: Point) -> Body {
     Body { lo: moved(body.lo), hi: moved(body.hi) }
 }
 
-/// Flies some steps of `way` each. It stops where a cast finds something, and tells what, and what it found where it stood.
+/// Flies some steps of `way` each. It stops when a cast finds something, and tells what, and what it found where it stood.
 fn shoot(world: &mut World, bullet: Handle, way: Point) -> Result<(Option<Handle>, usize), Error> {
     let mut stood_in = 0;
     for _ in 0..STEPS {

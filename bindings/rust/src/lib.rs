@@ -1,14 +1,14 @@
 //! Pungwelair's broad phase for Rust: which of many moving boxes meet, and which of them a question finds.
 //!
 //! It is proved that a world's answers are those of testing every live box, and every two of them, whatever structure keeps them.
-//! This crate is the edge to that library: every call is safe, takes any numbers, and answers or refuses. None panics.
+//! This crate is the edge to that library: every call is safe, takes any numbers, and answers or refuses. No call panics.
 //!
-//! Every call takes `&mut self`, those that only ask too: the library has a buffer of its own in each world for what a question
+//! Every call takes `&mut self`, those that only ask too. The library has a buffer of its own in each world for what a question
 //! finds, and its exports say that one call at a time has a world. So a `World` is `Send` and not `Sync`. Each thread may have
 //! worlds of its own, and a world that several threads are to ask stands behind a lock.
 //!
-//! An answer goes into a slice of the caller's, and its call takes no memory of this side; the call whose name begins with `all_` gives a
-//! `Vec` with the whole of it, and `NoMemory` where there is none.
+//! An answer goes into a slice of the caller's, and its call takes no memory of this side. The call whose name begins with `all_` gives a
+//! `Vec` with the whole of it, and `NoMemory` if there is no memory for it.
 //!
 //! ```no_run
 //! # fn main() -> Result<(), pungwelair::Error> {
@@ -30,8 +30,8 @@
 //!
 //! What this crate calls is `libpungwelair.a`. `bindings/build` of Pungwelair's repository makes it and puts it into `bindings/out`, where
 //! the crate finds it if it stands in that repository. Elsewhere the variable `PUNGWELAIR_LIB` names the folder that has it, by an
-//! absolute path, as the `lib` of where `bindings/install` puts it. Without it the crate is checked and documented all the same, and a
-//! linker asks in vain for `pungwelair_of_bindings_build_or_PUNGWELAIR_LIB`.
+//! absolute path, as the `lib` of the folder into which `bindings/install` puts it. Without it the crate is checked and documented all
+//! the same, and a linker asks in vain for `pungwelair_of_bindings_build_or_PUNGWELAIR_LIB`.
 
 #![deny(missing_docs)]
 

@@ -19,7 +19,7 @@ pub enum Error {
     Closed,
     /// A region whose lower corner is above the upper one, or lengths that don't agree.
     Argument,
-    /// A number is at its end, which no game comes to: each slot without a box was given 4,294,967,295 times, as many frames ended as 64
+    /// A number is at its end, which no game comes to. Each slot without a box was given 4,294,967,295 times, as many frames ended as 64
     /// bits count, or over sweep and prune 2^62 exchanges were counted since the last one.
     Exhausted,
     /// No mark is held to go back to.
@@ -101,11 +101,11 @@ pub enum Structure {
     Plain = 0,
     /// Sweep and prune: if you want exchanges counted. It is slow by far if boxes go far or are added often.
     Sap = 1,
-    /// A dynamic tree of enlarged boxes: where few boxes move, or much is asked.
+    /// A dynamic tree of enlarged boxes: if few boxes move, or much is asked.
     Tree = 2,
-    /// A hashed grid of levels: where most boxes move.
+    /// A hashed grid of levels: if most boxes move.
     Grid = 3,
-    /// Boxes in skins, a margin around each, over the tree, which hears only of those that leave it: where boxes move by little in each
+    /// Boxes in skins, a margin around each, over the tree, which hears only of those that leave it: if boxes move by little in each
     /// tick, as bodies at rest or near it do.
     Skin = 4,
 }
@@ -142,7 +142,7 @@ impl From<Point> for [i32; 3] {
     }
 }
 
-/// A closed box. Boxes that touch meet. One whose `lo` is above its `hi` on some axis is none, and is refused. Its order is that of its
+/// A closed box. Boxes that touch meet. One whose `lo` is above its `hi` on some axis is no box, and is refused. Its order is that of its
 /// numbers, as a [`Point`]'s.
 #[repr(C)]
 #[derive(Clone, Copy, Debug, Default, PartialEq, Eq, PartialOrd, Ord, Hash)]
@@ -154,7 +154,7 @@ pub struct Body {
 }
 
 impl Body {
-    /// Of two corners. It keeps any numbers: a box that is none is refused by the call that it comes to.
+    /// Of two corners. It keeps any numbers: a box that is inverted is refused by the call that it comes to.
     pub const fn new(lo: Point, hi: Point) -> Body {
         Body { lo, hi }
     }
@@ -174,7 +174,7 @@ impl From<([i32; 3], [i32; 3])> for Body {
     }
 }
 
-/// The groups that a box is in and those that it sees, a bit each. Two boxes pair where each sees a group that the other is in.
+/// The groups that a box is in and those that it sees, a bit each. Two boxes pair if each sees a group that the other is in.
 #[repr(C)]
 #[derive(Clone, Copy, Debug, PartialEq, Eq, PartialOrd, Ord, Hash)]
 pub struct Masks {
@@ -296,7 +296,7 @@ pub enum Event {
 pub struct Told {
     // A number, since an enum may not be read from memory that other code wrote.
     event: u32,
-    /// The pair. Where it is over a handle may be stale by now.
+    /// The pair. If it is over, a handle may be stale by now.
     pub pair: Pair,
 }
 
@@ -404,7 +404,7 @@ pub struct Near {
     pub at: Point,
 }
 
-/// What a world is. `exchanges` are those of the endpoint lists since the last frame, where it is sweep and prune, and else 0.
+/// What a world is. `exchanges` are those of the endpoint lists since the last frame if it is sweep and prune, and else 0.
 #[repr(C)]
 #[derive(Clone, Copy, Debug, Default, PartialEq, Eq, Hash)]
 pub struct Info {

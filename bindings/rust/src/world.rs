@@ -4,7 +4,7 @@ use crate::library::{self, Held};
 use crate::values::{told, Body, Cast, Error, Frame, Group, Handle, How, Info, Live, Masks, Near, Pair, Query, Ray, Stopped, Structure, Told};
 use crate::SLOTS;
 
-/// Moving boxes under handles. It is open for as long as it lives, and closed where it is dropped.
+/// Moving boxes under handles. It is open for as long as it lives, and closed when it is dropped.
 pub struct World {
     held: Held,
     // What the last update counted, which is how much room a list of its answers takes.
@@ -20,12 +20,12 @@ fn ended(status: u32, done: usize) -> Result<(), Stopped> {
     told(status).map_err(|error| Stopped { done, error })
 }
 
-// A count, where the call that told it was answered.
+// A count, if the call that told it was answered.
 fn counted(status: u32, count: usize) -> Result<usize, Error> {
     told(status).map(|()| count)
 }
 
-// All that a call copies, where so many are expected: one call if no more are there, and else again for those behind, since the pairs
+// All that a call copies, if so many are expected: one call if no more are there, and else again for those behind, since the pairs
 // after a way back are those of an earlier frame.
 fn listed<Item: Copy + Default>(
     expected: usize,
@@ -75,7 +75,7 @@ impl World {
     }
 
     /// Adds boxes in order, up to the first that is refused. The handles of those that came are the first of `out`. `Argument`, and
-    /// none is added, where `out` is shorter than `bodies`.
+    /// no box is added, if `out` is shorter than `bodies`.
     pub fn add_all(&mut self, bodies: &[Body], how: How, out: &mut [Handle]) -> Result<(), Stopped> {
         let mut done = 0;
         // SAFETY: the words are those that the last call left; each pointer leads to as many items as the length beside it says.
@@ -89,7 +89,7 @@ impl World {
         self.shift_all(&[handle], &[body]).map_err(|stopped| stopped.error)
     }
 
-    /// Moves boxes in order, each with its handle, up to the first that is refused. `Argument`, and none is moved, where the lengths
+    /// Moves boxes in order, each with its handle, up to the first that is refused. `Argument`, and no box is moved, if the lengths
     /// differ.
     pub fn shift_all(&mut self, handles: &[Handle], bodies: &[Body]) -> Result<(), Stopped> {
         let mut done = 0;
@@ -161,7 +161,7 @@ impl World {
         counted(status, copied)
     }
 
-    /// All pairs of the last frame, in a list of their own. `NoMemory` where there is none for it.
+    /// All pairs of the last frame, in a list of their own. `NoMemory` if there is no memory for it.
     pub fn all_pairs(&mut self) -> Result<Vec<Pair>, Error> {
         listed(self.counts.pairs, |from, out| self.pairs(from, out))
     }
@@ -175,7 +175,7 @@ impl World {
         counted(status, copied)
     }
 
-    /// All that the last update told, in a list of its own. `NoMemory` where there is none for it.
+    /// All that the last update told, in a list of its own. `NoMemory` if there is no memory for it.
     pub fn all_events(&mut self) -> Result<Vec<Told>, Error> {
         listed(self.counts.events, |from, out| self.events(from, out))
     }
@@ -189,7 +189,7 @@ impl World {
         counted(status, copied)
     }
 
-    /// All that the last update told of pairs that didn't stay, in a list of its own. `NoMemory` where there is none for it.
+    /// All that the last update told of pairs that didn't stay, in a list of its own. `NoMemory` if there is no memory for it.
     pub fn all_changes(&mut self) -> Result<Vec<Told>, Error> {
         listed(self.counts.changes, |from, out| self.changes(from, out))
     }
@@ -204,7 +204,7 @@ impl World {
     }
 
     /// All boxes of the groups of `mask` that meet a question, by slots, in a list of their own. Beside what `hits` refuses `NoMemory`
-    /// comes where there is none for the list.
+    /// comes if there is no memory for the list.
     pub fn all_hits(&mut self, query: Query, mask: u32) -> Result<Vec<Handle>, Error> {
         // SAFETY: the words are those that the last call left; the pointer leads to room for as many items as the length says.
         found(|out, count| unsafe { library::pw_hits(&mut self.held, &query.raw(mask), out, SLOTS, count) })
@@ -224,14 +224,14 @@ impl World {
         found(|out, count| unsafe { library::pw_ray_hits(&mut self.held, &ray, out, SLOTS, count) })
     }
 
-    /// The box that a ray meets first, and none if it meets none.
+    /// The box that a ray meets first, and `None` if it meets no box.
     pub fn first_hit(&mut self, ray: Ray) -> Result<Option<Handle>, Error> {
         let mut first = [Handle::NONE];
         Ok((self.ray_hits(ray, &mut first)? > 0).then_some(first[0]))
     }
 
     /// Tells how many boxes a moved box meets, and copies the first of their handles, in the order in which it meets them on its way.
-    /// `Inverted` where it is none.
+    /// `Inverted` if its corners are.
     pub fn cast_hits(&mut self, cast: Cast, out: &mut [Handle]) -> Result<usize, Error> {
         let mut count = 0;
         // SAFETY: the words are those that the last call left; the pointer leads to as many items as the length says.
@@ -239,7 +239,7 @@ impl World {
         counted(status, count)
     }
 
-    /// All boxes that a moved box meets, in the order in which it meets them, in a list of their own. `Inverted` where it is none.
+    /// All boxes that a moved box meets, in the order in which it meets them, in a list of their own. `Inverted` if its corners are.
     pub fn all_cast_hits(&mut self, cast: Cast) -> Result<Vec<Handle>, Error> {
         // SAFETY: the words are those that the last call left; the pointer leads to room for as many items as the length says.
         found(|out, count| unsafe { library::pw_cast_hits(&mut self.held, &cast, out, SLOTS, count) })
@@ -259,19 +259,19 @@ impl World {
         found(|out, count| unsafe { library::pw_nearest(&mut self.held, &near, out, SLOTS, count) })
     }
 
-    /// Marks the world as it stands, for rollback. `Full` where 64 marks are held.
+    /// Marks the world as it stands, for rollback. `Full` if 64 marks are held.
     pub fn mark(&mut self) -> Result<(), Error> {
         // SAFETY: the words are those that the last call left.
         told(unsafe { library::pw_mark(&mut self.held) })
     }
 
-    /// Gives up the oldest marks, so many of them: the world as it stands and the newer marks are as before. `NoMark` where fewer are held.
+    /// Gives up the oldest marks, so many of them: the world as it stands and the newer marks are as before. `NoMark` if fewer are held.
     pub fn forget(&mut self, count: u32) -> Result<(), Error> {
         // SAFETY: the words are those that the last call left; all else is passed by value.
         told(unsafe { library::pw_forget(&mut self.held, count) })
     }
 
-    /// Goes back to the newest mark, which is then gone. `NoMark` where none is held.
+    /// Goes back to the newest mark, which is then gone. `NoMark` if no mark is held.
     pub fn back(&mut self) -> Result<(), Error> {
         // SAFETY: the words are those that the last call left.
         told(unsafe { library::pw_back(&mut self.held) })
@@ -294,7 +294,7 @@ impl std::fmt::Debug for World {
 
 impl Drop for World {
     fn drop(&mut self) {
-        // SAFETY: the words are those that the last call left, or zero where opening was refused. No call comes later.
+        // SAFETY: the words are those that the last call left, or zero if opening was refused. No call comes later.
         unsafe { library::pw_close(&mut self.held) };
     }
 }

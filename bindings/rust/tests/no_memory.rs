@@ -1,4 +1,4 @@
-//! What the calls answer that give a list of their own where there is no memory for it.
+//! What the calls that give a list of their own answer if there is no memory for it.
 
 use pungwelair::{Body, Cast, Error, How, Near, Point, Query, Ray, Structure, World};
 use std::alloc::{GlobalAlloc, Layout, System};
