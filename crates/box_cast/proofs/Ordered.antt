@@ -52,3 +52,12 @@ pub moved_ordered : (c : Bounds) (v : Point) → is_at_most c.lo c.hi ≡ true �
 moved_ordered c v e =
     let h : Each c.lo c.hi = each c.lo c.hi e in
     both_true (both_true (moved_rise c.lo.x c.hi.x v.x h.x) (moved_rise c.lo.y c.hi.y v.y h.y)) (moved_rise c.lo.z c.hi.z v.z h.z)
+
+-- A wider box makes the box of displacements wider.
+apart_rises : (z y k : ℤ) → int_le z y ≡ true → int_le (z -ℤ k) (y -ℤ k) ≡ true
+apart_rises z y k e = let h : z ≤ℤ y = le_of_test z y e in test_of_le (z -ℤ k) (y -ℤ k) (omega (arith, ints))
+
+pub apart_wider : (p r c : Point) → is_at_most p r ≡ true → wide.is_at_most (apart p c) (apart r c) ≡ true
+apart_wider p r c e =
+    let h : Each p r = each p r e in
+    both_true (both_true (apart_rises p.x r.x c.x h.x) (apart_rises p.y r.y c.y h.y)) (apart_rises p.z r.z c.z h.z)

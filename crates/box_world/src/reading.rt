@@ -172,8 +172,8 @@ impl<B: BroadPhase + Drop> BoxWorld<B> {
             return Err(NoMemory);
         }
         self.parts.slots.clear();
-        let hull = Query::Region(cast.hull());
-        self.parts.index.hits(&hull, &mut self.parts.slots)?;
+        let swept = Query::Swept(*cast);
+        self.parts.index.hits(&swept, &mut self.parts.slots)?;
         push_cast(
             self.parts.alloc,
             &self.parts.table,

@@ -5,17 +5,20 @@ use Rattle.std.specs.FinMap.{FinMap, entries}
 use Rattle.fixed_box.specs.Bounds.{Bounds, meets, holds}
 use Rattle.ray_slabs.specs.Crossing.{in_ray, in_seg}
 use Rattle.ray_slabs.specs.WideBounds.{widened_box}
+use Rattle.box_cast.specs.Cast.{in_cast}
 use Rattle.broad_index.specs.declared.query.Query.{Query}
-use Rattle.broad_index.specs.declared.query.Query.TheVariants.{Region, Spot, Along, Between}
+use Rattle.broad_index.specs.declared.query.Query.TheVariants.{Region, Spot, Along, Between, Swept}
 use Rattle.broad_index.specs.declared.query.QKind.{QKind}
 use Rattle.broad_index.specs.declared.query.QKind.TheVariants as kind
 
--- A region meets boxes that overlap it, a spot those that hold it, a ray and a segment those that some point of theirs is in.
+-- A region meets boxes that overlap it, a spot those that hold it, a ray and a segment those that some point of theirs is in, a cast those that its box
+-- meets somewhere on its way.
 abbrev pub query_meets : Query → Bounds → Bool
 query_meets (Region region) body = meets region body
 query_meets (Spot at) body = holds body at
 query_meets (Along ray) body = in_ray ray.from ray.dir (widened_box body)
 query_meets (Between seg) body = in_seg seg.a seg.b (widened_box body)
+query_meets (Swept cast) body = in_cast cast.body cast.by body
 
 -- the variant of the same name
 abbrev pub kind_of : Query → QKind
@@ -23,6 +26,7 @@ kind_of (Region region) = kind.Region
 kind_of (Spot at) = kind.Spot
 kind_of (Along ray) = kind.Along
 kind_of (Between seg) = kind.Between
+kind_of (Swept cast) = kind.Swept
 
 -- the slots of entries whose boxes meet a query, in their order
 abbrev pub found_of : List (ℕ × Bounds) → Query → List ℕ

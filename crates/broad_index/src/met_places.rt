@@ -25,7 +25,7 @@ pub(crate) fn push_met_places(
     match query {
         Query::Region(region) => boxes.scan(region, out),
         Query::Spot(at) => boxes.scan_point(at, out),
-        Query::Along(_) | Query::Between(_) => push_tested(boxes, query, out),
+        Query::Along(_) | Query::Between(_) | Query::Swept(_) => push_tested(boxes, query, out),
     }
 }
 

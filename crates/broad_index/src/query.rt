@@ -1,4 +1,4 @@
-//! What may be asked about boxes: a region, a point, a ray or a segment, and whether one box meets it.
+//! What may be asked about boxes: a region, a point, a ray, a segment or a cast, and whether one box meets it.
 
 ghost use Rattle.std.specs.Prelude.{◌≡◌, true, IsTrue};
 ghost use Rattle.fixed_box.specs.Bounds.{Bounds, meets};
@@ -6,6 +6,7 @@ ghost use Rattle.broad_index.specs.Found.{query_meets, kind_of};
 ghost use Rattle.fixed_box.specs.Space.{space};
 
 use crate::regions::{flat_box, ray_box, seg_box};
+use box_cast::{Cast, cast_meets};
 use fixed_box::{FBox, Point};
 use ray_slabs::{Ray, Seg, WBox, ray_meets, seg_meets};
 
@@ -20,6 +21,8 @@ pub enum Query {
     Along(Ray),
     /// Which boxes the segment meets.
     Between(Seg),
+    /// Which boxes a moved box meets on its way.
+    Swept(Cast),
 }
 
 /// The kind of a query.
@@ -29,6 +32,7 @@ pub enum QKind {
     Spot,
     Along,
     Between,
+    Swept,
 }
 
 impl Query {
@@ -41,6 +45,7 @@ impl Query {
             Query::Spot(_) => QKind::Spot,
             Query::Along(_) => QKind::Along,
             Query::Between(_) => QKind::Between,
+            Query::Swept(_) => QKind::Swept,
         }
     }
 
@@ -53,12 +58,13 @@ impl Query {
             Query::Spot(at) => body.holds_point(at),
             Query::Along(ray) => ray_meets(ray, &WBox::of(body)),
             Query::Between(seg) => seg_meets(seg, &WBox::of(body)),
+            Query::Swept(cast) => cast_meets(cast, body),
         }
     }
 
     /// A box that all boxes meet which meet the query, so that a search looks there and tests what it finds: the query's
     /// own, the flat one at a spot, the one from a ray's start to the end of space on each axis in the direction's sign,
-    /// or the one around a segment's ends.
+    /// the one around a segment's ends, or the hull of a cast.
     pub fn region(&self) -> FBox
         ensures { (b : Bounds) → IsTrue (meets space b) → query_meets self.now b ≡ true → meets result b ≡ true }
     {
@@ -67,6 +73,7 @@ impl Query {
             Query::Spot(at) => flat_box(at),
             Query::Along(ray) => ray_box(ray),
             Query::Between(seg) => seg_box(seg),
+            Query::Swept(cast) => cast.hull(),
         }
     }
 }

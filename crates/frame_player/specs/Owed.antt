@@ -2,10 +2,8 @@
 use Rattle.std.specs.Prelude.{◌≡◌, ℕ, ◌<◌, List, length, map, flat_map}
 use Rattle.live_table.specs.declared.live.Live.{Live}
 use Rattle.broad_index.specs.declared.query.Query.{Query}
-use Rattle.broad_index.specs.declared.query.Query.TheVariants.{Region, Along}
+use Rattle.broad_index.specs.declared.query.Query.TheVariants.{Region, Spot, Along, Between, Swept}
 use Rattle.broad_index.specs.declared.query.QKind.TheVariants as kind
-use Rattle.broad_index.specs.Found.{kind_of}
-use Rattle.box_cast.specs.Hull.{cast_hull}
 use Rattle.pair_report.specs.PairReport.{hits_line, cast_line}
 use Rattle.live_queries.specs.Pairs.{hits_of}
 use Rattle.live_queries.specs.Queries.{entered_of, cast_of}
@@ -18,13 +16,19 @@ use Rattle.frame_player.specs.declared.query_run.TheConstants.{LONGEST_RUN}
 abbrev pub query_for : Asked → Query
 query_for (asked.Hits query mask) = query
 query_for (asked.Entered ray mask) = Along ray
-query_for (asked.Met cast mask) = Region (cast_hull cast.body cast.by)
+
+-- the line of the boxes that meet a query
+abbrev pub met_line : List Live → ℕ → Query → List ℕ
+met_line entries mask (Region body) = hits_line kind.Region (hits_of entries (Region body) mask)
+met_line entries mask (Spot at) = hits_line kind.Spot (hits_of entries (Spot at) mask)
+met_line entries mask (Along ray) = hits_line kind.Along (hits_of entries (Along ray) mask)
+met_line entries mask (Between seg) = hits_line kind.Between (hits_of entries (Between seg) mask)
+met_line entries mask (Swept cast) = cast_line (cast_of entries cast mask)
 
 -- the line of an answer
 abbrev pub answer_line : List Live → Asked → List ℕ
-answer_line entries (asked.Hits query mask) = hits_line (kind_of query) (hits_of entries query mask)
+answer_line entries (asked.Hits query mask) = met_line entries mask query
 answer_line entries (asked.Entered ray mask) = hits_line kind.Along (entered_of entries ray mask)
-answer_line entries (asked.Met cast mask) = cast_line (cast_of entries cast mask)
 
 -- a line for each, in their order
 abbrev pub answers : List Live → List Asked → List ℕ

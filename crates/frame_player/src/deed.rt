@@ -74,7 +74,7 @@ impl Deed {
                 mask,
                 entry: true,
             } => Deed::Ask(Asked::Entered { ray, mask }),
-            Command::Cast { cast, mask } => Deed::Ask(Asked::Met { cast, mask }),
+            Command::Cast { cast, mask } => hits(Query::Swept(cast), mask),
             Command::Near { at, want, mask } => Deed::Nearest(NearQuery { at, want, mask }),
 
             Command::Header { version } => Deed::Change(Change::Header { version }),
@@ -88,7 +88,7 @@ impl Deed {
     }
 }
 
-// The boxes that meet a query, by their slots.
+// The boxes that meet a query.
 #[inline(always)]
 fn hits(query: Query, mask: u32) -> Deed
     ensures { command_of result ≡ asking (Asked.Hits query mask) }

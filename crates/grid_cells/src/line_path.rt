@@ -40,11 +40,15 @@ struct Way {
 }
 
 impl LinePath {
-    /// The path of a line in a region.
+    /// The path of a line in a region, which of a cast is that of its lower corner.
     pub fn of(line: &Query, region: &FBox) -> LinePath {
         match line {
             Query::Along(ray) => LinePath::new(&ray.from, &way_of(&ray.dir), region),
             Query::Between(seg) => LinePath::new(&seg.a, &way_between(&seg.a, &seg.b), region),
+            Query::Swept(cast) => {
+                let corner = WPoint::of(&cast.body.lo());
+                LinePath::new(&corner, &way_of(&WPoint::of(&cast.by)), region)
+            }
             Query::Region(body) => LinePath::resting(body),
             Query::Spot(_) => LinePath::resting(region),
         }

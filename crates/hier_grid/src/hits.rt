@@ -3,17 +3,19 @@
 ghost use Rattle.std.specs.Prelude.{◌≡◌, ◌≤◌, ◌++◌, Some, OnOk, OnErr, drop, take, vec_len};
 ghost use Rattle.std.specs.FinMap as map;
 ghost use Rattle.broad_index.specs.Found.{found};
+ghost use Rattle.broad_index.specs.declared.query.Query.TheVariants.{Swept};
 ghost use Rattle.broad_index.specs.Members.{is_found};
 ghost use Rattle.broad_index.specs.Reach.{reach};
 ghost use Rattle.grid_boxes.specs.Candidates.{HasHitsBelow, HasMetIn, IsRegionOf};
 
 use crate::partners::is_partner;
+use box_cast::Cast;
 use broad_index::{Query, settle_slots_from};
 use cell_table::LEVELS;
 use fixed_box::{FBox, NoMemory};
 use grid_boxes::{GridBoxes, SlotBox};
 use grid_cells::LinePath;
-use prepared_query::{BoxTest, LineTest};
+use prepared_query::{BoxTest, CastTest, LineTest};
 use slot_lists::{SlotBoxes, keep_passing};
 
 /// Appends the present slots whose boxes meet a query, rising. After an `Err` `out` is as before.
@@ -26,6 +28,7 @@ pub(crate) fn push_hits(kept: &GridBoxes, query: &Query, out: &mut Vec<u32>) -> 
     match query {
         Query::Region(body) => push_region_hits(kept, body, body, out),
         Query::Spot(_) => push_region_hits(kept, &region, query, out),
+        Query::Swept(cast) => push_cast_hits(kept, &region, cast, out),
         Query::Along(_) | Query::Between(_) => push_line_hits(kept, &region, query, out),
     }
 }
@@ -66,6 +69,21 @@ fn push_line_hits(
         Some(prepared) => push_path_hits(kept, region, &path, &prepared, out),
         None => push_path_hits(kept, region, &path, line, out),
     }
+}
+
+// The same for a cast, which is prepared.
+fn push_cast_hits(
+    kept: &GridBoxes,
+    region: &FBox,
+    cast: &Cast,
+    out: &mut Vec<u32>,
+) -> Result<(), NoMemory>
+    requires { IsRegionOf kept.now (Swept cast.now) region.now }
+    ensures ok { OnOk result (out.new.items ≡ out.old.items ++ found kept.now (Swept cast.now)) }
+    ensures err { OnErr result (out.new.items ≡ out.old.items) }
+{
+    let path = LinePath::of(&Query::Swept(*cast), region);
+    push_path_hits(kept, region, &path, &CastTest::of(cast), out)
 }
 
 // The same for a line as it is asked, which is followed by the cells that it crosses.

@@ -1,8 +1,7 @@
--- The slots that an index has found for a ray, or for the hull of a cast, are among those of live boxes, and all that are met are.
+-- The slots that an index has found for a ray, or for a cast, are those of live boxes, and all that are met are among them.
 use Rattle.std.proofs.Common.{◌≡◌, ℕ, Bool, true, false, cond, List, [], ◌∷◌, map, filter, Some, None, refl, sym, ap, ◌∙◌}
 use Rattle.std.specs.Prelude.{is_some, IsTrue, slice_index_or}
 use Rattle.fixed_box.specs.Bounds.{Bounds, meets}
-use Rattle.fixed_box.specs.Space.{space}
 use Rattle.fixed_box.specs.declared.point.Point.{Point}
 use Rattle.ray_slabs.specs.declared.ray.Ray.{Ray}
 use Rattle.ray_slabs.specs.Crossing.{Fraction, in_ray}
@@ -10,13 +9,12 @@ use Rattle.ray_slabs.specs.First.{first}
 use Rattle.ray_slabs.specs.WideBounds.{widened_box}
 use Rattle.box_cast.specs.declared.cast.Cast.{Cast}
 use Rattle.box_cast.specs.Cast.{in_cast, first_contact}
-use Rattle.box_cast.specs.Hull.{cast_hull}
 use Rattle.live_table.specs.declared.live.Live.{Live}
 use Rattle.live_table.specs.Bodies.{bodies_of, slots_with_bodies}
 use Rattle.live_table.specs.Entries.{slot_of}
 use Rattle.live_table.specs.Table.{Table, IsTable}
 use Rattle.broad_index.specs.declared.query.Query.{Query}
-use Rattle.broad_index.specs.declared.query.Query.TheVariants.{Along, Region}
+use Rattle.broad_index.specs.declared.query.Query.TheVariants.{Along, Swept}
 use Rattle.broad_index.specs.Found.{found, found_of, query_meets}
 use Rattle.live_queries.specs.Queries.{entry_of, contact_of}
 use Rattle.live_queries.specs.Beside.{ListsMet}
@@ -51,15 +49,14 @@ entered_listed t ray slots is e = record {
     met : (e : Live) → is_some (entry_of ray e.body) ≡ true → query_meets (Along ray) e.body ≡ true
     met e h = some (in_ray ray.from ray.dir (widened_box e.body)) (first ray.from ray.dir (widened_box e.body)) h
 
--- What a cast meets meets its hull, as its own law says of boxes in space.
+-- What a cast meets is found for it.
 pub cast_listed : (t : Table) (cast : Cast) (slots : List ℕ) → IsTable t
     → ((c : Bounds) (v : Point) (b : Bounds) → is_some (first_contact c v b) ≡ in_cast c v b)
-    → ((c : Bounds) (v : Point) (b : Bounds) → IsTrue (meets space b) → IsTrue (in_cast c v b) → IsTrue (meets (cast_hull c v) b))
-    → slots ≡ found (bodies_of t.entries) (Region (cast_hull cast.body cast.by)) → ListsMet (contact_of cast) t.entries slots
-cast_listed t cast slots is some hull e = record {
-  passes = λ e. query_meets (Region (cast_hull cast.body cast.by)) e.body;
-  listed = slots_found t (Region (cast_hull cast.body cast.by)) slots is e;
+    → slots ≡ found (bodies_of t.entries) (Swept cast) → ListsMet (contact_of cast) t.entries slots
+cast_listed t cast slots is some e = record {
+  passes = λ e. query_meets (Swept cast) e.body;
+  listed = slots_found t (Swept cast) slots is e;
   met = λ k d l h.
       let body : Bounds = (slice_index_or t.entries k d).body in
-      hull cast.body cast.by body (is.in_space k d l) (sym (some cast.body cast.by body) ∙ h);
+      sym (some cast.body cast.by body) ∙ h;
 }

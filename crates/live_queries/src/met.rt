@@ -4,9 +4,8 @@ ghost use Rattle.std.specs.Prelude.{◌≡◌, ◌++◌, IfOk, OnOk, OnErr};
 ghost use Rattle.std.specs.List.{filter_map};
 ghost use Rattle.live_table.specs.Bodies.{bodies_of};
 ghost use Rattle.live_table.specs.Table.{IsTable};
-ghost use Rattle.broad_index.specs.declared.query.Query.TheVariants.{Along, Region};
+ghost use Rattle.broad_index.specs.declared.query.Query.TheVariants.{Along, Swept};
 ghost use Rattle.broad_index.specs.Found.{found};
-ghost use Rattle.box_cast.specs.Hull.{cast_hull};
 ghost use Rattle.live_queries.specs.Beside.{AreBeside, IsBeside, IsHit, ListsMet, met_at};
 ghost use Rattle.live_queries.specs.Queries.{entered_of, cast_of, handles, met_in_order};
 
@@ -44,9 +43,9 @@ pub fn push_entered(
 
 /// Appends the handles of the live boxes that a box which is cast meets on its way, of the groups that `mask` has, in the
 /// order in which it first meets them; those that it meets at one place come by their slots. The slots are those that an
-/// index of the live boxes has found for the cast's hull. After an `Err` `out` is as before.
+/// index of the live boxes has found for the cast. After an `Err` `out` is as before.
 ///
-/// Each box of the hull that is asked for is tested exactly, once. It takes memory for a place and a handle for each box
+/// Where each of these boxes that is asked for is met is computed once. It takes memory for a place and a handle for each box
 /// that is met, and sorts them.
 pub fn push_cast(
     alloc: Global,
@@ -57,7 +56,7 @@ pub fn push_cast(
     out: &mut Vec<Handle>,
 ) -> Result<(), NoMemory>
     requires table { IsTable table.now }
-    requires found { slots.now ≡ found (bodies_of table.now.entries) (Region (cast_hull cast.now.body cast.now.by)) }
+    requires found { slots.now ≡ found (bodies_of table.now.entries) (Swept cast.now) }
     ensures ok { OnOk result (out.new.items ≡ out.old.items ++ cast_of table.now.entries cast.now mask) }
     ensures err { OnErr result (out.new.items ≡ out.old.items) }
 {

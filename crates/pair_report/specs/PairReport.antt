@@ -2,7 +2,7 @@
 use Rattle.std.specs.Prelude.{ℕ, List, ◌++◌, length, codes, decimal, flat_map}
 use Rattle.live_table.specs.declared.handle.Handle.{Handle}
 use Rattle.broad_index.specs.declared.query.QKind.{QKind}
-use Rattle.broad_index.specs.declared.query.QKind.TheVariants.{Region, Spot, Along, Between}
+use Rattle.broad_index.specs.declared.query.QKind.TheVariants.{Region, Spot, Along, Between, Swept}
 use Rattle.pair_events.specs.declared.told.Event.{Event}
 use Rattle.pair_events.specs.declared.told.Event.TheVariants.{Begin, Stay, Over}
 use Rattle.pair_events.specs.declared.told.Told.{Told}
@@ -45,6 +45,7 @@ kind_text Region = codes "box "
 kind_text Spot = codes "point "
 kind_text Along = codes "ray "
 kind_text Between = codes "seg "
+kind_text Swept = codes "cast "
 
 -- handles, each after a space
 abbrev pub handles_text : List Handle → List ℕ

@@ -107,5 +107,6 @@ fn kind_text(kind: QKind) -> &'static [u8]
         QKind::Spot => b"point ",
         QKind::Along => b"ray ",
         QKind::Between => b"seg ",
+        QKind::Swept => b"cast ",
     }
 }

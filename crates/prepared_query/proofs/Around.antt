@@ -41,7 +41,7 @@ moves : (n : ℕ) → int_lt (pos 0) (pos (suc n)) ≡ true
 moves n = test_of_lt (pos 0) (pos (suc n)) (omega (arith, ints))
 
 -- up to a segment's end
-to_end : (from dir lo : ℤ) → negsuc 2147483647 ≤ℤ (from +ℤ dir) → lo ≤ℤ pos 2147483647
+pub to_end : (from dir lo : ℤ) → negsuc 2147483647 ≤ℤ (from +ℤ dir) → lo ≤ℤ pos 2147483647
     → int_le lo (saturate_signed w32 (from +ℤ dir)) ≡ int_le (lo -ℤ from) dir
 to_end from dir lo low high =
     let end : ℤ = saturate_signed w32 (from +ℤ dir) in
@@ -49,7 +49,7 @@ to_end from dir lo low high =
     (λ h. test_of_le (lo -ℤ from) dir (omega (arith, ints, le_of_test lo end h, stopped_low (from +ℤ dir) (from +ℤ dir) (omega (arith, ints)) low)))
     (λ h. test_of_le lo end (stopped_high (from +ℤ dir) lo (omega (arith, ints, le_of_test (lo -ℤ from) dir h)) high))
 
-down_to_end : (from dir hi : ℤ) → (from +ℤ dir) ≤ℤ pos 2147483647 → negsuc 2147483647 ≤ℤ hi
+pub down_to_end : (from dir hi : ℤ) → (from +ℤ dir) ≤ℤ pos 2147483647 → negsuc 2147483647 ≤ℤ hi
     → int_le (saturate_signed w32 (from +ℤ dir)) hi ≡ int_le (from -ℤ hi) (neg_ℤ dir)
 down_to_end from dir hi high low =
     let end : ℤ = saturate_signed w32 (from +ℤ dir) in

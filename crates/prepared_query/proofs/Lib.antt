@@ -1,4 +1,5 @@
 mod Around
+mod Casts
 mod Lines
 mod Passes
 mod QueryMeets

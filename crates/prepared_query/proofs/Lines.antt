@@ -56,7 +56,7 @@ line_answer laws true f d body h =
 line_answer laws false f d body h = laws.rays f d (widened_box body) h
 
 -- six tests by corners, and by axes
-by_axes : (a b c d e f : Bool) → (((a && b) && c) && ((d && e) && f)) ≡ (((a && d) && (b && e)) && (c && f))
+pub by_axes : (a b c d e f : Bool) → (((a && b) && c) && ((d && e) && f)) ≡ (((a && d) && (b && e)) && (c && f))
 by_axes true true true d e f = refl
 by_axes false b c d e f = refl
 by_axes true false c true e f = refl

@@ -1,3 +1,4 @@
 pub mod NarrowLine
 pub mod Prepared
+pub mod PreparedCast
 pub mod Slope

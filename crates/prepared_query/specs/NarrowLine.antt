@@ -2,7 +2,7 @@
 use Rattle.std.specs.Prelude.{ℤ, pos, neg_ℤ, ◌^◌, Bool, false, ◌&&◌, int_le, int_lt}
 use Rattle.ray_slabs.specs.Vector.{Vector, displacement}
 use Rattle.broad_index.specs.declared.query.Query.{Query}
-use Rattle.broad_index.specs.declared.query.Query.TheVariants.{Region, Spot, Along, Between}
+use Rattle.broad_index.specs.declared.query.Query.TheVariants.{Region, Spot, Along, Between, Swept}
 
 -- from -2^31 to 2^31 - 1
 abbrev pub fits_i32 : ℤ → Bool
@@ -18,3 +18,4 @@ is_narrow (Region region) = false
 is_narrow (Spot at) = false
 is_narrow (Along ray) = is_narrow_vector ray.from && is_narrow_vector ray.dir
 is_narrow (Between seg) = is_narrow_vector seg.a && is_narrow_vector (displacement seg.a seg.b)
+is_narrow (Swept cast) = false

@@ -18,6 +18,10 @@ pub record Side : Type 0 where
 abbrev pub side : ℤ → ℤ → ℤ → Side
 side from lo hi = record { lo = lo -ℤ from; hi = hi -ℤ from }
 
+-- a side grown by the one from near to far of a moved box, from near on
+abbrev pub grown : ℤ → ℤ → ℤ → ℤ → Side
+grown near far lo hi = record { lo = lo -ℤ far; hi = hi -ℤ near }
+
 -- The endless line passes through the rectangle of two sides, whose border belongs to it. Where it rises from the left to the right, the upper left
 -- corner is not below it, and the lower right one not above. Where it falls, the lower left one is not above it, and the upper right one not below.
 abbrev pub passes : Course → Side → Side → Bool

@@ -5,6 +5,7 @@ ghost use Rattle.fixed_box.specs.Bounds.{Bounds, encloses};
 ghost use Rattle.broad_index.specs.declared.query.Query.{Query};
 ghost use Rattle.broad_index.specs.Found.{query_meets};
 
+use box_cast::cast_law;
 use fixed_box::box_laws;
 use ray_slabs::{ray_law, seg_law};
 
@@ -17,6 +18,7 @@ pub fn enclosing_law()
         query_meets query outer ≡ false → query_meets query inner ≡ false }
 {
     box_laws();
+    cast_law();
     ray_law();
     seg_law();
 }

@@ -2,6 +2,7 @@
 #![tactic(auto)]
 
 mod box_test;
+mod cast_test;
 mod law;
 mod line_hull;
 mod line_test;
@@ -9,5 +10,6 @@ mod slope;
 mod slopes;
 
 pub use box_test::BoxTest;
+pub use cast_test::CastTest;
 pub use law::enclosing_law;
 pub use line_test::LineTest;

@@ -51,7 +51,7 @@ impl LineTest {
         ensures none { (result ≡ None) ↔ (is_narrow query.now ≡ false) }
     {
         match query {
-            Query::Region(_) | Query::Spot(_) => None,
+            Query::Region(_) | Query::Spot(_) | Query::Swept(_) => None,
             Query::Along(ray) => {
                 let from = narrowed(&ray.from)?;
                 let dir = narrowed(&ray.dir)?;
@@ -92,7 +92,7 @@ impl BoxTest for LineTest {
 }
 
 // A law for proofs, with nothing to run: a box has its corners in order and in space.
-fn corner_law(body: &FBox)
+pub(crate) fn corner_law(body: &FBox)
     ensures ordered { IsTrue (is_at_most body.now.lo body.now.hi) }
     ensures in_space { IsTrue (meets space body.now) }
 {

@@ -1,7 +1,7 @@
 //! An endless line seen along one axis, and whether it passes through a rectangle.
 
 ghost use Rattle.std.specs.Prelude.{◌≡◌, ◌-ℤ◌, ◌*ℤ◌, int_le};
-ghost use Rattle.prepared_query.specs.Slope.{course, side, passes, IsWay, IsGap};
+ghost use Rattle.prepared_query.specs.Slope.{course, grown, side, passes, IsWay, IsGap};
 
 use fixed_box::Fix;
 use std::marker::Model;
@@ -81,6 +81,17 @@ impl Side {
         Side {
             lo: difference(lo, from),
             hi: difference(hi, from),
+        }
+    }
+
+    // A side from `lo` to `hi`, grown by the one from `near` to `far` of a moved box, from `near` on.
+    #[inline]
+    pub(crate) fn grown(near: Fix, far: Fix, lo: Fix, hi: Fix) -> Side
+        ensures { result ≡ grown near far lo hi }
+    {
+        Side {
+            lo: difference(lo, far),
+            hi: difference(hi, near),
         }
     }
 }

@@ -41,7 +41,7 @@ impl Slopes {
 
     // The same by the three sides of the box.
     #[inline]
-    fn pass_sides(&self, x: &Side, y: &Side, z: &Side) -> bool
+    pub(crate) fn pass_sides(&self, x: &Side, y: &Side, z: &Side) -> bool
         ensures { result ≡ pass_sides self.now x.now y.now z.now }
     {
         self.xy.passes(x, y) && self.xz.passes(x, z) && self.yz.passes(y, z)

@@ -10,10 +10,10 @@ use crate::BoxedTree;
 use crate::descent::descend;
 use broad_index::Query;
 use fixed_box::{FBox, NoMemory, Point, box_laws};
-use prepared_query::LineTest;
+use prepared_query::{CastTest, LineTest};
 
 /// Appends the slots whose boxes meet a query, in the order of the leaves, and answers how many nodes it looked at. What kind it
-/// is is told here, once for all nodes: a region and a spot are asked as boxes, and a line whose numbers fit 32 bits is prepared.
+/// is is told here, once for all nodes: a region and a spot are asked as boxes, and a cast, and a line whose numbers fit 32 bits, are prepared.
 /// After an `Err` there may be some of them.
 pub fn push_hits(boxes: &BoxedTree, query: &Query, out: &mut Vec<u32>) -> Result<u32, NoMemory>
     ensures ok { OnOk result (out.new.items ≡ out.old.items ++ found_of (exact_in boxes.now.bodies boxes.now.tree) query.now) }
@@ -23,6 +23,7 @@ pub fn push_hits(boxes: &BoxedTree, query: &Query, out: &mut Vec<u32>) -> Result
         Query::Region(region) => descend(boxes, region, out),
         Query::Spot(at) => descend(boxes, &flat_box(at), out),
         Query::Along(_) | Query::Between(_) => descend_along(boxes, query, out),
+        Query::Swept(cast) => descend(boxes, &CastTest::of(cast), out),
     }
 }
 

@@ -119,7 +119,7 @@ fn ask(
                 body: body_of(body)?,
                 by: Point { x: *by, y: 0, z: 0 },
             };
-            index.hits(&Query::Region(cast.hull()), &mut slots)?;
+            index.hits(&Query::Swept(cast), &mut slots)?;
             push_cast(alloc, table, &cast, mask, &slots, out)?;
         }
         Asked::Nearest { at, want } => {

@@ -1,4 +1,5 @@
 -- They are lemmas on what rays and segments tell.
+use Rattle.box_cast.proofs.Ordered.{apart_ordered}
 use Rattle.box_cast.proofs.Contact.{same_value, none_law}
 use Rattle.box_cast.proofs.Slid.{RayTold, as_seg, met_law}
 use Rattle.box_cast.proofs.law.slide_law.Goals as goal
@@ -17,3 +18,6 @@ returns-clause-first c = same_value (told c)
 
 pub returns-clause-none : goal.returns-clause-none
 returns-clause-none c = none_law
+
+pub returns-clause-ordered : goal.returns-clause-ordered
+returns-clause-ordered c = apart_ordered

@@ -9,6 +9,7 @@ returns-clause-enclosed c = enclosed (record {
   met = c.box_laws.ensures.met;
   held = c.box_laws.ensures.held;
   on_ray = c.ray_law.ensures.enclosed;
+  on_cast = c.cast_law.ensures.enclosed;
   on_seg = c.seg_law.ensures.enclosed;
 })
 
@@ -18,5 +19,6 @@ returns-clause-missed c query outer inner e out = missed (query_meets query oute
   met = c.box_laws.ensures.met;
   held = c.box_laws.ensures.held;
   on_ray = c.ray_law.ensures.enclosed;
+  on_cast = c.cast_law.ensures.enclosed;
   on_seg = c.seg_law.ensures.enclosed;
 }) query outer inner e) out
