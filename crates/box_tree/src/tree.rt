@@ -22,7 +22,7 @@ use crate::touched::{push_shared, search_run, search_touched};
 use crate::tree_boxes::TreeBoxes;
 use crate::tree_listing::TreeListing;
 use broad_index::{
-    BroadPhase, FEWEST_SOUGHT, Pair, PairSeeker, Query, Seeker, holding_laws, join_pieces,
+    BroadPhase, FEWEST_SOUGHT, Pair, PairSeeker, Query, Seeker, Visitor, holding_laws, join_pieces,
     keeping_laws, pays_threads, push_rising_slots, settle_pairs,
 };
 use fixed_box::{FBox, NoMemory};
@@ -249,6 +249,15 @@ impl BroadPhase for BoxTree {
     fn hits(&self, query: &Query, out: &mut Vec<u32>) -> Result<(), NoMemory> {
         self.hits_told(query, out)?;
         Ok(())
+    }
+
+    // It takes no memory.
+    fn visit<V: Visitor>(&self, _alloc: Global, visitor: &mut V) -> Result<(), NoMemory> {
+        self.boxes.show(visitor)
+    }
+
+    fn descends(&self) -> bool {
+        true
     }
 
     fn box_of(&self, slot: u32) -> Option<FBox> {

@@ -1,6 +1,6 @@
 //! Exact boxes under slots, each inside the fat box of its leaf.
 
-ghost use Rattle.std.specs.Prelude.{◌≡◌, ◌↔◌, ℕ, ◌<◌, true, false, None, Some, IfOk, IfSome, IsTrue, map as mapped, slice_index_or};
+ghost use Rattle.std.specs.Prelude.{◌≡◌, OnOk, List, ◌++◌, ◌↔◌, ℕ, ◌<◌, true, false, None, Some, IfOk, IfSome, IsTrue, map as mapped, slice_index_or};
 ghost use Rattle.std.specs.FinMap as map;
 ghost use Rattle.fixed_box.specs.Bounds.{Bounds, encloses, fattened};
 ghost use Rattle.fixed_box.specs.declared.TheConstants.{SLOTS};
@@ -14,12 +14,13 @@ ghost use Rattle.box_tree.specs.Ties.{HaveLeaves};
 
 use crate::leaves::Leaves;
 use crate::{MARGIN, Moved};
+use broad_index::{Visitor, holding_laws};
 use fixed_box::{FBox, NoMemory};
 use slot_lists::no_boxes;
 use std::alloc::Global;
 use std::marker::Model;
 use tree_nodes::Nodes;
-use tree_search::BoxedTree;
+use tree_search::{BoxedTree, show_boxes};
 
 /// The boxes under their slots, each inside the fat box of its leaf. Only `new` takes memory.
 #[derive(Drop)]
@@ -82,6 +83,17 @@ impl TreeBoxes {
     {
         self.kept_law();
         BoxedTree::new(self.leaves.nodes(), &self.bodies)
+    }
+
+    /// Shows the boxes to a visitor, except those in hulls that it doesn't admit.
+    pub(crate) fn show<V: Visitor>(&self, visitor: &mut V) -> Result<(), NoMemory>
+        ensures seen { OnOk result ((seen : List (ℕ × Bounds)) → V.saw visitor.old seen
+            → V.saw visitor.new (seen ++ map.entries (map_of self.now.bodies))) }
+        ensures kept { OnOk result (V.keeps visitor.old visitor.new) }
+    {
+        holding_laws();
+        self.kept_law();
+        show_boxes(&self.boxed_tree(), visitor)
     }
 
     /// How many slots are present. It looks at none of them.

@@ -1,6 +1,7 @@
 pub mod AmongEntries
 pub mod Answering
 pub mod Costs
+pub mod Counted
 pub mod Distinct
 pub mod ExchangeCounts
 pub mod Holding
@@ -14,5 +15,6 @@ pub mod RegionLemmas
 pub mod Renewing
 pub mod Seeking
 pub mod Settled
+pub mod Shown
 pub mod SortedEntries
 pub mod Touching

@@ -4,6 +4,7 @@ pub mod Found
 pub mod Fresh
 pub mod Held
 pub mod Index
+pub mod MapEntries
 pub mod Members
 pub mod Near
 pub mod NearRises
@@ -12,4 +13,5 @@ pub mod PairOrder
 pub mod Reach
 pub mod Regions
 pub mod Searched
+pub mod Showing
 pub mod Touched

@@ -14,7 +14,7 @@ ghost use Rattle.work_pieces.specs.Runs.{InRuns};
 ghost use Rattle.work_pieces.specs.declared.TheConstants.{MOST_WORKERS};
 
 use crate::pair_seeker::{PairSeeker, seek_by_pieces};
-use crate::{Pair, Query};
+use crate::{Pair, Query, Visitor};
 use fixed_box::{FBox, NoMemory, SLOTS};
 use std::alloc::Global;
 use std::thread::Threads;
@@ -153,6 +153,32 @@ pub trait BroadPhase {
         ensures sound { OnOk result (spent self.now ≡ false) }
         ensures ok { OnOk result (out.new.items ≡ out.old.items ++ found (bodies self.now) query.now) }
         ensures err { OnErr result (out.new.items ≡ out.old.items) };
+
+    /// Shows the present boxes to a visitor, except those that need not be shown. After an `Err` the visitor has seen some.
+    ///
+    /// A structure whose `descends` is true passes by what the visitor doesn't admit, and looks into what it prefers first. The
+    /// others ask for the visitor's query and show what that finds, in order of slots, for which a list is taken from `alloc`.
+    fn visit<V: Visitor>(&self, alloc: Global, visitor: &mut V) -> Result<(), NoMemory>
+        ensures sound { OnOk result (spent self.now ≡ false) }
+        ensures seen { OnOk result ((seen : List (ℕ × Bounds)) → V.saw visitor.old seen → V.saw visitor.new (seen ++ map.entries (bodies self.now))) }
+        ensures kept { OnOk result (V.keeps visitor.old visitor.new) }
+    {
+        let mut slots = Vec::new(alloc);
+        self.hits(&visitor.query(), &mut slots)?;
+        let mut rest = &slots[..];
+        'slots: while let [slot, more @ ..] = rest {
+            if let Some(body) = self.box_of(*slot) {
+                visitor.meet(*slot, &body)?;
+            }
+            rest = more;
+        }
+        Ok(())
+    }
+
+    /// Whether `visit` passes by what its visitor doesn't admit: for speed alone, and no answer is wrong.
+    fn descends(&self) -> bool {
+        false
+    }
 
     /// The box under a slot, a proxy's AABB, and `None` where the slot is absent. It is one look-up.
     fn box_of(&self, slot: u32) -> Option<FBox>

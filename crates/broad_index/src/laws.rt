@@ -5,7 +5,7 @@ ghost use Rattle.std.specs.List.{zip};
 ghost use Rattle.std.specs.List.Sorted.{IsPermutation};
 ghost use Rattle.std.specs.Ordering.{nat_cmp};
 ghost use Rattle.std.specs.declared.cmp.Ordering.TheVariants.{Less, Equal, Greater};
-ghost use Rattle.std.specs.FinMap.{FinMap, entries, get, empty, insert, remove, contains_key, from_entries};
+ghost use Rattle.std.specs.FinMap.{FinMap, entries, get, empty, insert, remove, contains_key, from_entries, len};
 ghost use Rattle.fixed_box.specs.Bounds.{Bounds};
 ghost use Rattle.fixed_box.specs.declared.TheConstants.{SLOTS};
 ghost use Rattle.broad_index.specs.Reach.{reach, reach_of};
@@ -50,7 +50,8 @@ pub fn order_laws()
     ensures greater { (p q : Pair) → pair_cmp p q ≡ Greater → precedes q p ≡ true }
 {}
 
-/// What is found among the entries of a map in any order, and how they stay its entries while it changes. It does nothing.
+/// What is found among the entries of a map in any order, and how they stay its entries while it changes. As many as the map has are
+/// its entries, each once. It does nothing.
 pub fn holding_laws()
     ensures found { (bodies : FinMap nat_cmp Bounds) (es : List (ℕ × Bounds)) → Holds bodies es
         → (query : Query) (k : ℕ) → has_slot (found_of es query) k ≡ is_found bodies query k }
@@ -64,6 +65,8 @@ pub fn holding_laws()
     ensures dropped { (bodies : FinMap nat_cmp Bounds) (es : List (ℕ × Bounds)) (k : ℕ) (v : Bounds) → Holds bodies ((k, v) ∷ es)
         → has_slot (map (λ e. e.0) es) k ≡ false → Holds (remove bodies k) es }
     ensures apart { (es : List (ℕ × Bounds)) → apart es ≡ true → Holds (from_entries es) es }
+    ensures once { (bodies : FinMap nat_cmp Bounds) (es : List (ℕ × Bounds)) → Holds bodies es → length es ≡ len bodies
+        → IsPermutation (entries bodies) es }
 {}
 
 /// How pairs that are kept stay right while a map changes, where the slots of each change are marked. It does nothing.

@@ -16,6 +16,7 @@ mod rising;
 mod seeker;
 mod sharing;
 mod slot_search;
+mod visitor;
 
 pub use broad_phase::BroadPhase;
 pub use gather::{join_pieces, push_ordered_pairs};
@@ -29,4 +30,5 @@ pub use rising::{push_rising_pairs, push_rising_slots, settle_pairs, settle_slot
 pub use seeker::Seeker;
 pub use sharing::{FEWEST_SOUGHT, pays_threads};
 pub use slot_search::seek_many;
+pub use visitor::Visitor;
 pub use work_pieces::{Gate, NoGate};

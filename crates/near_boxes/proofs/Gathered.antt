@@ -22,7 +22,7 @@ use Rattle.near_boxes.specs.declared.near.Near.{Near}
 use Rattle.near_boxes.specs.Bodies.{AreInSpace, AreAmong}
 use Rattle.near_boxes.specs.Nearest.{square, seen_from}
 use Rattle.near_boxes.specs.Within.{is_within, all_within, within_of, within, spot, cube, Reaches}
-use Rattle.near_boxes.proofs.MapEntries.{Looked, looked_in, slots_up, has_slots}
+use Rattle.broad_index.specs.MapEntries.{Looked, looked_in, slots_up, has_slots}
 use Rattle.near_boxes.proofs.Reached.{near_meets, all_near}
 use Rattle.fixed_box.proofs.Bools.{and_false}
 
@@ -89,7 +89,7 @@ module _ (at : Point) (most : ℕ) where
       ap (λ o. cons_option (within_of at most e.0 o) (filter_map (λ k. within_of at most k (look k)) (map (λ e. e.0) es))) l.0
       ∙ kept (nat_le (square at e.1) most) (seen_from at e) _ _ (filter_looked look es l.1)
 
-  there : (k : ℕ) (o : Option Bounds) → is_some (within_of at most k o) ≡ true → is_some o ≡ true
+  pub there : (k : ℕ) (o : Option Bounds) → is_some (within_of at most k o) ≡ true → is_some o ≡ true
   there k None h = h
   there k (Some b) h = refl
 
@@ -102,7 +102,7 @@ module _ (at : Point) (most : ℕ) where
 
   module _ (bodies : FinMap nat_cmp Bounds) where
     -- Slots in order, among which are all whose boxes are within the distance, give these.
-    gathered : (slots : List ℕ) → slots_rise slots ≡ true → ((k : ℕ) → is_some (within bodies at most k) ≡ true → has_slot slots k ≡ true)
+    pub gathered : (slots : List ℕ) → slots_rise slots ≡ true → ((k : ℕ) → is_some (within bodies at most k) ≡ true → has_slot slots k ≡ true)
         → filter_map (within bodies at most) slots ≡ all_within bodies at most
     gathered slots up have =
         filtered (within bodies at most) slots
@@ -131,7 +131,7 @@ module _ (at : Point) (most : ℕ) where
         (λ k h. members (Region (cube at half)) k ∙ covered index half here in_space among reaches k h)
 
 -- where all pass
-all_pass : {X : Type 0} (p : X → Bool) (xs : List X) → list_all p xs ≡ true → filter p xs ≡ xs
+pub all_pass : {X : Type 0} (p : X → Bool) (xs : List X) → list_all p xs ≡ true → filter p xs ≡ xs
 all_pass p [] h = refl
 all_pass p (x ∷ xs) h = ap (λ b. cond b (x ∷ filter p xs) (filter p xs)) (first_so _ _ h) ∙ ap (λ l. x ∷ l) (all_pass p xs (second_so _ _ h))
 

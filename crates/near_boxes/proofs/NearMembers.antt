@@ -20,8 +20,8 @@ use Rattle.broad_index.specs.NearRises.{slot_lt}
 use Rattle.ordered_lists.specs.Ordered.{ordered_by}
 use Rattle.near_boxes.specs.declared.near.Near.{Near}
 use Rattle.near_boxes.specs.Nearest.{near_cmp, seen_from, IsSeen, Precedes}
-use Rattle.near_boxes.proofs.MapEntries.{Looked, looked_in, entry_in, entries_up}
-use Rattle.near_boxes.proofs.Nearer.{near_total, tied}
+use Rattle.broad_index.specs.MapEntries.{Looked, looked_in, entry_in, entries_up}
+use Rattle.near_boxes.specs.NearOrder.{near_total, tied}
 use Rattle.fixed_box.proofs.Numbers.{eq_le}
 
 -- ---- the order

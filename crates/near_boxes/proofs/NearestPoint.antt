@@ -6,7 +6,7 @@ use Rattle.std.proofs.Math.Nat.{mul-le-mul_left}
 use Rattle.std.proofs.lemmas.Int.{ints}
 use Rattle.std.proofs.lemmas.Bool.{and_parts, and_from}
 use Rattle.fixed_box.specs.declared.point.Point.{Point}
-use Rattle.fixed_box.specs.Bounds.{Bounds, holds}
+use Rattle.fixed_box.specs.Bounds.{Bounds, holds, encloses}
 use Rattle.fixed_box.specs.Point.{is_at_most}
 use Rattle.near_boxes.specs.Nearest.{above, gap, squared, square, square_between}
 
@@ -89,3 +89,31 @@ pub square_is : (at : Point) (b : Bounds) → is_at_most b.lo b.hi ≡ true → 
 square_is at b h =
     let o = in_order b.lo b.hi h in
     three _ _ _ _ _ _ (gap_is b.lo.x b.hi.x at.x o.x) (gap_is b.lo.y b.hi.y at.y o.y) (gap_is b.lo.z b.hi.z at.z o.z)
+
+-- ---- a hull is no farther than what lies in it
+
+lower_side : (out lo at : ℤ) → int_le out lo ≡ true → above at out ≤ above at lo
+lower_side out lo at h = grind (arith, ints)
+
+upper_side : (out hi at : ℤ) → int_le hi out ≡ true → above out at ≤ above hi at
+upper_side out hi at h = grind (arith, ints)
+
+hull_gap : (low high lo hi at : ℤ) → int_le low lo ≡ true → int_le hi high ≡ true → gap low high at ≤ gap lo hi at
+hull_gap low high lo hi at h g =
+    wider (above at low) (above at lo) (above high at) (above hi at) (lower_side low lo at h) (upper_side high hi at g)
+  where
+    wider : (a b c d : ℕ) → a ≤ b → c ≤ d → max a c ≤ max b d
+    wider a b c d p q = omega arith
+
+pub hull_square : (at : Point) (h b : Bounds) → encloses h b ≡ true → square at h ≤ square at b
+hull_square at h b e =
+    let parts = and_parts (is_at_most h.lo b.lo) (is_at_most b.hi h.hi) e in
+    let low = in_order h.lo b.lo parts.0 in
+    let high = in_order b.hi h.hi parts.1 in
+    let x = hull_gap h.lo.x h.hi.x b.lo.x b.hi.x at.x low.x high.x in
+    let y = hull_gap h.lo.y h.hi.y b.lo.y b.hi.y at.y low.y high.y in
+    let z = hull_gap h.lo.z h.hi.z b.lo.z b.hi.z at.z low.z high.z in
+    sum_le (squared (gap h.lo.x h.hi.x at.x)) (squared (gap h.lo.y h.hi.y at.y)) (squared (gap h.lo.z h.hi.z at.z))
+    (squared (gap b.lo.x b.hi.x at.x)) (squared (gap b.lo.y b.hi.y at.y)) (squared (gap b.lo.z b.hi.z at.z))
+    (square_le (gap h.lo.x h.hi.x at.x) (gap b.lo.x b.hi.x at.x) x) (square_le (gap h.lo.y h.hi.y at.y) (gap b.lo.y b.hi.y at.y) y)
+    (square_le (gap h.lo.z h.hi.z at.z) (gap b.lo.z b.hi.z at.z) z)

@@ -21,7 +21,7 @@ use Rattle.ordered_lists.specs.Ordered.{ordered_by}
 use Rattle.ordered_lists.specs.Ascending.{equal_is}
 use Rattle.near_boxes.specs.declared.near.Near.{Near}
 use Rattle.near_boxes.specs.Nearest.{near_cmp, seen_from, IsSeen, Precedes, AreNearest}
-use Rattle.near_boxes.proofs.Nearer.{near_total, tied}
+use Rattle.near_boxes.specs.NearOrder.{near_total, tied}
 use Rattle.near_boxes.proofs.NearMembers.{precedes, rising, seen, seen_in}
 
 abbrev lt : Near → Near → Bool

@@ -2,6 +2,7 @@
 #![tactic(auto)]
 
 mod bodies;
+mod descent;
 mod distance;
 mod laws;
 mod near;

@@ -12,6 +12,7 @@ ghost use Rattle.near_boxes.specs.Bodies.{AreInSpace, AreAmong};
 ghost use Rattle.near_boxes.specs.Nearest.{nearest, near_cmp};
 ghost use Rattle.near_boxes.specs.Within.{within, spot, cube};
 
+use crate::descent::descend;
 use crate::distance::{square, squared};
 use crate::{Bodies, Near};
 use broad_index::{BroadPhase, Query, member_laws};
@@ -23,10 +24,14 @@ use std::alloc::Global;
 // Half the side of the first cube, in raw units: a sixteenth of a unit.
 const NARROWEST: u32 = 1 << 12;
 
+// Up to how many are sought by one descent, which compares each hull with all that it has.
+const MOST_BY_DESCENT: u32 = 16;
+
 /// Appends the `want` bodies that are nearest to a point, or all where there are fewer, in rising order of the square of
 /// their distance and then of their slot. After an `Err` `out` is as before.
 ///
-/// It asks the index for a cube around the point, and for wider ones until `want` bodies are as near as the cube's sides:
+/// Up to 16 are sought by one descent of an index that descends, which passes by what lies farther than those it has, and takes
+/// memory for these. Else it asks the index for a cube around the point, and for wider ones until `want` bodies are as near as the cube's sides:
 /// at most 21, of which the last is all of space. So over a structure that keeps boxes by where they are, its time goes by
 /// how many lie about as near as the last of the answer. It takes memory for the slots that a cube meets, and for those of
 /// the bodies that are near enough.
@@ -49,6 +54,11 @@ pub fn nearest<B: BroadPhase, T: Bodies>(
     ensures err { OnErr result (out.new.items ≡ out.old.items) }
 {
     in_space(bodies);
+    if want <= MOST_BY_DESCENT && index.descends() {
+        let found = descend(alloc, index, bodies, at, want as usize)?;
+        out.extend_from_slice(&found)?;
+        return Ok(());
+    }
     let want = want as usize;
     let mut found = find_enough(alloc, index, bodies, at, want)?;
     push_front_in_order(&mut found, want, out)?;

@@ -5,3 +5,4 @@ mod Groups
 mod GroupsDone
 mod Own
 mod Preorders
+mod Showing

@@ -6,4 +6,5 @@ pub mod Group
 pub mod Looked
 pub mod Preorder
 pub mod Reading
+pub mod Visiting
 pub mod Visits

@@ -11,6 +11,7 @@ mod laws;
 mod preorder;
 mod search_room;
 mod tree_findings;
+mod visiting;
 mod waiting;
 
 pub use box_search::{push_others, search_boxes, search_each};
@@ -21,3 +22,4 @@ pub use laws::listing_law;
 pub use preorder::{ListedNode, NodeKind, list_preorder};
 pub use search_room::SearchRoom;
 pub use tree_findings::TreeFindings;
+pub use visiting::show_boxes;

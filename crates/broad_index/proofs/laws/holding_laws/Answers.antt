@@ -1,5 +1,6 @@
 -- each clause is a lemma
 use Rattle.broad_index.proofs.AmongEntries.{held_found, held_reach}
+use Rattle.broad_index.proofs.Counted.{held_once}
 use Rattle.broad_index.proofs.Holding.{holds_none, holds_moved, holds_pushed, holds_dropped, holds_apart}
 use Rattle.broad_index.proofs.laws.holding_laws.Goals as goal
 
@@ -23,3 +24,6 @@ returns-clause-dropped c = holds_dropped
 
 pub returns-clause-apart : goal.returns-clause-apart
 returns-clause-apart c = holds_apart
+
+pub returns-clause-once : goal.returns-clause-once
+returns-clause-once c = held_once

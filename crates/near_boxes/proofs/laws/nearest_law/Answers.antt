@@ -9,7 +9,7 @@ use Rattle.fixed_box.specs.Bounds.{Bounds}
 use Rattle.ordered_lists.specs.Ordered.{ordered_by}
 use Rattle.near_boxes.specs.declared.near.Near.{Near}
 use Rattle.near_boxes.specs.Nearest.{near_cmp, seen_from}
-use Rattle.near_boxes.proofs.Nearer.{near_total}
+use Rattle.near_boxes.specs.NearOrder.{near_total}
 use Rattle.near_boxes.proofs.NearMembers.{seen, seen_in, front_member, front_rising, front_before}
 use Rattle.near_boxes.proofs.OneNearest.{one_nearest}
 use Rattle.near_boxes.proofs.laws.nearest_law.Goals as goal

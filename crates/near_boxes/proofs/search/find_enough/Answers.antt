@@ -9,7 +9,7 @@ use Rattle.broad_index.specs.declared.query.Query.TheVariants.{Region}
 use Rattle.near_boxes.specs.declared.near.Near.{Near}
 use Rattle.near_boxes.specs.Nearest.{near_cmp, seen_from, squared}
 use Rattle.near_boxes.specs.Within.{is_within, all_within, within, cube, Reaches}
-use Rattle.near_boxes.proofs.Nearer.{near_total, within_bound}
+use Rattle.near_boxes.specs.NearOrder.{near_total, within_bound}
 use Rattle.near_boxes.proofs.Gathered.{gathered_by, all_gathered}
 use Rattle.near_boxes.proofs.search.find_enough.Goals as goal
 

@@ -1,10 +1,10 @@
 -- Each leaf adds what is found there, and each inner node the children that are met.
-use Rattle.std.proofs.Common.{◌≡◌, ◌+◌, ◌++◌, [], None, Option, List, arith, sym, ap, ◌∙◌, subst, length, option_map, option_to_list}
+use Rattle.std.proofs.Common.{◌+◌, ◌++◌, arith, sym, ap, ◌∙◌, subst, length}
 use Rattle.std.proofs.lemmas.List.{length_push}
 use Rattle.tree_nodes.specs.Shown.{shown, shown_as}
 use Rattle.tree_nodes.specs.Tree.{view_in}
-use Rattle.tree_nodes.specs.declared.node_view.NodeView.{NodeView}
 use Rattle.tree_search.specs.Descent.{Stands, met_in}
+use Rattle.tree_search.proofs.Showing.{none_left}
 use Rattle.tree_search.proofs.Descents.{at_leaf, at_inner, begun, done_ok, one_more, two_more}
 use Rattle.tree_search.proofs.descent.walk.Goals as goal
 
@@ -87,9 +87,6 @@ walk-preserved g c =
     c.in-Some.ensures.rest (ap (shown_as c.in-Some.node.now.bounds) c.in-Inner.is) in
     subst (λ xs. Stands c.args.nodes.now c.args.bodies.now q xs c.args.out.now.items c.walk.out.items (c.walk.count + 2))
     (sym (c.ask-in-Inner-2.ensures ∙ ap (λ xs. xs ++ met_in q (view_in c.args.nodes.now c.in-Inner.left)) c.ask-in-Inner.ensures)) l.5
-
-none_left : {R : Type 0} (f : R → NodeView) (xs : List NodeView) (o : Option R) → o ≡ None → xs ≡ [] → xs ++ option_to_list (option_map f o) ≡ []
-none_left f xs o e none = ap (λ x. xs ++ option_to_list (option_map f x)) e ∙ ap (λ ys. ys ++ []) none
 
 pub returns-clause-ok : goal.returns-clause-ok
 returns-clause-ok g c =

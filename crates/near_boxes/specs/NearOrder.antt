@@ -1,4 +1,4 @@
--- The order of near boxes: it is total, members that tie are one, and those within a distance are bounded in it.
+-- Serves proofs alone: the order of near boxes is total, members that tie are one, and those within a distance are bounded in it.
 use Rattle.std.proofs.Common.{◌≡◌, ℕ, ◌<◌, ◌≤◌, true, false, nat_le, List, refl, ap, arith}
 use Rattle.std.specs.Ordering.{nat_cmp, is_lt, ordering_then}
 use Rattle.std.specs.declared.cmp.Ordering.TheVariants.{Less, Equal, Greater}
@@ -23,7 +23,7 @@ tied m n h =
 pub ties_one : (xs : List Near) → TiesAreOne near_cmp xs
 ties_one xs m n _ _ h = tied m n h
 
-no_farther : (m n : Near) → is_lt (near_cmp n m) ≡ false → m.square ≤ n.square
+pub no_farther : (m n : Near) → is_lt (near_cmp n m) ≡ false → m.square ≤ n.square
 no_farther m n h =
     elim (nat_cmp n.square m.square) as
     (λ r. r ≡ nat_cmp n.square m.square → is_lt (ordering_then r (nat_cmp n.slot m.slot)) ≡ false → m.square ≤ n.square) [

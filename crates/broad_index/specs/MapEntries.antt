@@ -1,4 +1,4 @@
--- The entries of a map: each is what is looked up under its slot, and they rise by their slots.
+-- Serves proofs alone: the entries of a map, each of which is what is looked up under its slot, and which rise by their slots.
 use Rattle.std.proofs.Common.{◌≡◌, ℕ, suc, Bool, true, false, cond, ◌||◌, ◌==◌, nat_lt, List, [], ◌∷◌, Option, Some, refl, sym, ap, ◌∙◌, arith, inl, inr}
 use Rattle.std.specs.Prelude.{is_some}
 use Rattle.std.specs.List.{list_any, Contains}
@@ -60,7 +60,7 @@ entry_found (e ∷ es) k b h = elim (cases_Bool (k == e.0)) as (λ _. Contains (
 ]
 
 module _ (bodies : FinMap nat_cmp Bounds) where
-  sorted : is_sorted nat_cmp (entries bodies) ≡ true
+  pub sorted : is_sorted nat_cmp (entries bodies) ≡ true
   sorted = true_from _ (entries_sorted bodies)
 
   pub looked_in : Looked (get bodies) (entries bodies)

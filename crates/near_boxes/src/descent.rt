@@ -1,0 +1,140 @@
+//! The nearest boxes by one descent: the nearest so far stand in order, and what lies farther than all of them is passed by.
+
+ghost use Rattle.std.specs.Prelude.{◌≡◌, refl, IsTrue, ◌≤◌, ◌++◌, [], false, take, insert, IfOk, OnOk, length};
+ghost use Rattle.std.proofs.Common.{◌∙◌};
+ghost use Rattle.std.specs.List.{list_all};
+ghost use Rattle.broad_index.specs.declared.query.Query.TheVariants.{Region};
+ghost use Rattle.fixed_box.specs.Bounds.{meets};
+ghost use Rattle.fixed_box.specs.Space.{space};
+ghost use Rattle.fixed_box.specs.declared.TheConstants.{SLOTS};
+ghost use Rattle.ordered_lists.specs.Ordered.{placed};
+ghost use Rattle.near_boxes.specs.Bodies.{AreInSpace, AreAmong};
+ghost use Rattle.near_boxes.specs.Nearest.{nearest, near_cmp, square};
+ghost use Rattle.near_boxes.specs.Within.{spot};
+ghost use Rattle.near_boxes.specs.Search.{HasNearest, any_order, is_nearer};
+
+use crate::distance::square;
+use crate::{Bodies, Near};
+use broad_index::{BroadPhase, Query, Visitor};
+use fixed_box::{FBox, Fix, NoMemory, Point, space_law};
+use std::alloc::Global;
+
+// The nearest bodies among the boxes that were shown, at most so many.
+#[derive(Drop)]
+pub(crate) struct NearestSearch<'a, T: Bodies> {
+    bodies: &'a T,
+    at: Point,
+    want: usize,
+    nears: Vec<Near>,
+}
+
+impl<T: Bodies> Visitor for NearestSearch<'_, T> {
+    ghost saw = { λ s seen. HasNearest (T.bodies s.bodies.now) s.at s.want s.nears.items seen };
+
+    ghost keeps = { λ a b. (T.bodies b.bodies.now ≡ T.bodies a.bodies.now) × (b.at ≡ a.at) × (b.want ≡ a.want) };
+
+    ghost keeps_itself = { λ _. (refl, refl, refl) };
+
+    ghost keeps_on = { λ _ _ _ f g. (g.0 ∙ f.0, g.1 ∙ f.1, g.2 ∙ f.2) };
+
+    ghost any_order = { λ s. any_order (T.bodies s.bodies.now) s.at s.want s.nears.items };
+
+    // All of space: no box is nearer for what it meets.
+    fn query(&self) -> Query {
+        Query::Region(all_of_space())
+    }
+
+    // As far as the farthest a lower slot may come before it.
+    fn admits(&self, hull: &FBox) -> bool {
+        self.nears.len() < self.want || !are_nearer(&self.nears, square(&self.at, hull))
+    }
+
+    fn prefers(&self, first: &FBox, second: &FBox) -> bool {
+        square(&self.at, first) <= square(&self.at, second)
+    }
+
+    fn meet(&mut self, slot: u32, body: &FBox) -> Result<(), NoMemory> {
+        if self.bodies.body(slot).is_none() {
+            return Ok(());
+        }
+        let square = square(&self.at, body);
+        place(Near { slot, square }, self.want, &mut self.nears)
+    }
+}
+
+// The nearest bodies by one descent, in rising order.
+pub(crate) fn descend<B: BroadPhase, T: Bodies>(
+    alloc: Global,
+    index: &B,
+    bodies: &T,
+    at: &Point,
+    want: usize,
+) -> Result<Vec<Near>, NoMemory>
+    requires in_space { AreInSpace (T.bodies bodies.now) }
+    requires among { AreAmong (T.bodies bodies.now) (B.bodies index.now) }
+    ensures { IfOk result (λ found. found.items ≡ nearest (T.bodies bodies.now) at.now want) }
+{
+    spot_law(at);
+    let mut search = NearestSearch {
+        bodies,
+        at: *at,
+        want,
+        nears: Vec::new(alloc),
+    };
+    index.visit(alloc, &mut search)?;
+    Ok(search.nears)
+}
+
+// A law for proofs, with nothing to run: a point lies in space.
+fn spot_law(at: &Point)
+    ensures { IsTrue (meets space (spot at.now)) }
+{
+    let spot = FBox::new(*at, *at).unwrap();
+    space_law(&spot);
+}
+
+// The box that all of space is.
+fn all_of_space() -> FBox
+    ensures { result ≡ space }
+{
+    let lo = Point {
+        x: Fix::MIN,
+        y: Fix::MIN,
+        z: Fix::MIN,
+    };
+    let hi = Point {
+        x: Fix::MAX,
+        y: Fix::MAX,
+        z: Fix::MAX,
+    };
+    FBox::new(lo, hi).unwrap()
+}
+
+// Whether all are nearer than a square.
+fn are_nearer(nears: &[Near], than: u128) -> bool
+    ensures { result ≡ list_all (is_nearer than) nears.now }
+{
+    nears.iter().all(|near| near.square < than)
+}
+
+// Puts one into its place among those that stand in order, and keeps the first so many.
+fn place(near: Near, want: usize, nears: &mut Vec<Near>) -> Result<(), NoMemory>
+    ensures { OnOk result (nears.new.items ≡ take want (placed near_cmp near nears.old.items)) }
+{
+    let at = place_of(&near, nears);
+    nears.insert(at, near)?;
+    nears.truncate(want);
+    Ok(())
+}
+
+// How many of those that stand in order come before it.
+fn place_of(near: &Near, nears: &[Near]) -> usize
+    ensures within { result ≤ length nears.now }
+    ensures place { placed near_cmp near.now nears.now ≡ insert nears.now result near.now }
+{
+    let mut at = 0;
+    'places: while at < nears.len() && nears[at] < *near {
+        at += 1;
+    }
+    at
+}
