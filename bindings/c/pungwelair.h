@@ -88,6 +88,27 @@ enum {
     PW_OUT_OF_RANGE = 10  /* a float, rounded as the call says, is below -32,768 or above 32,767.99998, or it is an infinity */
 };
 
+/* What each call may give beside PW_OK. Each that takes a world, except pw_open, may give PW_CLOSED too.
+ *
+ *     pw_open                              PW_ARGUMENT, PW_NO_MEMORY
+ *     pw_add                               PW_ARGUMENT, PW_INVERTED, PW_FULL, PW_EXHAUSTED, PW_NO_MEMORY
+ *     pw_move                              PW_ARGUMENT, PW_INVERTED, PW_STALE, PW_EXHAUSTED, PW_NO_MEMORY
+ *     pw_remove, pw_mask, pw_regroup       PW_STALE, PW_NO_MEMORY (2)
+ *     pw_update                            PW_EXHAUSTED, PW_NO_MEMORY
+ *     pw_hits                              PW_ARGUMENT, PW_NO_MEMORY
+ *     pw_cast_hits                         PW_INVERTED, PW_NO_MEMORY
+ *     pw_ray_hits, pw_nearest              PW_NO_MEMORY
+ *     pw_mark                              PW_FULL, PW_NO_MEMORY (1)
+ *     pw_forget                            PW_NO_MARK, PW_NO_MEMORY (1)
+ *     pw_back                              PW_NO_MARK, PW_NO_MEMORY
+ *     pw_get, pw_at                        PW_STALE
+ *     pw_pairs, pw_events, pw_changes      nothing else
+ *     pw_info, pw_close                    nothing else
+ *     pw_fix_below_32 and the like         PW_NOT_A_NUMBER, PW_OUT_OF_RANGE
+ *     pw_box_around_32, pw_box_around_64   PW_NOT_A_NUMBER, PW_OUT_OF_RANGE, PW_INVERTED
+ *
+ * (1) of a spent world alone; (2) of a spent world, or while a mark is held. Those without PW_NO_MEMORY never want memory. */
+
 /* How a world keeps its boxes. The answers are the same; the costs are not. */
 enum {
     PW_PLAIN = 0, /* tests every two: for a few hundred boxes */
