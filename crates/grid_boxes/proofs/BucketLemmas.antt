@@ -10,7 +10,8 @@ use Rattle.std.specs.FinMap.{FinMap, contains_key, get}
 use Rattle.fixed_box.specs.Bounds.{Bounds}
 use Rattle.broad_index.specs.Members.{has_slot}
 use Rattle.grid_boxes.specs.declared.slot_box.SlotBox.{SlotBox}
-use Rattle.grid_boxes.specs.Buckets.{AreOf, boxed, slots_of}
+use Rattle.grid_boxes.specs.Buckets.{AreOf, boxed}
+use Rattle.grid_boxes.specs.Copies.{slots_of}
 
 -- what stands at a place of a list is in a stretch of it that has this place
 in_stretch : (xs : List ℕ) (from count place : ℕ) → from ≤ place → place < from + count → place < length xs

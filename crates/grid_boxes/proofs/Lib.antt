@@ -1,5 +1,6 @@
 mod BucketLemmas
 mod ColumnLemmas
+mod CopyLemmas
 mod GridLemmas
 mod HullLemmas
 mod LeveledLemmas

@@ -11,15 +11,12 @@ use Rattle.grid_cells.specs.declared.cell_row.CellRow.{CellRow}
 use Rattle.grid_cells.specs.Cells.{IsInRow, standing_cell}
 use Rattle.grid_boxes.specs.declared.bucket_boxes.BucketBoxes.{BucketBoxes}
 use Rattle.grid_boxes.specs.declared.slot_box.SlotBox.{SlotBox}
+use Rattle.grid_boxes.specs.Copies.{slots_of}
 use Rattle.grid_boxes.specs.Standing.{AreStanding, IsMerged}
 
 -- beside each slot stands its box
 abbrev pub AreOf : FinMap nat_cmp Bounds → List SlotBox → Type 0
 AreOf bodies entries = All (λ e. get bodies e.slot ≡ Some e.body) entries
-
--- the slots of a list of boxes beside their slots
-abbrev pub slots_of : List SlotBox → List ℕ
-slots_of es = map (λ e. e.slot) es
 
 -- a slot beside its box, if it has one
 abbrev pub boxed : FinMap nat_cmp Bounds → ℕ → Option SlotBox
@@ -31,12 +28,12 @@ pub record HasBuckets (bodies : FinMap nat_cmp Bounds) (boxes : BucketBoxes) : T
   pub low : boxes.floor < LEVELS
   pub keyed : AreStanding bodies boxes.floor cells
   pub listed : Lists cells boxes.list
-  pub same : map (λ e. e.slot) boxes.entries.items ≡ boxes.list.slots
-  pub right : AreOf bodies boxes.entries.items
+  pub same : map (λ e. e.slot) boxes.copies ≡ boxes.list.slots
+  pub right : AreOf bodies boxes.copies
 
 -- as many boxes are copied as slots are listed
 abbrev pub IsEven : BucketBoxes → Type 0
-IsEven boxes = length boxes.entries.items ≡ length boxes.list.slots
+IsEven boxes = length boxes.copies ≡ length boxes.list.slots
 
 -- all boxes that stand in a row of cells are in two stretches, and each slot there stands beside its box
 pub record HasRowBoxes (bodies : FinMap nat_cmp Bounds) (floor : ℕ) (row : CellRow) (first rest : List SlotBox) : Type 0 where

@@ -1,20 +1,21 @@
 //! Copies of all boxes in the order of buckets, so that a row of cells is compared in place.
 
-ghost use Rattle.std.specs.Prelude.{◌≡◌, ◌<◌, true, None, OnOk, All, map as mapped};
+ghost use Rattle.std.specs.Prelude.{◌≡◌, ◌<◌, ◌≤◌, None, OnOk, length};
 ghost use Rattle.std.specs.FinMap as map;
 ghost use Rattle.std.specs.Ordering.{nat_cmp};
 ghost use Rattle.fixed_box.specs.Bounds.{Bounds};
-ghost use Rattle.grid_boxes.specs.Buckets.{AreOf, HasBuckets, HasRowBoxes, IsEven, KeepsMerged, boxed};
+ghost use Rattle.grid_boxes.specs.Buckets.{HasBuckets, HasRowBoxes, IsEven, KeepsMerged};
+ghost use Rattle.grid_boxes.specs.Copies.{HasCellBehind, stretch};
 ghost use Rattle.grid_boxes.specs.Standing.{AreStanding};
 
+use crate::box_copies::BoxCopies;
 use crate::floor::floor_for;
 use crate::grid_boxes::GridBoxes;
 use crate::merged_cells::MergedCells;
-use crate::slot_box::SlotBox;
-use cell_table::{BucketList, CellKey, CellTable, LEVELS};
+use crate::row_lens::{block_len, row_len};
+use cell_table::{BucketList, CellTable, LEVELS, RowPlaces};
 use fixed_box::{FBox, NoMemory, SLOTS};
-use grid_cells::{CellBlock, CellRow, row_at, standing_cell, with_x};
-use slot_lists::{SlotBoxes, push_filter_mapped};
+use grid_cells::{CellBlock, CellRow, row_of, standing_cell};
 use std::alloc::Global;
 
 // How many of the boxes of a list share a bucket, as samples at equal steps of it tell. A bucket with more boxes than there are
@@ -26,6 +27,9 @@ struct Crowding {
     // With each of 64 boxes, summed up.
     shared: usize,
 }
+
+// From so many boxes in a bucket on all are put in columns, which eight at a time are passed by in.
+const FEWEST_IN_COLUMNS: usize = 48;
 
 // A sample is taken in so many parts of the list.
 const SAMPLES: usize = 64;
@@ -39,7 +43,8 @@ const MOST_SHARED: usize = 16;
 #[derive(Drop)]
 pub struct BucketBoxes {
     list: BucketList,
-    entries: Vec<SlotBox>,
+    copies: BoxCopies,
+    alloc: Global,
     // From the first time that levels are merged on.
     merged: Option<MergedCells>,
     /// No box stands in a cell of a level below this one.
@@ -54,7 +59,8 @@ impl BucketBoxes {
     {
         BucketBoxes {
             list: BucketList::new(alloc),
-            entries: Vec::new(alloc),
+            copies: BoxCopies::new(alloc),
+            alloc,
             merged: None,
             floor: 0,
             crowding: Crowding {
@@ -107,7 +113,7 @@ impl BucketBoxes {
                 merged.set_floor(kept, floor);
                 merged
             }
-            None => MergedCells::new(kept, floor, *self.entries.allocator())?,
+            None => MergedCells::new(kept, floor, self.alloc)?,
         };
         self.floor = floor;
         self.fill_cells(kept, merged.cells())?;
@@ -142,8 +148,10 @@ impl BucketBoxes {
         ensures same { self.new.merged ≡ self.old.merged }
     {
         self.list.fill(cells)?;
-        list_boxes(kept.boxes(), self.list.slots(), &mut self.entries)?;
+        self.copies.copy_boxes(kept.boxes(), self.list.slots())?;
         self.crowding = self.crowding_now();
+        let pays = self.crowding.fullest >= FEWEST_IN_COLUMNS;
+        self.copies.put_in_columns(pays)?;
         Ok(())
     }
 
@@ -153,7 +161,7 @@ impl BucketBoxes {
     {
         let mut fullest = 0usize;
         let mut shared = 0usize;
-        let step = self.entries.len() / SAMPLES + 1;
+        let step = self.copies.len() / SAMPLES + 1;
         'samples: for sample in 0..SAMPLES {
             let sharing = self.sharing(sample.saturating_mul(step));
             fullest = fullest.max(sharing);
@@ -166,20 +174,11 @@ impl BucketBoxes {
     fn sharing(&self, place: usize) -> usize
         requires { self.now.floor < LEVELS }
     {
-        if place >= self.entries.len() {
+        if place >= self.copies.len() {
             return 0;
         }
-        let cell = standing_cell(self.floor, &self.entries[place].body);
-        self.row_len(&CellRow {
-            key: cell,
-            end: cell.z.saturating_add(1),
-        })
-    }
-
-    // How many boxes stand in a row of cells, and in others that share its buckets.
-    fn row_len(&self, row: &CellRow) -> usize {
-        let places = self.list.row(&row.key, row.end);
-        (places.to - places.from).saturating_add(places.wrapped)
+        let cell = standing_cell(self.floor, &self.copies.entries()[place].body);
+        row_len(&self.list, &row_of(&cell))
     }
 
     /// How many boxes stand in the fullest bucket, as samples tell. A bucket with fewer boxes than there are between two samples
@@ -191,58 +190,53 @@ impl BucketBoxes {
 
     /// How many boxes stand in the rows of a block of cells, and in others that share their buckets.
     pub fn block_len(&self, block: &CellBlock) -> usize {
-        let mut len = 0usize;
-        'block: for x in block.from.x..block.end.x {
-            len = len.saturating_add(self.plane_len(&with_x(&block.from, x), &block.end));
-        }
-        len
+        block_len(&self.list, block)
     }
 
-    // How many boxes stand in the rows of cells at one x, from one corner on and below another.
-    fn plane_len(&self, from: &CellKey, end: &CellKey) -> usize {
-        let mut len = 0usize;
-        'plane: for y in from.y..end.y {
-            len = len.saturating_add(self.row_len(&row_at(from, y, end)));
+    /// The slots by bucket as they were copied last, if boxes lay in heaps then.
+    #[inline(always)]
+    pub fn heaps(&self) -> Option<&BucketList> {
+        if self.crowding.fullest >= FEWEST_IN_COLUMNS {
+            Some(&self.list)
+        } else {
+            None
         }
-        len
     }
 
     /// The boxes beside their slots, bucket after bucket.
-    pub fn entries(&self) -> &[SlotBox]
-        ensures { result.now ≡ self.now.entries.items }
-    {
-        &self.entries
-    }
-
-    /// The boxes that stand in a row of cells: in one stretch, and in another one where the row goes on in the first buckets.
-    /// Boxes of other cells that share these buckets stand there too.
     #[inline(always)]
-    pub fn row(&self, row: &CellRow) -> (&[SlotBox], &[SlotBox])
-        requires { IsEven self.now }
-        ensures { (bodies : map.FinMap nat_cmp Bounds) → HasBuckets bodies self.now → HasRowBoxes bodies self.now.floor row.now result.0.now result.1.now }
+    pub fn copies(&self) -> &BoxCopies
+        ensures { result.now ≡ self.now.copies }
     {
-        let places = self.list.row(&row.key, row.end);
-        let first = &self.entries[places.from..places.to];
-        let rest = &self.entries[..places.wrapped];
-        (first, rest)
+        &self.copies
     }
-}
 
-// Replaces a list by some slots, each beside its box.
-fn list_boxes(boxes: &SlotBoxes, slots: &[u32], out: &mut Vec<SlotBox>) -> Result<(), NoMemory>
-    requires { All (λ slot. map.contains_key boxes.now slot ≡ true) slots.now }
-    ensures same { OnOk result (mapped (λ e. e.slot) out.new.items ≡ slots.now) }
-    ensures right { OnOk result (AreOf boxes.now out.new.items) }
-{
-    out.clear();
-    push_filter_mapped(slots, out, |slot| boxed(boxes, *slot))?;
-    Ok(())
-}
+    /// The places of the boxes that stand in a row of cells: in one stretch, and in another one where the row goes on in the
+    /// first buckets. Boxes of other cells that share these buckets stand there too.
+    #[inline(always)]
+    pub fn row(&self, row: &CellRow) -> RowPlaces
+        requires { IsEven self.now }
+        ensures ordered { result.from ≤ result.to }
+        ensures inside { result.to ≤ length self.now.copies }
+        ensures wrapped { result.wrapped ≤ length self.now.copies }
+        ensures whole { (bodies : map.FinMap nat_cmp Bounds) → HasBuckets bodies self.now → HasRowBoxes bodies self.now.floor row.now
+            (stretch result.from result.to self.now.copies) (stretch 0 result.wrapped self.now.copies) }
+    {
+        self.list.row(&row.key, row.end)
+    }
 
-// A slot beside its box, if it has one.
-fn boxed(boxes: &SlotBoxes, slot: u32) -> Option<SlotBox>
-    ensures { result ≡ boxed boxes.now slot }
-{
-    let body = boxes.box_of(slot)?;
-    Some(SlotBox { slot, body })
+    /// The place behind the last box that stands in the cell of one, but not before another place.
+    #[inline(always)]
+    pub fn cell_end(&self, from: usize, body: &FBox) -> usize
+        requires even { IsEven self.now }
+        requires low { self.now.floor < LEVELS }
+        requires from { from ≤ length self.now.copies }
+        ensures later { from ≤ result }
+        ensures inside { result ≤ length self.now.copies }
+        ensures whole { (bodies : map.FinMap nat_cmp Bounds) → HasBuckets bodies self.now
+            → HasCellBehind bodies self.now.floor body.now from result self.now.copies }
+    {
+        let places = self.row(&row_of(&standing_cell(self.floor, body)));
+        places.to.max(places.wrapped).max(from)
+    }
 }

@@ -12,7 +12,8 @@ ghost use Rattle.fixed_box.specs.Space.{space};
 
 use crate::hull::{grown, part_in};
 use crate::leveled_boxes::LeveledBoxes;
-use cell_table::{CellKey, CellTable, LEVELS};
+use crate::row_lens::block_len;
+use cell_table::{BucketList, CellKey, CellTable, LEVELS};
 use fixed_box::{FBox, NoMemory, SLOTS};
 use grid_cells::{
     LinePath, block_beside, cell_of, cells_after, count_beside, visit_block, visit_crossed,
@@ -28,6 +29,9 @@ const BOXES_PER_STEP: u32 = 16;
 
 // A scan of so many boxes for a region costs about as much as a look at a cell beside it.
 const BOXES_PER_CELL: u64 = 4;
+
+/// A scan of a level passes by so many boxes in the time of one comparison in a bucket.
+pub const BOXES_PER_SCANNED: usize = 8;
 
 // A box is shorter than the cells of its level, so that it lies in at most two of them on each axis, and has at most so many
 // beside it.
@@ -187,17 +191,23 @@ impl GridBoxes {
         end
     }
 
-    /// Appends slots, and among them all whose boxes meet a region.
+    /// Appends slots, and among them all whose boxes meet a region. A list of slots by bucket, of whatever moment, tells where
+    /// boxes lie in heaps.
     pub fn push_candidates(
         &self,
         region: &FBox,
+        heaps: Option<&BucketList>,
         looked: &mut u64,
         slots: &mut Vec<u32>,
     ) -> Result<(), NoMemory>
         ensures ok { OnOk result (Appends (HasMetIn self.now 0 LEVELS region.now) slots.old.items slots.new.items) }
         ensures err { OnErr result (Stays slots.old.items slots.new.items) }
     {
-        self.push_from(0, self.levels_end(), region, looked, slots)
+        let end = self.levels_end();
+        'levels: for level in 0..end {
+            self.push_level(level, region, heaps, looked, slots)?;
+        }
+        Ok(())
     }
 
     /// Appends slots, and among them all whose boxes meet a line that has a region.
@@ -312,7 +322,7 @@ impl GridBoxes {
         ensures err { OnErr result (Stays slots.old.items slots.new.items) }
     {
         'levels: for level in first..end {
-            self.push_level(level, region, looked, slots)?;
+            self.push_level(level, region, None, looked, slots)?;
         }
         Ok(())
     }
@@ -322,6 +332,7 @@ impl GridBoxes {
         &self,
         level: u8,
         region: &FBox,
+        heaps: Option<&BucketList>,
         looked: &mut u64,
         slots: &mut Vec<u32>,
     ) -> Result<(), NoMemory>
@@ -332,7 +343,7 @@ impl GridBoxes {
         if !self.has_some(level) {
             return Ok(());
         }
-        if self.is_scanned(level, region) {
+        if self.is_scanned(level, region) || self.is_heaped(level, region, heaps) {
             self.scan(level, region, looked, slots)
         } else {
             self.push_beside(level, region, slots)
@@ -368,6 +379,20 @@ impl GridBoxes {
     {
         let boxes = u64::from(self.cells.level_len(level));
         count_beside(level, region).saturating_mul(BOXES_PER_CELL) > boxes
+    }
+
+    // Whether the cells of a level beside a region share the buckets of a heap, so that a scan of the level costs less.
+    #[inline(always)]
+    fn is_heaped(&self, level: u8, region: &FBox, heaps: Option<&BucketList>) -> bool
+        requires { level < LEVELS }
+    {
+        match heaps {
+            Some(list) => {
+                block_len(list, &block_beside(level, region))
+                    > self.level_len(level) / BOXES_PER_SCANNED
+            }
+            None => false,
+        }
     }
 
     // Whether a region has more cells of a level beside it than the level has boxes.

@@ -3,6 +3,7 @@
 //! What lies near a region is appended as slots; whether boxes meet is for the caller to test.
 #![tactic(auto)]
 
+mod box_copies;
 mod bucket_boxes;
 mod floor;
 mod grid_boxes;
@@ -10,9 +11,11 @@ mod hull;
 mod level_columns;
 mod leveled_boxes;
 mod merged_cells;
+mod row_lens;
 mod slot_box;
 mod standing_cells;
 
+pub use box_copies::BoxCopies;
 pub use bucket_boxes::BucketBoxes;
-pub use grid_boxes::GridBoxes;
+pub use grid_boxes::{BOXES_PER_SCANNED, GridBoxes};
 pub use slot_box::SlotBox;

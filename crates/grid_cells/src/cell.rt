@@ -41,6 +41,7 @@ pub fn standing_cell(floor: u8, body: &FBox) -> CellKey
     requires { floor < LEVELS }
     ensures value { result ≡ standing_cell floor body.now }
     ensures level { result.level < LEVELS }
+    ensures high { result.z ≤ℤ FARTHEST_CELL }
 {
     cell_in(body.level().max(floor), body)
 }

@@ -1,7 +1,7 @@
 -- Boxes beside their slots: what is found in a stretch of them.
-use Rattle.std.proofs.Common.{inl, inr}
-use Rattle.std.proofs.Math.Seq.{take-length}
-use Rattle.std.proofs.lemmas.Bool.{or_cases, false≢true}
+use Rattle.std.proofs.Common.{inl, inr, zero, ◌+◌, All}
+use Rattle.std.proofs.lemmas.List.Elements.{All-drop, All-take}
+use Rattle.std.proofs.lemmas.Bool.{or_cases}
 use Rattle.std.proofs.Common.{◌≡◌, ◌⊎◌, ℕ, suc, ◌-◌, ◌<◌, ◌≤◌, Bool, true, false, cond, not, ◌&&◌, ◌||◌, ◌==◌, nat_lt, refl, sym, ap, ◌∙◌, subst}
 use Rattle.std.proofs.Common.{List, [], ◌∷◌, ◌++◌, map, length, take, drop, get_or, Some, arith}
 use Rattle.std.specs.List.{filter}
@@ -13,25 +13,89 @@ use Rattle.broad_index.specs.declared.pair.Pair.{Pair}
 use Rattle.broad_index.specs.Members.{has_pair, has_slot, both_meet}
 use Rattle.broad_index.specs.Touched.{ordered}
 use Rattle.grid_boxes.specs.declared.slot_box.SlotBox.{SlotBox}
-use Rattle.grid_boxes.specs.Buckets.{AreOf, slots_of}
+use Rattle.grid_boxes.specs.Buckets.{AreOf}
+use Rattle.grid_boxes.specs.Copies.{slots_of, stretch}
 use Rattle.hier_grid.specs.Listing.{pairs_up, met_pairs}
 use Rattle.hier_grid.specs.Search.{is_partner, IsSound}
 use Rattle.hier_grid.proofs.PartnerLemmas.{found_pairs, sound_pairs, pair_in}
 
-pub no_entries : (es : List SlotBox) (s : ℕ) → length es < 1 → has_slot (slots_of es) s ≡ true → ⊥
-no_entries [] s l h = false≢true h
-no_entries (e ∷ es) s l h = absurd (omega arith)
-
-pub entry_or_rest : (es : List SlotBox) (d : SlotBox) → 1 ≤ length es → (s : ℕ) → has_slot (slots_of es) s ≡ true
-    → (s ≡ (get_or es 0 d).slot) ⊎ (has_slot (slots_of (take (length es - 1) (drop 1 es))) s ≡ true)
-entry_or_rest [] d l s h = absurd (omega arith)
-entry_or_rest (e ∷ es) d l s h =
-    let n : length (e ∷ es) - 1 ≡ length es = omega arith in
-    elim (or_cases (s == e.slot) (has_slot (slots_of es) s) h) as
-    (λ _. (s ≡ e.slot) ⊎ (has_slot (slots_of (take (length (e ∷ es) - 1) es)) s ≡ true)) [
-      | inl is ↦ inl (grind (arith, nat_tests))
-      | inr there ↦ inr (subst (λ xs. has_slot (slots_of xs) s ≡ true) (sym (ap (λ m. take m es) n ∙ take-length es)) there)
+-- what stands among one more of the first is the next one, or stood there before
+pub next_or_before : (es : List SlotBox) (place : ℕ) (d : SlotBox) → place < length es → (s : ℕ) → has_slot (slots_of (take (place + 1) es)) s ≡ true
+    → (has_slot (slots_of (take place es)) s ≡ true) ⊎ (s ≡ (get_or es place d).slot)
+next_or_before [] place d l s h = absurd (omega arith)
+next_or_before (e ∷ es) zero d l s h = elim (or_cases (s == e.slot) false h) as (λ _. (false ≡ true) ⊎ (s ≡ e.slot)) [
+  | inl is ↦ inr (grind (arith, nat_tests))
+  | inr wrong ↦ inl wrong
+]
+next_or_before (e ∷ es) (suc place) d l s h =
+    let n : suc place + 1 ≡ suc (place + 1) = omega arith in
+    let there : has_slot (slots_of (take (suc (place + 1)) (e ∷ es))) s ≡ true = subst (λ k. has_slot (slots_of (take k (e ∷ es))) s ≡ true) n h in
+    elim (or_cases (s == e.slot) (has_slot (slots_of (take (place + 1) es)) s) there) as
+    (λ _. (has_slot (slots_of (take (suc place) (e ∷ es))) s ≡ true) ⊎ (s ≡ (get_or es place d).slot)) [
+      | inl is ↦ inl (ap (λ t. t || has_slot (slots_of (take place es)) s) is)
+      | inr later ↦ elim (next_or_before es place d (omega arith) s later) as
+          (λ _. (has_slot (slots_of (take (suc place) (e ∷ es))) s ≡ true) ⊎ (s ≡ (get_or es place d).slot)) [
+            | inl before ↦ inl (ap (λ t. (s == e.slot) || t) before ∙ or_true (s == e.slot))
+            | inr is ↦ inr is
+          ]
     ]
+  where
+    or_true : (b : Bool) → (b || true) ≡ true
+    or_true true = refl
+    or_true false = refl
+
+-- a pair of two slots is the same from either of them
+pub turned_pair : (s q : ℕ) → not (q == s) ≡ true → ordered q s ≡ ordered s q
+turned_pair s q other = elim (nat_lt s q) as (λ t. nat_lt s q ≡ t → ordered q s ≡ cond t (record { a = s; b = q }) (record { a = q; b = s })) [
+  | true ↦ λ t. let no : nat_lt q s ≡ false = grind (arith, nat_tests) in ap (λ u. cond u (record { a = q; b = s }) (record { a = s; b = q })) no
+  | false ↦ λ f. let yes : nat_lt q s ≡ true = grind (arith, nat_tests) in ap (λ u. cond u (record { a = q; b = s }) (record { a = s; b = q })) yes
+] refl
+
+pub not_back : (s q : ℕ) → not (q == s) ≡ true → not (s == q) ≡ true
+not_back s q other = grind (arith, nat_tests)
+
+pub not_itself : (s q : ℕ) → not (q == s) ≡ true → q ≡ s → ⊥
+not_itself s q other is = absurd (grind (arith, nat_tests))
+
+-- ---- stretches
+front_of : (es : List SlotBox) (k n : ℕ) → k ≤ n → take k (take n es) ≡ take k es
+front_of [] zero zero le = refl
+front_of [] zero (suc n) le = refl
+front_of [] (suc k) zero le = absurd (omega arith)
+front_of [] (suc k) (suc n) le = refl
+front_of (e ∷ es) zero n le = refl
+front_of (e ∷ es) (suc k) zero le = absurd (omega arith)
+front_of (e ∷ es) (suc k) (suc n) le = ap (λ l. e ∷ l) (front_of es k n (omega arith))
+
+pub met_more : (own : SlotBox) (any : Bool) (xs ys : List SlotBox) → met_pairs own any (xs ++ ys) ≡ met_pairs own any xs ++ met_pairs own any ys
+met_more own any [] ys = refl
+met_more own any (x ∷ xs) ys = elim (pairs_up own any x) as (λ t. map (λ (e : SlotBox). ordered own.slot e.slot)
+    (cond t (x ∷ filter (pairs_up own any) (xs ++ ys)) (filter (pairs_up own any) (xs ++ ys)))
+    ≡ map (λ (e : SlotBox). ordered own.slot e.slot) (cond t (x ∷ filter (pairs_up own any) xs) (filter (pairs_up own any) xs)) ++ met_pairs own any ys) [
+      | true ↦ ap (λ ps. ordered own.slot x.slot ∷ ps) (met_more own any xs ys)
+      | false ↦ met_more own any xs ys
+    ]
+
+met_none : (own : SlotBox) (any : Bool) (es : List SlotBox) → All (λ e. meets own.body e.body ≡ false) es → met_pairs own any es ≡ []
+met_none own any [] h = refl
+met_none own any (e ∷ es) h =
+    ap (λ t. map (λ (x : SlotBox). ordered own.slot x.slot) (cond t (e ∷ filter (pairs_up own any) es) (filter (pairs_up own any) es)))
+    (ap (λ m. not (e.slot == own.slot) && (any || nat_lt own.slot e.slot) && m) (h 0 e (omega arith))
+    ∙ and_false (not (e.slot == own.slot) && (any || nat_lt own.slot e.slot)))
+    ∙ met_none own any es (λ i d l. h (suc i) d (omega arith))
+  where
+    and_false : (b : Bool) → (b && false) ≡ false
+    and_false true = refl
+    and_false false = refl
+
+-- those that don't meet a box make no pair with it
+pub none_passed : (own : SlotBox) (any : Bool) (es : List SlotBox) (at near start : ℕ) → start ≤ near
+    → All (λ e. meets own.body e.body ≡ false) (stretch at near es)
+    → met_pairs own any (stretch at start es) ≡ []
+none_passed own any es at near start le h =
+    let P : SlotBox → Type 0 = λ e. meets own.body e.body ≡ false in
+    met_none own any (stretch at start es)
+    (subst (All P) (front_of (drop at es) (start - at) (near - at) (omega arith)) (All-take P (start - at) (stretch at near es) h))
 
 -- the box beside a slot is met where the slot is a partner
 met_one : (bodies : FinMap nat_cmp Bounds) (own : SlotBox) (any : Bool) (e : SlotBox) → get bodies e.slot ≡ Some e.body
@@ -64,3 +128,8 @@ pub pair_met : (bodies : FinMap nat_cmp Bounds) (own : SlotBox) (any : Bool) (es
 pair_met bodies own any es old q b h e m other due i =
     ap (λ ps. has_pair (old ++ ps) (ordered own.slot q)) (met_is bodies own any es h)
     ∙ pair_in bodies own.slot own.body any (slots_of es) old q b e m other due i
+
+-- beside each slot of a stretch stands its box
+pub right_stretch : (bodies : FinMap nat_cmp Bounds) (es : List SlotBox) (from to : ℕ) → AreOf bodies es → AreOf bodies (stretch from to es)
+right_stretch bodies es from to h =
+    let P : SlotBox → Type 0 = λ e. get bodies e.slot ≡ Some e.body in All-take P (to - from) (drop from es) (All-drop P from es h)

@@ -1,16 +1,18 @@
 -- Serves proofs alone: the list of all boxes by bucket through changes, and what a search finds in it.
-use Rattle.std.specs.Prelude.{◌≡◌, refl, ℕ, Bool, true, not, ◌&&◌, ◌||◌, ◌==◌, nat_lt, List, map, filter}
+use Rattle.std.specs.Prelude.{◌≡◌, refl, ℕ, Bool, true, false, not, ◌&&◌, ◌||◌, ◌==◌, nat_lt, List, map, filter, take}
 use Rattle.std.specs.Ordering.{nat_cmp}
 use Rattle.std.specs.Coded.{Coded, code_by, coded×, coded_ℕ}
 use Rattle.std.specs.FinMap.{FinMap, code}
 use Rattle.fixed_box.specs.Bounds.{Bounds, coded_bounds, meets}
 use Rattle.broad_index.specs.declared.pair.Pair.{Pair}
+use Rattle.broad_index.specs.Members.{has_slot}
 use Rattle.broad_index.specs.Touched.{ordered}
 use Rattle.cell_table.specs.declared.cell_key.CellKey.{CellKey}
 use Rattle.grid_cells.specs.Cells.{standing_cell}
 use Rattle.grid_boxes.specs.declared.bucket_boxes.BucketBoxes.{BucketBoxes}
 use Rattle.grid_boxes.specs.declared.slot_box.SlotBox.{SlotBox}
 use Rattle.grid_boxes.specs.Buckets.{HasBuckets, KeepsMerged}
+use Rattle.grid_boxes.specs.Copies.{slots_of}
 use Rattle.hier_grid.specs.declared.grid_listing.GridListing.{GridListing}
 use Rattle.hier_grid.specs.Search.{Finds}
 
@@ -43,3 +45,10 @@ met_pairs own any entries = map (λ e. ordered own.slot e.slot) (filter (pairs_u
 abbrev pub FindsIn : BucketBoxes → SlotBox → Bool → (CellKey → Type 0) → List Pair → List Pair → Type 0
 FindsIn boxes own any IsThere old new =
     (bodies : FinMap nat_cmp Bounds) → HasBuckets bodies boxes → Finds bodies own any (λ _ b. IsThere (standing_cell boxes.floor b)) old new
+
+-- what a search of a slot finds in its cell from a place on: each partner there that doesn't stand before it
+abbrev pub FindsBehind : BucketBoxes → ℕ → SlotBox → List Pair → List Pair → Type 0
+FindsBehind boxes from own old new =
+    (bodies : FinMap nat_cmp Bounds) → HasBuckets bodies boxes
+    → Finds bodies own true (λ q b. (standing_cell boxes.floor b ≡ standing_cell boxes.floor own.body)
+    × (has_slot (slots_of (take from boxes.copies)) q ≡ false)) old new

@@ -31,10 +31,9 @@ IsOther cell body b = ((cell body).level < (cell b).level) ⊎ (((cell b).level 
 abbrev pub IsDue : (Bounds → CellKey) → ℕ → Bounds → ℕ → Bounds → Type 0
 IsDue cell slot body q b = ((cell b ≡ cell body) × (slot < q)) ⊎ IsOther cell body b
 
--- the same of two boxes whose cells have one level
-abbrev pub IsDueBeside : (Bounds → CellKey) → ℕ → Bounds → ℕ → Bounds → Type 0
-IsDueBeside cell slot body q b =
-    ((cell b).level ≡ (cell body).level) × (((cell b ≡ cell body) × (slot < q)) ⊎ IsAfter (cell b) (cell body))
+-- the other's cell is a later one of the same level
+abbrev pub IsLaterBeside : (Bounds → CellKey) → Bounds → Bounds → Type 0
+IsLaterBeside cell body b = ((cell b).level ≡ (cell body).level) × IsAfter (cell b) (cell body)
 
 -- what was found is right
 abbrev pub IsSound : FinMap nat_cmp Bounds → List Pair → Type 0
@@ -65,6 +64,12 @@ FindsFrom cell bodies slot body found =
 -- the same if the slot is present
 abbrev pub FindsFor : (Bounds → CellKey) → FinMap nat_cmp Bounds → ℕ → List Pair → Type 0
 FindsFor cell bodies slot found = (body : Bounds) → get bodies slot ≡ Some body → FindsFrom cell bodies slot body found
+
+-- The pairs of a slot with those of its cell were found, and those that are to be found from it, if it is present.
+abbrev pub FindsAround : (Bounds → CellKey) → FinMap nat_cmp Bounds → ℕ → List Pair → Type 0
+FindsAround cell bodies slot found =
+    (body : Bounds) → get bodies slot ≡ Some body → (q : ℕ) (b : Bounds) → get bodies q ≡ Some b → meets body b ≡ true → not (q == slot) ≡ true
+    → (cell b ≡ cell body) ⊎ IsOther cell body b → has_pair found (ordered slot q) ≡ true
 
 -- exactly the pairs of boxes that meet were found
 abbrev pub FindsAll : FinMap nat_cmp Bounds → List Pair → Type 0

@@ -1,22 +1,29 @@
 //! The pairs of a box with its partners among copies of all boxes, row by row of cells.
 
-ghost use Rattle.std.specs.Prelude.{◌≡◌, ◌++◌, true, cond, Some, None, OnOk, OnErr};
+ghost use Rattle.std.specs.Prelude.{◌≡◌, ◌<◌, ◌≤◌, ◌++◌, true, cond, Some, None, OnOk, OnErr, length};
 ghost use Rattle.broad_index.specs.Touched.{ordered};
 ghost use Rattle.grid_boxes.specs.Buckets.{IsEven};
+ghost use Rattle.grid_boxes.specs.Copies.{stretch};
 ghost use Rattle.grid_cells.specs.Cells.{IsAmong, IsInBlock, IsInPlane, IsInRow};
-ghost use Rattle.hier_grid.specs.Listing.{FindsIn, met_pairs, pairs_up};
+ghost use Rattle.hier_grid.specs.Listing.{FindsBehind, FindsIn, met_pairs, pairs_up};
 
 use crate::partners::is_sought;
 use broad_index::Pair;
-use cell_table::CellKey;
+use cell_table::{CellKey, LEVELS};
 use fixed_box::NoMemory;
-use grid_boxes::{BucketBoxes, SlotBox};
+use grid_boxes::{BoxCopies, BucketBoxes, SlotBox};
 use grid_cells::{CellBlock, CellRow, LaterCells, row_at, with_x};
 use slot_lists::push_filter_mapped;
 
-/// Finds the pairs of a slot with its partners in those cells that come later.
+// In a shorter stretch boxes are compared one by one.
+const FEWEST_IN_LANES: usize = 24;
+
+// So many boxes are passed by at once.
+const EIGHT: usize = 8;
+
+/// Finds the pairs of a slot with its partners in those cells that come later, in long rows by eights if that is asked for.
 #[inline(always)]
-pub(crate) fn later_pairs(
+pub(crate) fn later_pairs<const BY_EIGHTS: bool>(
     boxes: &BucketBoxes,
     own: &SlotBox,
     cells: &LaterCells,
@@ -31,15 +38,15 @@ pub(crate) fn later_pairs(
         end: cells.end,
     };
     let row = row_at(&cells.row, cells.row.y, &cells.end);
-    row_pairs(boxes, own, true, &row, looked, pairs)?;
-    plane_pairs(boxes, own, &cells.plane, &cells.end, looked, pairs)?;
-    block_pairs(boxes, own, &block, looked, pairs)?;
+    row_pairs::<BY_EIGHTS>(boxes, own, true, &row, looked, pairs)?;
+    plane_pairs::<BY_EIGHTS>(boxes, own, &cells.plane, &cells.end, looked, pairs)?;
+    block_pairs::<BY_EIGHTS>(boxes, own, &block, looked, pairs)?;
     Ok(())
 }
 
 /// Finds the pairs of a slot with its partners in a block of cells.
 #[inline(always)]
-pub(crate) fn block_pairs(
+pub(crate) fn block_pairs<const BY_EIGHTS: bool>(
     boxes: &BucketBoxes,
     own: &SlotBox,
     block: &CellBlock,
@@ -51,14 +58,14 @@ pub(crate) fn block_pairs(
 {
     'block: for x in block.from.x..block.end.x {
         let from = with_x(&block.from, x);
-        plane_pairs(boxes, own, &from, &block.end, looked, pairs)?;
+        plane_pairs::<BY_EIGHTS>(boxes, own, &from, &block.end, looked, pairs)?;
     }
     Ok(())
 }
 
 // The same in the cells at one x, from one corner on and below another.
 #[inline(always)]
-fn plane_pairs(
+fn plane_pairs<const BY_EIGHTS: bool>(
     boxes: &BucketBoxes,
     own: &SlotBox,
     from: &CellKey,
@@ -71,15 +78,36 @@ fn plane_pairs(
 {
     'plane: for y in from.y..end.y {
         let row = row_at(from, y, end);
-        row_pairs(boxes, own, true, &row, looked, pairs)?;
+        row_pairs::<BY_EIGHTS>(boxes, own, true, &row, looked, pairs)?;
     }
     Ok(())
 }
 
-/// Finds the pairs of a slot with its partners in a row of cells, either any or those with higher slots alone. Each box
-/// of the row is compared, and counted.
+/// Finds the pairs of a slot with its partners in its cell that stand from a place on: the one behind it. So each two boxes of a
+/// cell are compared once. Each box there is compared, and counted.
 #[inline(always)]
-pub(crate) fn row_pairs(
+pub(crate) fn pairs_behind<const BY_EIGHTS: bool>(
+    boxes: &BucketBoxes,
+    from: usize,
+    own: &SlotBox,
+    looked: &mut u64,
+    pairs: &mut Vec<Pair>,
+) -> Result<(), NoMemory>
+    requires even { IsEven boxes.now }
+    requires low { boxes.now.floor < LEVELS }
+    requires from { from ≤ length boxes.now.copies }
+    ensures { OnOk result (FindsBehind boxes.now from own.now pairs.old.items pairs.new.items) }
+{
+    let end = boxes.cell_end(from, &own.body);
+    *looked = looked.saturating_add((end - from) as u64);
+    push_pairs_in::<BY_EIGHTS>(boxes.copies(), own, true, from, end, pairs)?;
+    Ok(())
+}
+
+/// Finds the pairs of a slot with its partners in a row of cells, either any or those with higher slots alone. Each box
+/// of the row is compared, and counted, in a long row by eights if that is asked for.
+#[inline(always)]
+pub(crate) fn row_pairs<const BY_EIGHTS: bool>(
     boxes: &BucketBoxes,
     own: &SlotBox,
     any: bool,
@@ -93,10 +121,59 @@ pub(crate) fn row_pairs(
     if row.is_empty() {
         return Ok(());
     }
-    let (first, rest) = boxes.row(row);
-    *looked = looked.saturating_add((first.len() + rest.len()) as u64);
-    push_met_pairs(own, any, first, pairs)?;
-    push_met_pairs(own, any, rest, pairs)?;
+    let places = boxes.row(row);
+    let copies = boxes.copies();
+    *looked = looked.saturating_add(
+        (places.to - places.from).saturating_add(places.wrapped) as u64,
+    );
+    push_pairs_in::<BY_EIGHTS>(copies, own, any, places.from, places.to, pairs)?;
+    push_pairs_in::<BY_EIGHTS>(copies, own, any, 0, places.wrapped, pairs)?;
+    Ok(())
+}
+
+// Appends the pairs of a slot with its partners among the copies from a place on and below another.
+#[inline(always)]
+fn push_pairs_in<const BY_EIGHTS: bool>(
+    copies: &BoxCopies,
+    own: &SlotBox,
+    any: bool,
+    from: usize,
+    to: usize,
+    pairs: &mut Vec<Pair>,
+) -> Result<(), NoMemory>
+    requires ordered { from ≤ to }
+    requires inside { to ≤ length copies.now }
+    ensures { OnOk result (pairs.new.items ≡ pairs.old.items ++ met_pairs own.now any (stretch from to copies.now)) }
+{
+    if BY_EIGHTS && to - from >= FEWEST_IN_LANES {
+        push_pairs_by_eights(copies, own, any, from, to, pairs)?;
+    } else {
+        push_met_pairs(own, any, &copies.entries()[from..to], pairs)?;
+    }
+    Ok(())
+}
+
+// The same, eight at a time: no box of them is looked at where none of the eight meets the slot's.
+#[inline(never)]
+fn push_pairs_by_eights(
+    copies: &BoxCopies,
+    own: &SlotBox,
+    any: bool,
+    from: usize,
+    to: usize,
+    pairs: &mut Vec<Pair>,
+) -> Result<(), NoMemory>
+    requires ordered { from ≤ to }
+    requires inside { to ≤ length copies.now }
+    ensures { OnOk result (pairs.new.items ≡ pairs.old.items ++ met_pairs own.now any (stretch from to copies.now)) }
+{
+    let mut at = from;
+    'eights: while at < to {
+        let near = copies.next_near(at, to, &own.body).min(to);
+        let end = near.saturating_add(EIGHT).min(to);
+        push_met_pairs(own, any, &copies.entries()[near..end], pairs)?;
+        at = end;
+    }
     Ok(())
 }
 

@@ -6,6 +6,7 @@ ghost use Rattle.std.specs.Ordering.{nat_cmp};
 ghost use Rattle.fixed_box.specs.Bounds.{Bounds};
 ghost use Rattle.hier_grid.specs.Listing.{IsListing};
 
+use cell_table::BucketList;
 use fixed_box::{FBox, NoMemory, SLOTS};
 use grid_boxes::{BucketBoxes, GridBoxes};
 use std::alloc::Global;
@@ -63,5 +64,10 @@ impl GridListing {
         ensures same { IfSome result (λ boxes. boxes.now ≡ self.now.boxes) }
     {
         if self.fresh { Some(&self.boxes) } else { None }
+    }
+
+    /// The slots by bucket as they were copied last, if boxes lay in heaps then, which is a hint of where they lie now.
+    pub(crate) fn heaps(&self) -> Option<&BucketList> {
+        self.boxes.heaps()
     }
 }

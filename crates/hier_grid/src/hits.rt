@@ -11,23 +11,29 @@ ghost use Rattle.grid_boxes.specs.Candidates.{HasHitsBelow, HasMetIn, IsRegionOf
 use crate::partners::is_partner;
 use box_cast::Cast;
 use broad_index::{Query, settle_slots_from};
-use cell_table::LEVELS;
+use cell_table::{BucketList, LEVELS};
 use fixed_box::{FBox, NoMemory};
 use grid_boxes::{GridBoxes, SlotBox};
 use grid_cells::LinePath;
 use prepared_query::{BoxTest, CastTest, LineTest};
 use slot_lists::{SlotBoxes, keep_passing};
 
-/// Appends the present slots whose boxes meet a query, rising. After an `Err` `out` is as before.
-pub(crate) fn push_hits(kept: &GridBoxes, query: &Query, out: &mut Vec<u32>) -> Result<(), NoMemory>
+/// Appends the present slots whose boxes meet a query, rising. After an `Err` `out` is as before. What tells of heaps may be of
+/// another moment.
+pub(crate) fn push_hits(
+    kept: &GridBoxes,
+    heaps: Option<&BucketList>,
+    query: &Query,
+    out: &mut Vec<u32>,
+) -> Result<(), NoMemory>
     ensures ok { OnOk result (out.new.items ≡ out.old.items ++ found kept.now query.now) }
     ensures err { OnErr result (out.new.items ≡ out.old.items) }
 {
     kept.space_law();
     let region = query.region();
     match query {
-        Query::Region(body) => push_region_hits(kept, body, body, out),
-        Query::Spot(_) => push_region_hits(kept, &region, query, out),
+        Query::Region(body) => push_region_hits(kept, heaps, body, body, out),
+        Query::Spot(_) => push_region_hits(kept, heaps, &region, query, out),
         Query::Swept(cast) => push_cast_hits(kept, &region, cast, out),
         Query::Along(_) | Query::Between(_) => push_line_hits(kept, &region, query, out),
     }
@@ -36,6 +42,7 @@ pub(crate) fn push_hits(kept: &GridBoxes, query: &Query, out: &mut Vec<u32>) -> 
 // The same for a query that is tested against the boxes near its region.
 fn push_region_hits<T: BoxTest>(
     kept: &GridBoxes,
+    heaps: Option<&BucketList>,
     region: &FBox,
     test: &T,
     out: &mut Vec<u32>,
@@ -45,7 +52,7 @@ fn push_region_hits<T: BoxTest>(
     ensures err { OnErr result (out.new.items ≡ out.old.items) }
 {
     let before = out.len();
-    if let Err(e) = kept.push_candidates(region, &mut 0, out) {
+    if let Err(e) = kept.push_candidates(region, heaps, &mut 0, out) {
         out.truncate(before);
         return Err(e);
     }
@@ -133,6 +140,7 @@ fn is_found<T: BoxTest>(boxes: &SlotBoxes, slot: u32, test: &T) -> bool
 /// compared. After an `Err` `out` is as before.
 pub(crate) fn push_reach(
     kept: &GridBoxes,
+    heaps: Option<&BucketList>,
     own: &SlotBox,
     out: &mut Vec<u32>,
 ) -> Result<u32, NoMemory>
@@ -142,7 +150,7 @@ pub(crate) fn push_reach(
 {
     let before = out.len();
     let mut looked = 0;
-    if let Err(e) = kept.push_candidates(&own.body, &mut looked, out) {
+    if let Err(e) = kept.push_candidates(&own.body, heaps, &mut looked, out) {
         out.truncate(before);
         return Err(e);
     }

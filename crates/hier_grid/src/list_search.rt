@@ -3,21 +3,17 @@
 ghost use Rattle.std.specs.Prelude.{◌≡◌, ◌<◌, ◌≤◌, true, max, OnOk};
 ghost use Rattle.fixed_box.specs.Bounds.{Bounds, level_of};
 ghost use Rattle.grid_boxes.specs.Buckets.{HasBuckets};
-ghost use Rattle.grid_cells.specs.Cells.{cell_of};
-ghost use Rattle.hier_grid.specs.Search.{Finds, FindsAll, IsDue, IsDueBeside};
+ghost use Rattle.hier_grid.specs.Search.{Finds, FindsAll, IsDue, IsLaterBeside, IsOther};
 ghost use Rattle.grid_boxes.specs.Candidates.{IsEnd};
-ghost use Rattle.grid_cells.specs.Cells.{standing_cell};
+ghost use Rattle.grid_cells.specs.Cells.{cell_of, standing_cell};
 
-use crate::copy_search::{block_pairs, later_pairs, row_pairs};
+use crate::copy_search::{block_pairs, later_pairs, pairs_behind, row_pairs};
 use crate::grid_findings::GridFindings;
 use cell_table::LEVELS;
 use fixed_box::NoMemory;
-use grid_boxes::{BucketBoxes, GridBoxes, SlotBox};
-use grid_cells::{block_beside, cell_in, cells_after, row_of};
+use grid_boxes::{BOXES_PER_SCANNED, BucketBoxes, GridBoxes, SlotBox};
+use grid_cells::{block_beside, cells_after, row_of, standing_cell};
 use std::marker::Model;
-
-// A scan of a level passes by so many boxes in the time of one comparison among the copies.
-const BOXES_PER_SCANNED: usize = 8;
 
 /// What a search for pairs reads where all boxes are listed by bucket.
 #[derive(Drop)]
@@ -52,58 +48,130 @@ impl ListSearch<'_> {
         ListSearch { kept, boxes, end }
     }
 
-    /// Finds the pairs of all boxes, each from the box whose cell comes first as they stand here, and answers how many boxes
-    /// were compared. Two boxes of a level that is scanned, or of cells that share a bucket, may both pairs_due their pair. They
-    /// are searched in the order of their buckets, so that a search reads much of what the one before it read.
+    /// Finds the pairs of all boxes, each from the box whose cell comes first as they stand here, or in one cell from the box
+    /// that stands first, and answers how many boxes were compared. Two boxes of a level that is scanned, or of cells that share
+    /// a bucket, may both find their pair. They are searched in the order of their buckets, so that a search reads much of what
+    /// the one before it read.
     pub(crate) fn pairs_of_all(&self, found: &mut GridFindings) -> Result<u64, NoMemory>
         ensures { OnOk result (FindsAll self.now.bodies found.new.pairs.items) }
     {
+        // asked once, not for each row
+        if self.boxes.copies().has_columns() {
+            self.pairs_of_all_in_heaps(found)
+        } else {
+            self.pairs_of_all_in::<false>(found)
+        }
+    }
+
+    // The same where boxes lie in heaps. Few do: so it stands apart from the code of the others.
+    #[inline(never)]
+    fn pairs_of_all_in_heaps(&self, found: &mut GridFindings) -> Result<u64, NoMemory>
+        ensures { OnOk result (FindsAll self.now.bodies found.new.pairs.items) }
+    {
+        self.pairs_of_all_in::<true>(found)
+    }
+
+    // The same, long rows by eights or not.
+    #[inline(always)]
+    fn pairs_of_all_in<const BY_EIGHTS: bool>(
+        &self,
+        found: &mut GridFindings,
+    ) -> Result<u64, NoMemory>
+        ensures { OnOk result (FindsAll self.now.bodies found.new.pairs.items) }
+    {
         found.clear();
-        let mut rest = self.boxes.entries();
-        'boxes: while let [own, more @ ..] = rest {
-            self.pairs_of_standing(own, found)?;
-            rest = more;
+        let copies = self.boxes.copies();
+        let mut place = 0;
+        'boxes: while place < copies.len() {
+            let own = &copies.entries()[place];
+            place += 1;
+            // for both parts, so that it is found once
+            let level = own.body.level().max(self.boxes.floor);
+            pairs_behind::<BY_EIGHTS>(self.boxes, place, own, &mut found.looked, &mut found.pairs)?;
+            self.pairs_elsewhere::<BY_EIGHTS>(level, own, found)?;
         }
         Ok(found.looked)
     }
 
-    /// Finds the pairs of a slot with those partners that it is to pairs_due by the cells of their boxes, wherever these stand. So
+    /// Finds the pairs of a slot with those partners that it is to find by the cells of their boxes, wherever these stand. So
     /// what a piece of the slots finds is told by the boxes alone.
     pub(crate) fn pairs_due(&self, own: &SlotBox, found: &mut GridFindings) -> Result<(), NoMemory>
         ensures { OnOk result (Finds self.now.bodies own.now true (IsDue cell_of own.now.slot own.now.body)
             found.old.pairs.items found.new.pairs.items) }
     {
-        if own.body.level() < self.boxes.floor {
-            self.pairs_of_raised(own, found)
+        if self.boxes.copies().has_columns() {
+            self.pairs_due_in_heaps(own, found)
         } else {
-            self.pairs_of_standing(own, found)
+            self.pairs_due_in::<false>(own, found)
+        }
+    }
+
+    // The same where boxes lie in heaps.
+    #[inline(never)]
+    fn pairs_due_in_heaps(&self, own: &SlotBox, found: &mut GridFindings) -> Result<(), NoMemory>
+        ensures { OnOk result (Finds self.now.bodies own.now true (IsDue cell_of own.now.slot own.now.body)
+            found.old.pairs.items found.new.pairs.items) }
+    {
+        self.pairs_due_in::<true>(own, found)
+    }
+
+    // The same, long rows by eights or not.
+    #[inline(always)]
+    fn pairs_due_in<const BY_EIGHTS: bool>(
+        &self,
+        own: &SlotBox,
+        found: &mut GridFindings,
+    ) -> Result<(), NoMemory>
+        ensures { OnOk result (Finds self.now.bodies own.now true (IsDue cell_of own.now.slot own.now.body)
+            found.old.pairs.items found.new.pairs.items) }
+    {
+        if own.body.level() < self.boxes.floor {
+            self.pairs_of_raised::<BY_EIGHTS>(own, found)
+        } else {
+            self.pairs_of_standing::<BY_EIGHTS>(own, found)
         }
     }
 
     // The same where the slot's box stands above its own level. Its partners there of lower levels are found too: so a pair
     // of boxes that both stand there is found twice.
-    fn pairs_of_raised(&self, own: &SlotBox, found: &mut GridFindings) -> Result<(), NoMemory>
+    fn pairs_of_raised<const BY_EIGHTS: bool>(
+        &self,
+        own: &SlotBox,
+        found: &mut GridFindings,
+    ) -> Result<(), NoMemory>
         ensures { OnOk result (Finds self.now.bodies own.now true (IsDue cell_of own.now.slot own.now.body)
             found.old.pairs.items found.new.pairs.items) }
     {
-        self.pairs_beside(self.boxes.floor, own, found)?;
-        self.pairs_from_level(self.boxes.floor + 1, own, found)?;
+        self.pairs_beside::<BY_EIGHTS>(self.boxes.floor, own, found)?;
+        self.pairs_from_level::<BY_EIGHTS>(self.boxes.floor + 1, own, found)?;
         Ok(())
     }
 
-    // Finds the pairs of a slot with those partners that it is to pairs_due by the cells in which their boxes stand.
-    fn pairs_of_standing(&self, own: &SlotBox, found: &mut GridFindings) -> Result<(), NoMemory>
+    // Finds the pairs of a slot with those partners that it is to find by the cells in which their boxes stand.
+    fn pairs_of_standing<const BY_EIGHTS: bool>(
+        &self,
+        own: &SlotBox,
+        found: &mut GridFindings,
+    ) -> Result<(), NoMemory>
         ensures { OnOk result (Finds self.now.bodies own.now true (IsDue (standing_cell self.now.floor) own.now.slot own.now.body)
             found.old.pairs.items found.new.pairs.items) }
     {
+        let cell = row_of(&standing_cell(self.boxes.floor, &own.body));
+        row_pairs::<BY_EIGHTS>(
+            self.boxes,
+            own,
+            false,
+            &cell,
+            &mut found.looked,
+            &mut found.pairs,
+        )?;
         let level = own.body.level().max(self.boxes.floor);
-        self.pairs_on_own_level(level, own, found)?;
-        self.pairs_from_level(level + 1, own, found)?;
+        self.pairs_elsewhere::<BY_EIGHTS>(level, own, found)?;
         Ok(())
     }
 
-    // The same with those that stand at the slot's level.
-    fn pairs_on_own_level(
+    // Finds the pairs of a slot with its partners in later cells of the level at which it stands, and at those above it.
+    fn pairs_elsewhere<const BY_EIGHTS: bool>(
         &self,
         level: u8,
         own: &SlotBox,
@@ -111,13 +179,30 @@ impl ListSearch<'_> {
     ) -> Result<(), NoMemory>
         requires low { level < LEVELS }
         requires level { level ≡ max (level_of own.now.body) self.now.floor }
-        ensures { OnOk result (Finds self.now.bodies own.now true (IsDueBeside (standing_cell self.now.floor) own.now.slot own.now.body)
+        ensures { OnOk result (Finds self.now.bodies own.now true (λ _ b. IsOther (standing_cell self.now.floor) own.now.body b)
+            found.old.pairs.items found.new.pairs.items) }
+    {
+        self.pairs_on_own_level::<BY_EIGHTS>(level, own, found)?;
+        self.pairs_from_level::<BY_EIGHTS>(level + 1, own, found)?;
+        Ok(())
+    }
+
+    // The same at the level itself.
+    fn pairs_on_own_level<const BY_EIGHTS: bool>(
+        &self,
+        level: u8,
+        own: &SlotBox,
+        found: &mut GridFindings,
+    ) -> Result<(), NoMemory>
+        requires low { level < LEVELS }
+        requires level { level ≡ max (level_of own.now.body) self.now.floor }
+        ensures { OnOk result (Finds self.now.bodies own.now true (λ _ b. IsLaterBeside (standing_cell self.now.floor) own.now.body b)
             found.old.pairs.items found.new.pairs.items) }
     {
         if self.is_scanned(level, own) {
             self.pairs_by_scan(level, own, found)
         } else {
-            self.pairs_after_own_cell(level, own, found)
+            self.pairs_after_own_cell::<BY_EIGHTS>(level, own, found)
         }
     }
 
@@ -130,7 +215,7 @@ impl ListSearch<'_> {
     }
 
     // The same by the cells beside the slot's box.
-    fn pairs_after_own_cell(
+    fn pairs_after_own_cell<const BY_EIGHTS: bool>(
         &self,
         level: u8,
         own: &SlotBox,
@@ -138,27 +223,23 @@ impl ListSearch<'_> {
     ) -> Result<(), NoMemory>
         requires low { level < LEVELS }
         requires level { level ≡ max (level_of own.now.body) self.now.floor }
-        ensures { OnOk result (Finds self.now.bodies own.now true (IsDueBeside (standing_cell self.now.floor) own.now.slot own.now.body)
+        ensures { OnOk result (Finds self.now.bodies own.now true (λ _ b. IsLaterBeside (standing_cell self.now.floor) own.now.body b)
             found.old.pairs.items found.new.pairs.items) }
     {
         self.kept.sized_law();
-        let looked = &mut found.looked;
-        let pairs = &mut found.pairs;
-        let cell = row_of(&cell_in(level, &own.body));
-        row_pairs(self.boxes, own, false, &cell, looked, pairs)?;
-        later_pairs(
+        later_pairs::<BY_EIGHTS>(
             self.boxes,
             own,
             &cells_after(level, &own.body),
-            looked,
-            pairs,
+            &mut found.looked,
+            &mut found.pairs,
         )?;
         Ok(())
     }
 
     // Finds the pairs of a slot with its partners at the levels from one on.
     #[inline(always)]
-    fn pairs_from_level(
+    fn pairs_from_level<const BY_EIGHTS: bool>(
         &self,
         first: u8,
         own: &SlotBox,
@@ -168,13 +249,13 @@ impl ListSearch<'_> {
         ensures { OnOk result (Finds self.now.bodies own.now true (λ _ b. first ≤ level_of b) found.old.pairs.items found.new.pairs.items) }
     {
         'levels: for level in first..self.end {
-            self.pairs_on_level(level, own, found)?;
+            self.pairs_on_level::<BY_EIGHTS>(level, own, found)?;
         }
         Ok(())
     }
 
     // Finds the pairs of a slot with its partners at a level.
-    fn pairs_on_level(
+    fn pairs_on_level<const BY_EIGHTS: bool>(
         &self,
         level: u8,
         own: &SlotBox,
@@ -190,7 +271,7 @@ impl ListSearch<'_> {
         if self.kept.has_few_beside(level, &own.body) || self.is_crowded(level, own) {
             self.pairs_by_scan(level, own, found)?;
         } else {
-            self.pairs_beside(level, own, found)?;
+            self.pairs_beside::<BY_EIGHTS>(level, own, found)?;
         }
         Ok(())
     }
@@ -224,7 +305,7 @@ impl ListSearch<'_> {
     }
 
     // Finds the pairs of a slot with its partners that stand at a level, by all cells beside its box.
-    fn pairs_beside(
+    fn pairs_beside<const BY_EIGHTS: bool>(
         &self,
         level: u8,
         own: &SlotBox,
@@ -236,7 +317,7 @@ impl ListSearch<'_> {
     {
         self.kept.sized_law();
         let block = block_beside(level, &own.body);
-        block_pairs(self.boxes, own, &block, &mut found.looked, &mut found.pairs)?;
+        block_pairs::<BY_EIGHTS>(self.boxes, own, &block, &mut found.looked, &mut found.pairs)?;
         Ok(())
     }
 }

@@ -10,14 +10,14 @@ use Rattle.grid_cells.specs.Cells.{standing_cell}
 use Rattle.hier_grid.proofs.copy_search.block_pairs.Goals as goal
 
 pub block-init : goal.block-init
-block-init c bodies filled = record {
+block-init g c bodies filled = record {
   sound = λ own s. s;
   more = λ p h. h;
   found = λ q b e at m other due. absurd (omega (arith, ints, at.low_x, at.high_x));
 }
 
 pub block-preserved : goal.block-preserved
-block-preserved c bodies filled =
+block-preserved g c bodies filled =
     let block = c.args.block.now in
     let cell = standing_cell c.args.boxes.now.floor in
     let slot = c.args.own.now.slot in
@@ -50,7 +50,7 @@ block-preserved c bodies filled =
     }
 
 pub returns : goal.returns
-returns c bodies filled =
+returns g c bodies filled =
     let all = c.block.invariant bodies filled in
     record {
       sound = all.sound;

@@ -5,5 +5,5 @@ use Rattle.grid_cells.specs.Cells.{IsInBlock}
 use Rattle.hier_grid.proofs.copy_search.block_pairs.Given as goal
 
 abbrev pub invariant-block : goal.invariant-block
-invariant-block l =
+invariant-block g l =
     FindsIn l.boxes l.own true (IsInBlock (record l.block { end = record l.block.end { x = l.x } })) l.fn.pairs.items l.pairs.items

@@ -7,7 +7,7 @@ use Rattle.grid_cells.specs.Cells.{standing_cell}
 use Rattle.hier_grid.proofs.copy_search.later_pairs.Goals as goal
 
 pub returns : goal.returns
-returns c bodies filled =
+returns g c bodies filled =
     let cell = standing_cell c.args.boxes.now.floor in
     let slot = c.args.own.now.slot in
     let first = c.args.cells.now.row in

@@ -8,14 +8,14 @@ use Rattle.grid_cells.specs.Cells.{standing_cell}
 use Rattle.hier_grid.proofs.copy_search.plane_pairs.Goals as goal
 
 pub plane-init : goal.plane-init
-plane-init c bodies filled = record {
+plane-init g c bodies filled = record {
   sound = λ own s. s;
   more = λ p h. h;
   found = λ q b e at m other due. absurd (omega (arith, ints, at.low_y, at.high_y));
 }
 
 pub plane-preserved : goal.plane-preserved
-plane-preserved c bodies filled =
+plane-preserved g c bodies filled =
     let from = c.args.from.now in
     let cell = standing_cell c.args.boxes.now.floor in
     let slot = c.args.own.now.slot in
@@ -36,7 +36,7 @@ plane-preserved c bodies filled =
     }
 
 pub returns : goal.returns
-returns c bodies filled =
+returns g c bodies filled =
     let all = c.plane.invariant bodies filled in
     record {
       sound = all.sound;

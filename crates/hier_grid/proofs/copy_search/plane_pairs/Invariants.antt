@@ -5,4 +5,4 @@ use Rattle.grid_cells.specs.Cells.{IsInPlane}
 use Rattle.hier_grid.proofs.copy_search.plane_pairs.Given as goal
 
 abbrev pub invariant-plane : goal.invariant-plane
-invariant-plane l = FindsIn l.boxes l.own true (IsInPlane l.from (record l.end { y = l.y })) l.fn.pairs.items l.pairs.items
+invariant-plane g l = FindsIn l.boxes l.own true (IsInPlane l.from (record l.end { y = l.y })) l.fn.pairs.items l.pairs.items

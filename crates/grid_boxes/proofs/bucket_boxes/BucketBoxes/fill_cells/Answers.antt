@@ -1,13 +1,14 @@
 -- The slots that are listed are those that have boxes.
-use Rattle.std.proofs.Common.{◌<◌, length, get_or, ap, sym, ◌∙◌, subst}
+use Rattle.std.proofs.Common.{◌≡◌, ◌<◌, length, get_or, ap, sym, ◌∙◌, subst}
 use Rattle.std.specs.FinMap.{contains_key}
 use Rattle.std.proofs.lemmas.List.{get_or_default}
 use Rattle.grid_boxes.specs.Buckets.{AreOf}
+use Rattle.grid_boxes.specs.Copies.{slots_of}
 use Rattle.grid_boxes.proofs.StandingLemmas.{same_standing}
 use Rattle.grid_boxes.proofs.bucket_boxes.BucketBoxes.fill_cells.Goals as goal
 
-pub list_boxes-requires : goal.list_boxes-requires
-list_boxes-requires c k d l =
+pub copy_boxes-requires : goal.copy_boxes-requires
+copy_boxes-requires c k d l =
     let cells = c.args.cells.now in
     let slots = c.fill.new.self.slots in
     let is = c.slots.ensures in
@@ -19,11 +20,14 @@ list_boxes-requires c k d l =
     ∙ c.in_ok-fill.ensures.ok.present k within
 
 pub returns-clause-filled : goal.returns-clause-filled
-returns-clause-filled c = record {
-  cells = c.args.cells.now;
-  low = c.requires.low;
-  keyed = c.requires.standing;
-  listed = c.in_ok-fill.ensures.ok;
-  same = c.in_ok-list_boxes.ensures.same ∙ c.slots.ensures;
-  right = subst (λ m. AreOf m c.list_boxes.new.out.items) c.boxes.ensures c.in_ok-list_boxes.ensures.right;
-}
+returns-clause-filled c =
+    let is : c.put_in_columns.new.self ≡ c.copy_boxes.new.self = c.put_in_columns.ensures in
+    record {
+      cells = c.args.cells.now;
+      low = c.requires.low;
+      keyed = c.requires.standing;
+      listed = c.in_ok-fill.ensures.ok;
+      same = ap slots_of is ∙ c.in_ok-copy_boxes.ensures.same ∙ c.slots.ensures;
+      right = subst (AreOf c.args.kept.now) (sym is)
+          (subst (λ m. AreOf m c.copy_boxes.new.self) c.boxes.ensures c.in_ok-copy_boxes.ensures.right);
+    }

@@ -9,7 +9,7 @@ use Rattle.grid_cells.specs.CellLaws.{met_low}
 use Rattle.hier_grid.proofs.list_search.ListSearch.pairs_beside.Goals as goal
 
 pub returns : goal.returns
-returns c =
+returns g c =
     let level = c.args.level in
     let own = c.args.own.now in
     let old = c.args.found.now.pairs.items in

@@ -9,16 +9,16 @@ use Rattle.broad_index.specs.Touched.{ordered}
 use Rattle.hier_grid.proofs.list_search.ListSearch.pairs_from_level.Goals as goal
 
 pub levels-init : goal.levels-init
-levels-init c = record {
+levels-init g c = record {
   low = omega arith;
   finds = record { sound = λ own s. s; more = λ p h. h; found = λ q b e at m other any. absurd (omega (arith, at.0, at.1)) };
 }
 
 pub pairs_on_level-requires-clause-high : goal.pairs_on_level-requires-clause-high
-pairs_on_level-requires-clause-high c = omega (arith, c.levels.invariant.low, c.requires)
+pairs_on_level-requires-clause-high g c = omega (arith, c.levels.invariant.low, c.requires)
 
 pub levels-preserved : goal.levels-preserved
-levels-preserved c =
+levels-preserved g c =
     let slot = c.args.own.now.slot in
     let new = c.pairs_on_level.new.found.pairs.items in
     let before = c.levels.invariant.finds in
@@ -36,7 +36,7 @@ levels-preserved c =
     }
 
 pub returns : goal.returns
-returns c =
+returns g c =
     let all = c.levels.invariant.finds in
     record {
       sound = all.sound;

@@ -5,7 +5,7 @@ use Rattle.hier_grid.specs.Search.{Finds}
 use Rattle.hier_grid.proofs.list_search.ListSearch.pairs_from_level.Given as goal
 
 abbrev pub invariant-levels : goal.invariant-levels
-invariant-levels l = record {
+invariant-levels g l = record {
   low : l.first ≤ l.level;
   finds : Finds l.self.bodies l.own true (λ _ b. (l.first ≤ level_of b) × (level_of b < l.level)) l.fn.found.pairs.items l.found.pairs.items;
 }

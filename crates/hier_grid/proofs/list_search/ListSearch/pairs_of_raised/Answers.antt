@@ -8,7 +8,7 @@ use Rattle.hier_grid.specs.Listing.{Standing}
 use Rattle.hier_grid.proofs.list_search.ListSearch.pairs_of_raised.Goals as goal
 
 pub returns : goal.returns
-returns c =
+returns g c =
     let own = c.args.own.now in
     let new = c.pairs_from_level.new.found.pairs.items in
     let floor = c.self.inside.boxes.now.floor in

@@ -6,7 +6,7 @@ use Rattle.hier_grid.specs.Search.{Finds}
 use Rattle.hier_grid.proofs.list_search.ListSearch.pairs_on_own_level.Goals as goal
 
 pub returns-then-is_scanned : goal.returns-then-is_scanned
-returns-then-is_scanned c =
+returns-then-is_scanned g c =
     let level = c.args.level in
     let old = c.args.found.now.pairs.items in
     let new = c.pairs_by_scan.new.found.pairs.items in

@@ -2,8 +2,8 @@
 use Rattle.std.proofs.Common.{◌≡◌, ◌∙◌, ◌++◌, [], ap, sym, subst, filter_map, rules}
 use Rattle.grid_boxes.specs.Buckets.{AreOf, boxed}
 use Rattle.grid_boxes.proofs.BucketLemmas.{all_boxed}
-use Rattle.grid_boxes.specs.Buckets.{slots_of}
-use Rattle.grid_boxes.proofs.bucket_boxes.list_boxes.Goals as goal
+use Rattle.grid_boxes.specs.Copies.{slots_of}
+use Rattle.grid_boxes.proofs.box_copies.BoxCopies.copy_boxes.Goals as goal
 
 pub returns : goal.returns
 returns c =

@@ -6,10 +6,10 @@ use Rattle.hier_grid.specs.Listing.{Standing}
 use Rattle.hier_grid.specs.Search.{Finds, IsDue}
 use Rattle.grid_cells.specs.Cells.{standing_cell}
 use Rattle.hier_grid.proofs.DueLemmas.{due_stands}
-use Rattle.hier_grid.proofs.list_search.ListSearch.pairs_due.Goals as goal
+use Rattle.hier_grid.proofs.list_search.ListSearch.pairs_due_in.Goals as goal
 
 pub returns-else-level-self : goal.returns-else-level-self
-returns-else-level-self c =
+returns-else-level-self g c =
     let own = c.args.own.now in
     let bodies = c.args.self.now.bodies in
     let floor = c.args.self.now.floor in
