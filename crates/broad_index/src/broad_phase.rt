@@ -154,7 +154,7 @@ pub trait BroadPhase {
         ensures ok { OnOk result (out.new.items ≡ out.old.items ++ found (bodies self.now) query.now) }
         ensures err { OnErr result (out.new.items ≡ out.old.items) };
 
-    /// Shows the present boxes to a visitor, except those that need not be shown. After an `Err` the visitor has seen some.
+    /// Shows the present boxes to a visitor, except those that need not be shown. After an `Err` nothing is said of the visitor.
     ///
     /// A structure whose `descends` is true passes by what the visitor doesn't admit, and looks into what it prefers first. The
     /// others ask for the visitor's query and show what that finds, in order of slots, for which a list is taken from `alloc`.

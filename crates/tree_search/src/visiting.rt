@@ -14,7 +14,7 @@ use fixed_box::{FBox, NoMemory, box_laws};
 use tree_nodes::{Nodes, Role};
 
 /// Shows the boxes of a tree to a visitor, except those in hulls that it doesn't admit. A hull is asked as its turn comes, so
-/// that what was found meanwhile counts. After an `Err` the visitor has seen some.
+/// that what was found meanwhile counts. After an `Err` nothing is said of the visitor.
 pub fn show_boxes<V: Visitor>(boxes: &BoxedTree, visitor: &mut V) -> Result<(), NoMemory>
     ensures seen { OnOk result ((seen : List (ℕ × Bounds)) → V.saw visitor.old seen
         → V.saw visitor.new (seen ++ exact_in boxes.now.bodies boxes.now.tree)) }
