@@ -4,3 +4,5 @@ pub mod CellLaws
 pub mod Cells
 pub mod Sized
 pub mod SlotLaws
+pub mod WalkLaws
+pub mod Walks

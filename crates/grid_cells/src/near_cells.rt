@@ -1,13 +1,17 @@
 //! The neighbour cells of a region on one level, and the slots in them.
 
-ghost use Rattle.std.specs.Prelude.{◌≡◌, pos, ◌+ℤ◌, ◌-ℤ◌, ◌<◌, ◌≤ℤ◌, ◌<ℤ◌, OnOk, OnErr};
+ghost use Rattle.std.proofs.Common.{◌∙◌};
+ghost use Rattle.std.specs.Prelude.{◌≡◌, refl, pos, ◌+ℤ◌, ◌-ℤ◌, ◌<◌, ◌≤ℤ◌, ◌<ℤ◌, OnOk, OnErr};
 ghost use Rattle.cell_table.specs.declared.cell_key.CellKey as key;
 ghost use Rattle.grid_cells.specs.Cells.{cell_at, cell_on, IsAfter, IsAmong, IsBeside, IsInBlock, IsInPlane, IsInRow};
 ghost use Rattle.grid_cells.specs.Appended.{Appends, HasCells, Stays};
+ghost use Rattle.grid_cells.specs.Walks.{IsInOne};
+ghost use Rattle.grid_cells.specs.WalkLaws.{slots_nowhere, slots_twice, slots_stay};
 
 use crate::cell::cell_at;
 use crate::cell_block::CellBlock;
 use crate::cell_row::CellRow;
+use crate::cell_walk::{RowSearch, search_block, search_later};
 use crate::later_cells::LaterCells;
 use cell_table::{CellKey, CellTable, LEVELS};
 use fixed_box::{FBox, Fix, NoMemory};
@@ -45,6 +49,41 @@ pub fn block_beside(level: u8, region: &FBox) -> CellBlock
     }
 }
 
+// The slots of rows, appended to a list.
+#[derive(Drop)]
+struct RowSlots<'a> {
+    table: &'a CellTable,
+    out: &'a mut Vec<u32>,
+}
+
+impl RowSearch for RowSlots<'_> {
+    ghost searched = { λ rows a b. (b.out.ghost_name ≡ a.out.ghost_name) × ((b.table.now ≡ a.table.now)
+        × Appends (HasCells a.table.now (IsInOne rows)) a.out.now.items b.out.now.items) };
+
+    ghost stopped = { λ a b. (b.out.ghost_name ≡ a.out.ghost_name) × Stays a.out.now.items b.out.now.items };
+
+    fn search_row(&mut self, row: &CellRow) -> Result<(), NoMemory> {
+        visit_row(self.table, row, self.out)
+    }
+
+    ghost none = { λ s. (refl, (refl, slots_nowhere s.table.now s.out.now.items)) };
+
+    ghost both = { λ xs ys a b c f g. (
+      g.0 ∙ f.0,
+      (
+        g.1.0 ∙ f.1.0,
+        slots_twice a.table.now b.table.now xs ys a.out.now.items
+            b.out.now.items c.out.now.items f.1.0 f.1.1 g.1.1,
+      ),
+    ) };
+
+    ghost stops = { λ rows a b c f g. (
+      g.0 ∙ f.0,
+      slots_stay (HasCells a.table.now (IsInOne rows)) a.out.now.items b.out.now.items
+          c.out.now.items f.1.1 g.1,
+    ) };
+}
+
 /// Appends the slots in those cells that come later, and others that share their buckets.
 pub fn visit_later(
     table: &CellTable,
@@ -54,14 +93,7 @@ pub fn visit_later(
     ensures ok { OnOk result (Appends (HasCells table.now (IsAmong cells.now)) out.old.items out.new.items) }
     ensures err { OnErr result (Stays out.old.items out.new.items) }
 {
-    let block = CellBlock {
-        from: cells.block,
-        end: cells.end,
-    };
-    let row = row_at(&cells.row, cells.row.y, &cells.end);
-    visit_row(table, &row, out)?;
-    visit_plane(table, &cells.plane, &cells.end, out)?;
-    visit_block(table, &block, out)
+    search_later(cells, &mut RowSlots { table, out })
 }
 
 /// Appends the slots in a block of cells, and others that share their buckets.
@@ -69,26 +101,7 @@ pub fn visit_block(table: &CellTable, block: &CellBlock, out: &mut Vec<u32>) -> 
     ensures ok { OnOk result (Appends (HasCells table.now (IsInBlock block.now)) out.old.items out.new.items) }
     ensures err { OnErr result (Stays out.old.items out.new.items) }
 {
-    'block: for x in block.from.x..block.end.x {
-        visit_plane(table, &with_x(&block.from, x), &block.end, out)?;
-    }
-    Ok(())
-}
-
-// The same of the cells at one x, from one corner on and below another.
-fn visit_plane(
-    table: &CellTable,
-    from: &CellKey,
-    end: &CellKey,
-    out: &mut Vec<u32>,
-) -> Result<(), NoMemory>
-    ensures ok { OnOk result (Appends (HasCells table.now (IsInPlane from.now end.now)) out.old.items out.new.items) }
-    ensures err { OnErr result (Stays out.old.items out.new.items) }
-{
-    'plane: for y in from.y..end.y {
-        visit_row(table, &row_at(from, y, end), out)?;
-    }
-    Ok(())
+    search_block(block, &mut RowSlots { table, out })
 }
 
 /// Appends the slots in a row of cells, and others that share their buckets. After an `Err` `out` is as before.
