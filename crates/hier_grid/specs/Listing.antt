@@ -41,10 +41,9 @@ pairs_up own any e = not (e.slot == own.slot) && (any || nat_lt own.slot e.slot)
 abbrev pub met_pairs : SlotBox → Bool → List SlotBox → List Pair
 met_pairs own any entries = map (λ e. ordered own.slot e.slot) (filter (pairs_up own any) entries)
 
--- what a search of a slot finds in some cells, whichever boxes were copied
-abbrev pub FindsIn : BucketBoxes → SlotBox → Bool → (CellKey → Type 0) → List Pair → List Pair → Type 0
-FindsIn boxes own any IsThere old new =
-    (bodies : FinMap nat_cmp Bounds) → HasBuckets bodies boxes → Finds bodies own any (λ _ b. IsThere (standing_cell boxes.floor b)) old new
+-- what a search of a slot finds in some cells
+abbrev pub FindsIn : Standing → SlotBox → Bool → (CellKey → Type 0) → List Pair → List Pair → Type 0
+FindsIn boxes own any IsThere old new = Finds boxes.bodies own any (λ _ b. IsThere (standing_cell boxes.floor b)) old new
 
 -- what a search of a slot finds in its cell from a place on: each partner there that doesn't stand before it
 abbrev pub FindsBehind : BucketBoxes → ℕ → SlotBox → List Pair → List Pair → Type 0

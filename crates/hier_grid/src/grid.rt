@@ -8,10 +8,10 @@ ghost use Rattle.grid_boxes.specs.Grid.{AreKeyed};
 ghost use Rattle.hier_grid.specs.Search.{FindsRun};
 ghost use Rattle.slot_lists.specs.Present.{present};
 
-use crate::grid_findings::GridFindings;
+use crate::found::Found;
 use crate::grid_listing::GridListing;
+use crate::grid_search::GridSearch;
 use crate::hits::{push_hits, push_reach};
-use crate::pair_search::PairSearch;
 use broad_index::{
     BroadPhase, FEWEST_SOUGHT, Pair, PairSeeker, Query, Seeker, join_pieces, push_rising_pairs,
     settle_pairs,
@@ -58,7 +58,7 @@ pub struct HierGrid {
     kept: GridBoxes,
     listing: GridListing,
     slots: Vec<u32>,
-    found: GridFindings,
+    found: Found,
     looked: u64,
 }
 
@@ -87,7 +87,7 @@ impl HierGrid {
             kept: GridBoxes::new(alloc)?,
             listing: GridListing::new(alloc),
             slots: Vec::new(alloc),
-            found: GridFindings::new(alloc),
+            found: Found::new(alloc),
             looked: 0,
         })
     }
@@ -133,8 +133,8 @@ impl PairSeeker for HierGrid {
 
     /// Answers the number of comparisons of two exact boxes.
     fn seek_pairs(&self, alloc: Global, slots: &[u32]) -> Result<(Vec<Pair>, u64), NoMemory> {
-        let mut found = GridFindings::new(alloc);
-        let search = PairSearch::new(&self.kept, &self.listing);
+        let mut found = Found::new(alloc);
+        let search = GridSearch::new(&self.kept, &self.listing);
         let looked = search.pairs_of_run(slots, &mut found)?;
         // in this thread, so that the pieces are only merged behind
         settle_pairs(&mut found.pairs);
@@ -204,7 +204,7 @@ impl BroadPhase for HierGrid {
     fn pairs(&mut self, out: &mut Vec<Pair>) -> Result<(), NoMemory> {
         let many = self.kept.boxes().len() >= LISTED_FROM;
         self.listing.renew(&self.kept, many)?;
-        let search = PairSearch::new(&self.kept, &self.listing);
+        let search = GridSearch::new(&self.kept, &self.listing);
         let looked = search.all_pairs(&mut self.slots, &mut self.found)?;
         push_rising_pairs(&mut self.found.pairs, out)?;
         self.looked = self.looked.saturating_add(looked);

@@ -1,17 +1,21 @@
 //! A hashed hierarchical grid: boxes in cells of eleven levels, by how long they are and where (Ericson, *Real-Time
 //! Collision Detection*, 2005, 7.2).
 //!
-//! `grid` has the broad phase. Its pairs come from `pair_search`: along copies of all boxes in the order of buckets
-//! (`list_search`, `copy_search`), or along the rings of links; its queries from `hits`.
+//! `grid` has the broad phase. `pair_search` is the search for all pairs along copies of all boxes in the order of buckets, and
+//! `cell_pairs` goes through the cells for it; `ring_search` follows the rings of links instead. Queries come from `hits`.
 #![tactic(auto)]
 
-mod copy_search;
+mod cell_pairs;
+mod due_pairs;
+mod found;
 mod grid;
-mod grid_findings;
 mod grid_listing;
+mod grid_search;
 mod hits;
-mod list_search;
+mod level_scan;
 mod pair_search;
 mod partners;
+mod ring_search;
+mod searched;
 
 pub use grid::HierGrid;
