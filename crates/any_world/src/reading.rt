@@ -1,9 +1,10 @@
 //! What such a world tells of itself, and the queries among its live boxes.
 
-ghost use Rattle.std.specs.Prelude.{◌≡◌, ◌≤◌, ◌++◌, true, false, length, min, None, OnOk, OnErr};
+ghost use Rattle.std.specs.Prelude.{◌≡◌, ◌≤◌, ◌++◌, true, false, length, min, None, IfOk, OnOk, OnErr};
 ghost use Rattle.fixed_box.specs.declared.TheConstants.{SLOTS};
 ghost use Rattle.live_table.specs.Entries.{entry_at, live_at};
 ghost use Rattle.live_table.specs.Table.{IsTable};
+ghost use Rattle.live_queries.specs.First.{IsFirstEntered, IsFirstTouched, HasFirst};
 ghost use Rattle.live_queries.specs.Pairs.{hits_of};
 ghost use Rattle.live_queries.specs.Queries.{entered_of, cast_of, nearest_to};
 ghost use Rattle.any_world.specs.AnyWorld.{state_of, structure_of};
@@ -12,7 +13,7 @@ use crate::AnyWorld;
 use box_cast::Cast;
 use broad_index::Query;
 use fixed_box::NoMemory;
-use live_queries::NearQuery;
+use live_queries::{FirstHit, NearQuery};
 use live_table::{Handle, Live, LiveTable};
 use pair_events::{Events, HPair};
 use ray_slabs::Ray;
@@ -219,6 +220,39 @@ impl AnyWorld {
             AnyWorld::Tree(world) => world.cast(cast, mask, out),
             AnyWorld::Grid(world) => world.cast(cast, mask, out),
             AnyWorld::Skin(world) => world.cast(cast, mask, out),
+        }
+    }
+
+    /// The live box that a ray enters first, of the groups that `mask` has, with the place and the face: the first that
+    /// `entered` would tell, and `None` where it would tell none. The tree doesn't look at all that the ray meets, and then
+    /// takes no memory.
+    pub fn first_entered(&self, ray: &Ray, mask: u32) -> Result<Option<FirstHit>, NoMemory>
+        ensures sound { OnOk result ((state_of self.now).spent ≡ false) }
+        ensures first { IfOk result (IsFirstEntered (state_of self.now).time.now.table.entries ray.now mask) }
+        ensures handle { IfOk result (HasFirst (entered_of (state_of self.now).time.now.table.entries ray.now mask)) }
+    {
+        match self {
+            AnyWorld::Plain(world) => world.first_entered(ray, mask),
+            AnyWorld::Sap(world) => world.first_entered(ray, mask),
+            AnyWorld::Tree(world) => world.first_entered(ray, mask),
+            AnyWorld::Grid(world) => world.first_entered(ray, mask),
+            AnyWorld::Skin(world) => world.first_entered(ray, mask),
+        }
+    }
+
+    /// The live box that a box which is cast meets first on its way, of the groups that `mask` has, with the place and the
+    /// face: the first that `cast` would tell, and `None` where it would tell none.
+    pub fn first_cast(&self, cast: &Cast, mask: u32) -> Result<Option<FirstHit>, NoMemory>
+        ensures sound { OnOk result ((state_of self.now).spent ≡ false) }
+        ensures first { IfOk result (IsFirstTouched (state_of self.now).time.now.table.entries cast.now mask) }
+        ensures handle { IfOk result (HasFirst (cast_of (state_of self.now).time.now.table.entries cast.now mask)) }
+    {
+        match self {
+            AnyWorld::Plain(world) => world.first_cast(cast, mask),
+            AnyWorld::Sap(world) => world.first_cast(cast, mask),
+            AnyWorld::Tree(world) => world.first_cast(cast, mask),
+            AnyWorld::Grid(world) => world.first_cast(cast, mask),
+            AnyWorld::Skin(world) => world.first_cast(cast, mask),
         }
     }
 

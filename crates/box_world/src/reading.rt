@@ -1,10 +1,11 @@
 //! What a world tells of itself, and the queries among its live boxes.
 
-ghost use Rattle.std.specs.Prelude.{◌≡◌, ◌≤◌, ◌++◌, true, false, length, min, None, OnOk, OnErr};
+ghost use Rattle.std.specs.Prelude.{◌≡◌, ◌≤◌, ◌++◌, true, false, length, min, None, IfOk, OnOk, OnErr};
 ghost use Rattle.fixed_box.specs.declared.TheConstants.{SLOTS};
 ghost use Rattle.live_table.specs.Bodies.{bodies_of};
 ghost use Rattle.live_table.specs.Entries.{entry_at, live_at};
 ghost use Rattle.live_table.specs.Table.{IsTable};
+ghost use Rattle.live_queries.specs.First.{IsFirstEntered, IsFirstTouched, HasFirst};
 ghost use Rattle.live_queries.specs.Pairs.{hits_of};
 ghost use Rattle.live_queries.specs.Queries.{entered_of, cast_of, nearest_to};
 
@@ -12,7 +13,10 @@ use crate::BoxWorld;
 use box_cast::Cast;
 use broad_index::{BroadPhase, Query};
 use fixed_box::{NoMemory, SLOTS};
-use live_queries::{NearQuery, push_cast, push_entered, push_hits, push_nearest};
+use live_queries::{
+    FirstHit, NearQuery, first_cast, first_entered, push_cast, push_entered, push_hits,
+    push_nearest,
+};
 use live_table::{Handle, Live, LiveTable};
 use pair_events::{Events, HPair};
 use ray_slabs::Ray;
@@ -181,6 +185,45 @@ impl<B: BroadPhase + Drop> BoxWorld<B> {
             mask,
             &self.parts.slots,
             out,
+        )
+    }
+
+    /// The live box that a ray enters first, of the groups that `mask` has, with the place and the face: the first that
+    /// `entered` would tell, and `None` where it would tell none. An index that descends doesn't look at all that the ray
+    /// meets, and then takes no memory.
+    pub fn first_entered(&self, ray: &Ray, mask: u32) -> Result<Option<FirstHit>, NoMemory>
+        ensures sound { OnOk result (self.now.spent ≡ false) }
+        ensures first { IfOk result (IsFirstEntered self.now.time.now.table.entries ray.now mask) }
+        ensures handle { IfOk result (HasFirst (entered_of self.now.time.now.table.entries ray.now mask)) }
+    {
+        if self.spent {
+            return Err(NoMemory);
+        }
+        first_entered(
+            self.parts.alloc,
+            &self.parts.table,
+            &self.parts.index,
+            ray,
+            mask,
+        )
+    }
+
+    /// The live box that a box which is cast meets first on its way, of the groups that `mask` has, with the place and the
+    /// face: the first that `cast` would tell, and `None` where it would tell none.
+    pub fn first_cast(&self, cast: &Cast, mask: u32) -> Result<Option<FirstHit>, NoMemory>
+        ensures sound { OnOk result (self.now.spent ≡ false) }
+        ensures first { IfOk result (IsFirstTouched self.now.time.now.table.entries cast.now mask) }
+        ensures handle { IfOk result (HasFirst (cast_of self.now.time.now.table.entries cast.now mask)) }
+    {
+        if self.spent {
+            return Err(NoMemory);
+        }
+        first_cast(
+            self.parts.alloc,
+            &self.parts.table,
+            &self.parts.index,
+            cast,
+            mask,
         )
     }
 

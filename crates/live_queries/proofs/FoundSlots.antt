@@ -1,7 +1,7 @@
 -- The slots that an index has found for a ray, or for a cast, are those of live boxes, and all that are met are among them.
 use Rattle.std.proofs.Common.{◌≡◌, ℕ, Bool, true, false, cond, List, [], ◌∷◌, map, filter, Some, None, refl, sym, ap, ◌∙◌}
-use Rattle.std.specs.Prelude.{is_some, IsTrue, slice_index_or}
-use Rattle.fixed_box.specs.Bounds.{Bounds, meets}
+use Rattle.std.specs.Prelude.{is_some, slice_index_or}
+use Rattle.fixed_box.specs.Bounds.{Bounds}
 use Rattle.fixed_box.specs.declared.point.Point.{Point}
 use Rattle.ray_slabs.specs.declared.ray.Ray.{Ray}
 use Rattle.ray_slabs.specs.Crossing.{Fraction, in_ray}

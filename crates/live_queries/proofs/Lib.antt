@@ -2,12 +2,15 @@ pub mod Asked
 pub mod BesideLaws
 pub mod Counts
 pub mod Current
+pub mod FirstBox
 pub mod FoundSlots
 pub mod HitOf
 pub mod InOrder
+pub mod Members
 pub mod Merged
 pub mod MetOnWay
 pub mod NearestHandles
 pub mod PairMembers
+pub mod PlaceLaws
 pub mod QueryLaws
 pub mod Touches

@@ -6,7 +6,7 @@ use Rattle.std.specs.List.{AllByRecursion, Contains, filter_map, cons_option, li
 use Rattle.std.specs.Option.{option_cmp}
 use Rattle.std.specs.declared.cmp.Ordering.{Ordering}
 use Rattle.std.specs.declared.cmp.Ordering.TheVariants.{Less, Equal, Greater}
-use Rattle.std.specs.Ordering.{nat_cmp, on, then_cmp, ordering_then}
+use Rattle.std.specs.Ordering.{nat_cmp, ordering_then}
 use Rattle.std.specs.Cmp.{alike_right, first_so, second_so, ranked}
 use Rattle.std.specs.Cmp.Derive.{both_true}
 use Rattle.std.proofs.lemmas.Bool.{cases_Bool, ltb-true}
@@ -24,6 +24,7 @@ use Rattle.live_queries.specs.Pairs.{is_asked_for}
 use Rattle.live_queries.specs.Queries.{handles, is_met, by_place, met_in_order}
 use Rattle.live_queries.specs.Beside.{AreBeside, IsHit, ListsMet, handle_at, passing, met_at}
 use Rattle.live_queries.specs.declared.hit.Hit.{Hit}
+use Rattle.live_queries.specs.FirstSeen.{by_hit}
 use Rattle.live_queries.proofs.BesideLaws.{ordered_beside, handles_beside}
 use Rattle.live_queries.proofs.Touches.{AreFound, all_found}
 use Rattle.ordered_lists.specs.Ascending.{equal_is}
@@ -66,9 +67,6 @@ met_of_listed place mask t slots is lists =
 
 -- ---- hits and boxes in the same order
 
-abbrev by_hit : Hit → Hit → Ordering
-by_hit = then_cmp (on (λ h. h.entry) value_cmp) (on (λ h. h.slot) nat_cmp)
-
 same_order : (a b : Fraction) (o p : Option Fraction) → IsSameValue (Some a) o → IsSameValue (Some b) p → value_cmp a b ≡ option_cmp value_cmp o p
 same_order a b None p h g = absurd h
 same_order a b (Some u) None h g = absurd g
@@ -76,7 +74,7 @@ same_order a b (Some u) (Some v) h g =
     value_total.congr a u b (equal_is (value_cmp a u) h) ∙ alike_right value_total b v u (equal_is (value_cmp b v) g)
 
 module _ (place : Bounds → Option Fraction) (all : List Live) where
-  agree : (h k : Hit) (e f : Live) → IsHit place all h e → IsHit place all k f → by_hit h k ≡ by_place place e f
+  pub agree : (h k : Hit) (e f : Live) → IsHit place all h e → IsHit place all k f → by_hit h k ≡ by_place place e f
   agree h k e f r s = λ i. ordering_then (same_order h.entry k.entry (place e.body) (place f.body) r.same s.same i) (nat_cmp (r.slot i) (s.slot i))
 
   -- ---- no two hits have one slot
@@ -113,7 +111,7 @@ module _ (place : Bounds → Option Fraction) (all : List Live) where
       absurd (holds_of (λ k. k.slot ≢ h.slot) hs a.0 x (j, omega arith, f) (same ∙ sym (ap (λ (k : Hit). k.slot) e)))
   one_of (h ∷ hs) a x y (suc i, l, e) (suc j, m, f) same = one_of hs a.1 x y (i, omega arith, e) (j, omega arith, f) same
 
-  last_tied : (r q : Ordering) → ordering_then r q ≡ Equal → q ≡ Equal
+  pub last_tied : (r q : Ordering) → ordering_then r q ≡ Equal → q ≡ Equal
   last_tied Less q e = let no : ⊥ = cc in absurd no
   last_tied Equal q e = e
   last_tied Greater q e = let no : ⊥ = cc in absurd no

@@ -1,5 +1,5 @@
 -- Which pairs of live boxes are listed.
-use Rattle.std.proofs.Common.{◌≡◌, ◌⊎◌, zero, suc, ◌<◌, true, false, cond, nat_lt, List, [], ◌∷◌, map, filter, refl, sym, ap, ◌∙◌, subst, arith}
+use Rattle.std.proofs.Common.{◌≡◌, ◌<◌, true, false, cond, nat_lt, List, [], ◌∷◌, map, filter, sym, ap, ◌∙◌, subst, arith}
 use Rattle.std.proofs.Common.{inl, inr}
 use Rattle.std.specs.List.{Contains, list_all}
 use Rattle.std.specs.Cmp.{first_so, second_so}
@@ -10,20 +10,7 @@ use Rattle.live_table.specs.Entries.{slot_of, rises}
 use Rattle.pair_events.specs.declared.hpair.HPair.{HPair}
 use Rattle.live_queries.specs.Pairs.{may_touch, partners, pairs_of}
 use Rattle.live_queries.specs.PairLaw.{IsPairOf}
-
-module _ {X : Type 0} where
-  here : (x : X) (xs : List X) → Contains (x ∷ xs) x
-  here x xs = (0, omega arith, refl)
-
-  there : (y : X) (xs : List X) (x : X) → Contains xs x → Contains (y ∷ xs) x
-  there y xs x (k, l, e) = (suc k, omega arith, e)
-
-  head_or_later : (y : X) (xs : List X) (x : X) → Contains (y ∷ xs) x → (y ≡ x) ⊎ Contains xs x
-  head_or_later y xs x (zero, l, e) = inl e
-  head_or_later y xs x (suc k, l, e) = inr (k, omega arith, e)
-
-  nothing : (x : X) → Contains [] x → ⊥
-  nothing x (k, l, e) = omega arith
+use Rattle.live_queries.proofs.Members.{here, there, head_or_later, nothing}
 
 abbrev pair : Live → Live → HPair
 pair a b = record { a = a.handle; b = b.handle }

@@ -1,6 +1,10 @@
 pub mod Beside
+pub mod Face
+pub mod First
+pub mod FirstSeen
 pub mod InHandles
 pub mod PairLaw
 pub mod Pairs
 pub mod Queries
+pub mod RayTest
 pub mod Rows

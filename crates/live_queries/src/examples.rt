@@ -1,9 +1,11 @@
 //! Rays, casts and nearest boxes worked out by hand, in the order in which they are told.
 
-ghost use Rattle.std.specs.Prelude.{◌≡◌, pos, negsuc, [], ◌∷◌, ◌++◌, take, drop};
+ghost use Rattle.std.specs.Prelude.{◌≡◌, pos, negsuc, true, false, Some, None, [], ◌∷◌, ◌++◌, take, drop};
 ghost use Rattle.broad_index.specs.declared.query.Query.TheVariants.{Along};
 ghost use Rattle.live_table.specs.Example.{under};
 ghost use Rattle.near_boxes.specs.Rows.{three_crates, middle, far_and_near, lowest};
+ghost use Rattle.live_queries.specs.declared.face.Axis.TheVariants.{X};
+ghost use Rattle.live_queries.specs.Face.{entry_face, contact_face};
 ghost use Rattle.live_queries.specs.Pairs.{hits_of};
 ghost use Rattle.live_queries.specs.Queries.{entered_of, cast_of, nearest_to};
 ghost use Rattle.live_queries.specs.Rows.{lives, between, flat, ray_from, moved_by, three_ahead, two_ahead, at_the_end};
@@ -26,6 +28,19 @@ fn casts_meet_nearer_boxes_first()
     ensures touching { cast_of (lives 1 two_ahead) (moved_by (between 0 1) (pos 262144)) 4294967295 ≡ under 1 0 ∷ [] }
     ensures beyond { cast_of (lives 1 at_the_end) (moved_by (flat 2097152000) (pos 2147418112)) 4294967295 ≡ under 0 0 ∷ [] }
     ensures away { cast_of (lives 1 at_the_end) (moved_by (flat 0) (negsuc 2147483647)) 4294967295 ≡ [] }
+{}
+
+// A ray comes into a box by its lower side, and by none where it starts within. A box that is cast back touches the upper one,
+// and one that stands beside another from the start on touches the side that it moves to.
+fn faces_are_the_sides_that_are_reached()
+    ensures ahead { entry_face (ray_from 0) (record { num = pos 131072; den = pos 65536 }) (between 2 3)
+        ≡ Some (record { axis = X; upper = false }) }
+    ensures half { entry_face (ray_from 0) (record { num = pos 4; den = pos 2 }) (between 2 3) ≡ Some (record { axis = X; upper = false }) }
+    ensures within { entry_face (ray_from 163840) (record { num = pos 0; den = pos 1 }) (between 2 3) ≡ None }
+    ensures back { contact_face (moved_by (between 5 6) (negsuc 262143)) (record { num = pos 1; den = pos 2 }) (between 2 3)
+        ≡ Some (record { axis = X; upper = true }) }
+    ensures beside { contact_face (moved_by (between 1 2) (pos 65536)) (record { num = pos 0; den = pos 1 }) (between 2 3)
+        ≡ Some (record { axis = X; upper = false }) }
 {}
 
 // Of two that are as near the lower slot comes first, and a box of another group doesn't count.

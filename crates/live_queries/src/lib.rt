@@ -3,6 +3,9 @@
 #![tactic(auto)]
 
 mod examples;
+mod face;
+mod first;
+mod first_hit;
 mod handles;
 mod hit;
 mod hits;
@@ -11,7 +14,11 @@ mod met;
 mod nearest;
 mod pairs;
 mod probe;
+mod ray_test;
 
+pub use face::{Axis, Face};
+pub use first::{first_cast, first_entered};
+pub use first_hit::FirstHit;
 pub use hits::push_hits;
 pub use laws::{current_laws, pairs_law, queries_law};
 pub use met::{push_cast, push_entered};

@@ -106,7 +106,7 @@ fn find_hits<P: Probe>(
 }
 
 // The hit of a slot, where its box is met on the way and asked for.
-fn hit_at<P: Probe>(table: &LiveTable, probe: &P, mask: u32, slot: u32) -> Option<Hit>
+pub(crate) fn hit_at<P: Probe>(table: &LiveTable, probe: &P, mask: u32, slot: u32) -> Option<Hit>
     ensures { IsBeside (IsHit (P.place probe.now) table.now.entries) result (met_at (P.place probe.now) mask table.now.entries slot) }
 {
     let live = table.at(slot)?;

@@ -4,6 +4,8 @@
 #![tactic(auto)]
 
 #[cfg(test)]
+mod firsts;
+#[cfg(test)]
 mod frames;
 #[cfg(test)]
 mod queries;
