@@ -4,7 +4,7 @@
 ghost use Rattle.std.specs.Prelude.{◌<◌};
 
 use box_tree::BoxTree;
-use broad_index::{BroadPhase, Pair, PlainIndex, Query};
+use broad_index::{BroadPhase, Pair, PlainIndex, Query, Visitor};
 use fixed_box::{FBox, NoMemory, Point, SLOTS};
 use hier_grid::HierGrid;
 use skin_index::Skinned;
@@ -64,6 +64,62 @@ fn counts<B: BroadPhase>(alloc: Global, index: &mut B) -> Result<(usize, usize),
     Ok((pairs.len(), slots.len()))
 }
 
+// A visitor that keeps the slots of the boxes that meet a region, and admits what meets it.
+#[derive(Drop)]
+struct Meeting {
+    region: FBox,
+    slots: Vec<u32>,
+}
+
+impl Visitor for Meeting {
+    ghost saw = { λ _ _. Unit {0} };
+
+    ghost keeps = { λ _ _. Unit {0} };
+
+    ghost any_order = { λ _ _ _ _ _. tt };
+
+    ghost keeps_itself = { λ _. tt };
+
+    ghost keeps_on = { λ _ _ _ _ _. tt };
+
+    fn query(&self) -> Query {
+        Query::Region(self.region)
+    }
+
+    fn admits(&self, hull: &FBox) -> bool {
+        hull.overlaps(&self.region)
+    }
+
+    fn prefers(&self, _first: &FBox, _second: &FBox) -> bool {
+        true
+    }
+
+    fn meet(&mut self, slot: u32, body: &FBox) -> Result<(), NoMemory> {
+        if body.overlaps(&self.region) {
+            self.slots.push(slot)?;
+        }
+        Ok(())
+    }
+}
+
+// Whether a visit shows the exact boxes of the slots that hold the upper end of the first cube, as a query finds them.
+fn shows<B: BroadPhase>(alloc: Global, index: &B) -> Result<bool, Fail> {
+    let end = Point {
+        x: SIDE,
+        y: 0,
+        z: 0,
+    };
+    let mut visitor = Meeting {
+        region: FBox::new(end, end).ok_or("a point")?,
+        slots: Vec::new(alloc),
+    };
+    index.visit(alloc, &mut visitor)?;
+    visitor.slots.sort()?;
+    let mut found = Vec::new(alloc);
+    index.hits(&Query::Spot(end), &mut found)?;
+    Ok(visitor.slots == found)
+}
+
 // Two boxes that meet, far from all others.
 fn put_still<B: BroadPhase>(index: &mut B) -> Result<(), Fail> {
     put(index, 4, cube_at(-90 * SIDE).ok_or("a cube")?)?;
@@ -71,8 +127,8 @@ fn put_still<B: BroadPhase>(index: &mut B) -> Result<(), Fail> {
     Ok(())
 }
 
-// The boxes of two slots, of which the second stands at each of these places in turn, have so many pairs and hits there, beside
-// a pair that stays. All pairs of skins are asked for at the first place, and mended at those where it left its skin.
+// The boxes of two slots, of which the second stands at each of these places in turn, have so many pairs and hits there, and are
+// shown to a visitor, beside a pair that stays. All pairs of skins are asked for at the first place, and mended at those where it left its skin.
 fn follow<B: BroadPhase>(
     alloc: Global,
     index: &mut B,
@@ -83,7 +139,7 @@ fn follow<B: BroadPhase>(
     for (x, meets) in steps {
         put(index, 5, cube_at(*x).ok_or("a cube")?)?;
         let wanted = if *meets { (2, 2) } else { (1, 1) };
-        if counts(alloc, index)? != wanted {
+        if counts(alloc, index)? != wanted || !shows(alloc, index)? {
             return Ok(false);
         }
     }
@@ -107,8 +163,9 @@ const STEPS: [(i32, bool); 8] = [
 fn boxes_in_skins_over_a_list_are_found(rt: HostRuntime) -> Result<(), Fail> {
     let mut index = Skinned::new(rt.alloc(), PlainIndex::new(rt.alloc())?)?;
     let done = follow(rt.alloc(), &mut index, &STEPS);
+    let descends = index.descends();
     drop(index);
-    assert!(rt; done?);
+    assert!(rt; done? && !descends);
     Ok(())
 }
 
@@ -116,8 +173,9 @@ fn boxes_in_skins_over_a_list_are_found(rt: HostRuntime) -> Result<(), Fail> {
 fn boxes_in_skins_over_a_tree_are_found(rt: HostRuntime) -> Result<(), Fail> {
     let mut index = Skinned::new(rt.alloc(), BoxTree::new(rt.alloc())?)?;
     let done = follow(rt.alloc(), &mut index, &STEPS);
+    let descends = index.descends();
     drop(index);
-    assert!(rt; done?);
+    assert!(rt; done? && descends);
     Ok(())
 }
 

@@ -4,7 +4,7 @@ ghost use Rattle.std.specs.Prelude.{◌≡◌, false, IfOk, refl};
 ghost use Rattle.broad_index.specs.Fresh.{IsFresh};
 
 use box_tree::BoxTree;
-use broad_index::{BroadPhase, NoSeeker, Pair, Query};
+use broad_index::{BroadPhase, NoSeeker, Pair, Query, Visitor};
 use fixed_box::{FBox, NoMemory};
 use skin_index::Skinned;
 use std::alloc::Global;
@@ -78,6 +78,14 @@ impl BroadPhase for SkinTree {
 
     fn hits(&self, query: &Query, out: &mut Vec<u32>) -> Result<(), NoMemory> {
         self.skins.hits(query, out)
+    }
+
+    fn visit<V: Visitor>(&self, alloc: Global, visitor: &mut V) -> Result<(), NoMemory> {
+        self.skins.visit(alloc, visitor)
+    }
+
+    fn descends(&self) -> bool {
+        self.skins.descends()
     }
 
     fn box_of(&self, slot: u32) -> Option<FBox> {

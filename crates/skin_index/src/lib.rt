@@ -2,6 +2,7 @@
 #![tactic(auto)]
 
 mod exact;
+mod exact_visitor;
 mod laned_boxes;
 mod lanes;
 mod marked_skins;

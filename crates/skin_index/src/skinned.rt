@@ -6,11 +6,12 @@ ghost use Rattle.broad_index.specs.Fresh.{IsFresh};
 ghost use Rattle.skin_index.specs.Skins.{is_inside};
 
 use crate::exact::{keep_found, push_meeting};
+use crate::exact_visitor::ExactVisitor;
 use crate::laned_boxes::LanedBoxes;
 use crate::marked_skins::MarkedSkins;
 use crate::mending::{MendingRoom, mend, push_others};
 use crate::skin::skin_of;
-use broad_index::{BroadPhase, NoSeeker, Pair, Query, keeping_laws, member_laws};
+use broad_index::{BroadPhase, NoSeeker, Pair, Query, Visitor, keeping_laws, member_laws};
 use fixed_box::{FBox, NoMemory, box_laws};
 use prepared_query::enclosing_law;
 use std::alloc::Global;
@@ -187,6 +188,24 @@ impl<B: BroadPhase + Drop> BroadPhase for Skinned<B> {
         self.index.hits(query, out)?;
         keep_found(&self.bodies, query, before, out);
         Ok(())
+    }
+
+    fn visit<V: Visitor>(&self, alloc: Global, visitor: &mut V) -> Result<(), NoMemory> {
+        member_laws();
+        box_laws();
+        if self.spent {
+            return Err(NoMemory);
+        }
+        let mut exact = ExactVisitor {
+            bodies: &self.bodies,
+            visitor,
+        };
+        self.index.visit(alloc, &mut exact)?;
+        Ok(())
+    }
+
+    fn descends(&self) -> bool {
+        self.index.descends()
     }
 
     fn box_of(&self, slot: u32) -> Option<FBox> {
