@@ -1,4 +1,4 @@
--- The machine value of a `Held`, and what one owns. Assumes `Logic`.
+-- The machine value of a `HeldBox`, and what one owns. Assumes `Logic`.
 use Rattle.std.proofs.Common.{◌≡◌, List, [], ◌∷◌, ◌++◌, refl, lit<, subst, sym, true≢false}
 use mathlib.Core.Bool.{◌&&◌}
 use lib.Dec.{T}
@@ -20,6 +20,10 @@ use Rattle.pungwelair.specs.contracts.held.HeldBox as held-type
 
 abbrev pub word : Ptr → Val
 word p = vstruct (vcons (ptr_val p) vnil)
+
+pub ptr_typed : (p : Ptr) → T (has_ty ty_ptr (ptr_val p)) × WT (ptr_val p)
+ptr_typed (block_ptr b o) = (tt, tt)
+ptr_typed null_ptr = (tt, record { fits = lit< tt })
 
 pub word_typed : (p : Ptr) → T (has_ty ty_ptr (ptr_val p) && true) × WT (word p)
 word_typed (block_ptr b o) = (tt, (tt, tt))

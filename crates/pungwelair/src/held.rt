@@ -9,9 +9,9 @@ use raw_box::RawBox;
 use std::alloc::Global;
 use std::marker::Model;
 
-// A world's box as the pointer that C holds, and the world, where there is one.
+// A world's box as the pointer that C holds, and the world, where there is one. It isn't `Drop`, so that no code lets a world go:
+// it is made a box again, which frees it, or it is stored elsewhere.
 #[repr(C)]
-#[derive(Drop)]
 pub struct HeldBox {
     at: *mut u8,
     ghost inner: { Option HeldWorld },
@@ -28,6 +28,13 @@ impl HeldBox {
         HeldBox {
             at: std::ptr::null_mut(),
         }
+    }
+
+    // What holds nothing is let go, and nothing else.
+    pub(crate) fn let_go(self)
+        requires { self.inner ≡ None }
+    {
+        let HeldBox { at: _at } = self;
     }
 
     pub(crate) fn of(raw: RawBox<HeldWorld, Global>) -> HeldBox

@@ -7,9 +7,8 @@ use held_world::HeldWorld;
 use raw_box::RawBox;
 use std::alloc::Global;
 
-/// A world as C holds it: two words, zero where none is open.
+/// A world as C holds it: two words, zero where none is open. It isn't `Drop`: what is open is taken out, or stays.
 #[repr(C)]
-#[derive(Drop)]
 pub struct PwWorld {
     pub(crate) state: u32,
     pub(crate) held: HeldBox,
@@ -37,10 +36,13 @@ impl PwWorld {
         requires empty { self.old.held.inner ≡ None }
         ensures held { self.new.held.inner ≡ Some held.value }
     {
-        *self = PwWorld {
+        let open = PwWorld {
             state: 1,
             held: HeldBox::of(RawBox::of(held)),
         };
+        let was = std::mem::replace(self, open);
+        let PwWorld { state: _, held } = was;
+        held.let_go();
     }
 }
 
