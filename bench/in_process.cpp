@@ -6,6 +6,9 @@
 // that its pair cache calls for each pair that comes or goes. No list of all pairs is read in that time. Bullet's pairs are those of
 // enlarged boxes, and some have parted already: which of them meet is found for the sum alone, outside of the time.
 //
+// Questions are boxes, points and segments, and the box that each of these segments meets first: of the library by pw_cast_first, of
+// Bullet by the boxes that its tree tells, of Embree by a ray that each box makes shorter.
+//
 // Embree and CGAL keep no pairs. Embree's tree over all boxes is refitted, or built anew, if a box moved, and is collided with itself,
 // on one thread; CGAL intersects all boxes anew. Each pair that they tell is tested exactly.
 //
@@ -174,6 +177,8 @@ struct Engine {
     // Of the pairs that meet, once after each update.
     virtual uint64_t pairs_sum() = 0;
     virtual uint64_t ask(const pw_query &query) = 0;
+    // The box that a segment meets first: a number above its slot, or 0.
+    virtual uint64_t first(const pw_query &segment) = 0;
 };
 
 void must(pw_status status) {
@@ -228,7 +233,27 @@ struct Pungwelair final : Engine {
         must(pw_hits(&world, &query, hits.data(), hits.size(), &count));
         return count;
     }
+    // A point that is moved from one end to the other.
+    uint64_t first(const pw_query &s) override {
+        pw_cast cast = {s.mask, {s.a, s.a}, {s.b.x - s.a.x, s.b.y - s.a.y, s.b.z - s.a.z}};
+        pw_hit hit;
+        size_t count;
+        must(pw_cast_first(&world, &cast, &hit, &count));
+        return count > 0 ? hit.handle.slot + 1 : 0;
+    }
 };
+
+// The fraction at which a segment comes to a box, before `most`, in single precision, and `most` if it doesn't.
+[[maybe_unused]] float entry(const float from[3], const float way[3], const pw_box &b, float most) {
+    const int32_t lo[3] = {b.lo.x, b.lo.y, b.lo.z}, hi[3] = {b.hi.x, b.hi.y, b.hi.z};
+    float enter = 0, leave = most;
+    for (int k = 0; k < 3; k++) {
+        float low = (float(lo[k]) - from[k]) / way[k], high = (float(hi[k]) - from[k]) / way[k];
+        enter = std::max(enter, std::min(low, high));
+        leave = std::min(leave, std::max(low, high));
+    }
+    return enter <= leave ? enter : most;
+}
 
 [[maybe_unused]] bool meet(const pw_box &a, const pw_box &b) {
     return a.lo.x <= b.hi.x && b.lo.x <= a.hi.x && a.lo.y <= b.hi.y && b.lo.y <= a.hi.y && a.lo.z <= b.hi.z && b.lo.z <= a.hi.z;
@@ -316,6 +341,30 @@ struct Bullet final : Engine {
         tree.aabbTest(at(query.a), at(query.b), found);
         return found.count;
     }
+    // Its tree tells each box that the segment meets, as far as it was told at first: a callback can't make it shorter.
+    struct First final : btBroadphaseRayCallback {
+        const Bullet &b;
+        float from[3], way[3], best = 1;
+        uint64_t slot = 0;
+        First(const Bullet &b, const pw_query &s)
+            : b(b), from{float(s.a.x), float(s.a.y), float(s.a.z)}, way{float(s.b.x - s.a.x), float(s.b.y - s.a.y), float(s.b.z - s.a.z)} {}
+        bool process(const btBroadphaseProxy *p) override {
+            float found = entry(from, way, b.bodies[slot_of(p)], best);
+            if (found < best) best = found, slot = slot_of(p) + 1;
+            return true;
+        }
+    };
+    uint64_t first(const pw_query &query) override {
+        First found(*this, query);
+        btVector3 from = at(query.a), way = at(query.b) - from;
+        for (int k = 0; k < 3; k++) {
+            found.m_rayDirectionInverse[k] = way[k] == 0 ? btScalar(BT_LARGE_FLOAT) : 1 / way[k];
+            found.m_signs[k] = found.m_rayDirectionInverse[k] < 0;
+        }
+        found.m_lambda_max = 1;
+        tree.rayTest(from, at(query.b), found);
+        return found.slot;
+    }
 };
 #endif
 
@@ -355,6 +404,7 @@ struct Searcher : Engine {
         return sum;
     }
     uint64_t ask(const pw_query &) override { return 0; }
+    uint64_t first(const pw_query &) override { return 0; }
 };
 
 #ifdef WITH_EMBREE
@@ -371,6 +421,7 @@ struct Embree final : Searcher {
         rtcSetGeometryBuildQuality(geometry, quality);
         rtcSetGeometryUserData(geometry, this);
         rtcSetGeometryBoundsFunction(geometry, bounds, nullptr);
+        rtcSetGeometryIntersectFunction(geometry, intersect);
     }
     ~Embree() override { rtcReleaseGeometry(geometry), rtcReleaseScene(scene), rtcReleaseDevice(device); }
     static void bounds(const RTCBoundsFunctionArguments *asked) {
@@ -378,6 +429,26 @@ struct Embree final : Searcher {
         RTCBounds &out = *asked->bounds_o;
         out.lower_x = float(b.lo.x), out.lower_y = float(b.lo.y), out.lower_z = float(b.lo.z);
         out.upper_x = float(b.hi.x), out.upper_y = float(b.hi.y), out.upper_z = float(b.hi.z);
+    }
+    // A box that is met sooner than those so far, which makes the ray shorter.
+    static void intersect(const RTCIntersectFunctionNArguments *asked) {
+        if (!asked->valid[0]) return;
+        const pw_box &b = static_cast<Embree *>(asked->geometryUserPtr)->bodies[asked->primID];
+        RTCRayHit &found = *reinterpret_cast<RTCRayHit *>(asked->rayhit);
+        const float from[3] = {found.ray.org_x, found.ray.org_y, found.ray.org_z}, way[3] = {found.ray.dir_x, found.ray.dir_y, found.ray.dir_z};
+        float place = entry(from, way, b, found.ray.tfar);
+        if (place < found.ray.tfar) found.ray.tfar = place, found.hit.primID = asked->primID, found.hit.geomID = asked->geomID;
+    }
+    uint64_t first(const pw_query &s) override {
+        RTCIntersectContext context;
+        rtcInitIntersectContext(&context);
+        RTCRayHit asked{};
+        asked.ray.org_x = float(s.a.x), asked.ray.org_y = float(s.a.y), asked.ray.org_z = float(s.a.z);
+        asked.ray.dir_x = float(s.b.x - s.a.x), asked.ray.dir_y = float(s.b.y - s.a.y), asked.ray.dir_z = float(s.b.z - s.a.z);
+        asked.ray.tfar = 1, asked.ray.mask = all_groups;
+        asked.hit.geomID = asked.hit.primID = RTC_INVALID_GEOMETRY_ID;
+        rtcIntersect1(scene, &context, &asked);
+        return asked.hit.geomID == RTC_INVALID_GEOMETRY_ID ? 0 : asked.hit.primID + 1;
     }
     static void collided(void *self, RTCCollision *found, unsigned count) {
         auto &e = *static_cast<Embree *>(self);
@@ -440,7 +511,8 @@ struct Cgal final : Searcher {
 struct Named {
     const char *name;
     std::unique_ptr<Engine> (*make)();
-    enum { exactly, nearly, never } asked; // nearly: segments meet enlarged boxes in single precision, so their hits aren't compared
+    // nearly: segments meet enlarged boxes in single precision, so their hits aren't compared; firsts: first hits alone, nearly
+    enum { exactly, nearly, firsts, never } asked;
 };
 
 template <uint32_t structure, bool each> std::unique_ptr<Engine> ours() { return std::make_unique<Pungwelair>(structure, each); }
@@ -458,9 +530,9 @@ const Named engines[] = {
     {"bullet's dbvt", [] { return std::unique_ptr<Engine>(new Bullet); }, Named::nearly},
 #endif
 #ifdef WITH_EMBREE
-    {"embree, refitted", embree<RTC_BUILD_QUALITY_REFIT, true>, Named::never},
+    {"embree, refitted", embree<RTC_BUILD_QUALITY_REFIT, true>, Named::firsts},
     {"  pairs alone", embree<RTC_BUILD_QUALITY_REFIT, false>, Named::never},
-    {"embree, built anew", embree<RTC_BUILD_QUALITY_LOW, true>, Named::never},
+    {"embree, built anew", embree<RTC_BUILD_QUALITY_LOW, true>, Named::firsts},
     {"  pairs alone", embree<RTC_BUILD_QUALITY_LOW, false>, Named::never},
 #endif
 #ifdef WITH_CGAL
@@ -470,14 +542,14 @@ const Named engines[] = {
 };
 
 struct Times {
-    uint64_t frame = UINT64_MAX, kind[3] = {UINT64_MAX, UINT64_MAX, UINT64_MAX}, sum = 0, hits = 0;
+    uint64_t frame = UINT64_MAX, kind[4] = {UINT64_MAX, UINT64_MAX, UINT64_MAX, UINT64_MAX}, sum = 0, hits = 0;
 };
 
 void play(const Named &named, const Play &play, Times &least) {
     std::unique_ptr<Engine> engine = named.make();
     engine->add(play.first);
     engine->update();
-    uint64_t frame = 0, kind[3] = {0, 0, 0};
+    uint64_t frame = 0, kind[4] = {0, 0, 0, 0};
     least.sum = engine->pairs_sum(), least.hits = 0;
     for (size_t f = 0; f < play.moves.size(); f++) {
         uint64_t begun = nanoseconds();
@@ -485,16 +557,20 @@ void play(const Named &named, const Play &play, Times &least) {
         engine->update();
         frame += nanoseconds() - begun;
         least.sum = least.sum * 31 + engine->pairs_sum();
-        for (int k = 0; k < 3; k++) {
+        for (int k = 0; k < 4; k++) {
+            const std::vector<pw_query> &asked = play.questions[f];
             begun = nanoseconds();
             uint64_t count = 0;
-            for (size_t q = size_t(k); q < play.questions[f].size(); q += 3) count += engine->ask(play.questions[f][q]);
+            if (k < 3)
+                for (size_t q = size_t(k); q < asked.size(); q += 3) count += engine->ask(asked[q]);
+            else
+                for (size_t q = 2; q < asked.size(); q += 3) count = count * 31 + engine->first(asked[q]);
             kind[k] += nanoseconds() - begun;
             if (k < 2 || named.asked == Named::exactly) least.hits = least.hits * 31 + count;
         }
     }
     least.frame = std::min(least.frame, frame);
-    for (int k = 0; k < 3; k++) least.kind[k] = std::min(least.kind[k], kind[k]);
+    for (int k = 0; k < 4; k++) least.kind[k] = std::min(least.kind[k], kind[k]);
 }
 
 int play_scene(const char *name, int rounds) {
@@ -525,7 +601,7 @@ int main(int argc, char **argv) {
     int boxes = std::atoi(argv[1]), frames = std::atoi(argv[2]), rounds = std::atoi(argv[3]);
     constexpr size_t count = sizeof engines / sizeof *engines;
     std::printf("%d boxes, %d frames, least of %d; microseconds a frame of moves and changes, nanoseconds a question\n", boxes, frames, rounds);
-    std::printf("%-8s %-22s %12s %9s %9s %9s\n", "load", "engine", "frame", "box", "point", "segment");
+    std::printf("%-8s %-22s %12s %9s %9s %9s %9s\n", "load", "engine", "frame", "box", "point", "segment", "first");
     for (const Load &load : loads) {
         bool wanted = argc == 4;
         for (int i = 4; i < argc; i++) wanted |= !std::strcmp(argv[i], load.name);
@@ -539,8 +615,10 @@ int main(int argc, char **argv) {
             if (engines[e].asked == Named::exactly && times[e].hits != times[0].hits)
                 return std::fprintf(stderr, "%s, %s: other hits\n", load.name, engines[e].name), 1;
             std::printf("%-8s %-22s %12.1f", load.name, engines[e].name, double(times[e].frame) / frames / 1000);
-            bool is_asked = load.questions && engines[e].asked != Named::never;
-            for (uint64_t k : times[e].kind) is_asked ? std::printf(" %9.0f", double(k) / frames / load.questions) : std::printf(" %9s", "-");
+            for (int k = 0; k < 4; k++) {
+                bool is_asked = load.questions && (engines[e].asked <= Named::nearly || (k == 3 && engines[e].asked == Named::firsts));
+                is_asked ? std::printf(" %9.0f", double(times[e].kind[k]) / frames / load.questions) : std::printf(" %9s", "-");
+            }
             std::printf("\n");
         }
     }

@@ -10,7 +10,7 @@
  *         pw_move(&world, moved, m, bodies, m, &done);      // what is elsewhere now
  *         pw_update(&world, &counts);                       // find the pairs
  *         pw_changes(&world, 0, changes, room, &copied);    // which began or are over
- *         pw_ray_hits(&world, &ray, hits, room, &count);    // ask
+ *         pw_ray_first(&world, &ray, &hit, &count);         // ask
  *     }
  *     pw_close(&world);
  *
@@ -44,7 +44,7 @@ extern "C" {
 /* The version, for #if and as a text. The shared library's soname has the major number: for a program that is linked already,
  * another major number is another library. */
 #define PW_VERSION_MAJOR 0
-#define PW_VERSION_MINOR 2
+#define PW_VERSION_MINOR 3
 #define PW_VERSION_PATCH 0
 #define PW_VERSION_QUOTED(major, minor, patch) #major "." #minor "." #patch
 #define PW_VERSION_OF(major, minor, patch) PW_VERSION_QUOTED(major, minor, patch)
@@ -96,8 +96,9 @@ enum {
  *     pw_remove, pw_mask, pw_regroup       PW_STALE, PW_NO_MEMORY (2)
  *     pw_update                            PW_EXHAUSTED, PW_NO_MEMORY
  *     pw_hits                              PW_ARGUMENT, PW_NO_MEMORY
- *     pw_cast_hits                         PW_INVERTED, PW_NO_MEMORY
- *     pw_ray_hits, pw_nearest              PW_NO_MEMORY
+ *     pw_cast_hits, pw_cast_first          PW_INVERTED, PW_NO_MEMORY
+ *     pw_ray_hits, pw_ray_first            PW_NO_MEMORY
+ *     pw_nearest                           PW_NO_MEMORY
  *     pw_mark                              PW_FULL, PW_NO_MEMORY (1)
  *     pw_forget                            PW_NO_MARK, PW_NO_MEMORY (1)
  *     pw_back                              PW_NO_MARK, PW_NO_MEMORY
@@ -134,6 +135,15 @@ enum {
     PW_SEGMENT = 3 /* which meet the segment from a to b */
 };
 
+/* Which side of a box, along an axis. */
+enum {
+    PW_LOWER = 0, /* the side at `lo`, whose normal points down */
+    PW_UPPER = 1  /* the side at `hi`, whose normal points up */
+};
+
+/* The axis of a pw_hit whose way begins in the box. */
+#define PW_NO_AXIS 3u
+
 /* A place or a displacement, in raw units of 1/65,536. */
 typedef struct pw_point {
     int32_t x, y, z;
@@ -144,7 +154,8 @@ typedef struct pw_box {
     pw_point lo, hi;
 } pw_box;
 
-/* The groups that a box is in and those that it sees, a bit each. Two boxes pair if each sees a group that the other is in. */
+/* The groups that a box is in and those that it sees, a bit each. Two boxes pair if each sees a group that the other is in. A box with
+ * `is` 0 is in no group: it pairs with no box, and no question finds it, whatever `mask` is asked for. */
 typedef struct pw_masks {
     uint32_t is, sees;
 } pw_masks;
@@ -195,7 +206,8 @@ typedef struct pw_counts {
     size_t pairs, events, changes;
 } pw_counts;
 
-/* A question about the boxes of the groups of `mask`: PW_REGION, PW_POINT, PW_RAY or PW_SEGMENT. */
+/* A question about the boxes of the groups of `mask`: PW_REGION, PW_POINT, PW_RAY or PW_SEGMENT. A mask of 0 finds no box, here and
+ * below. */
 typedef struct pw_query {
     uint32_t kind, mask;
     pw_point a, b;
@@ -219,6 +231,16 @@ typedef struct pw_near {
     uint32_t mask, want;
     pw_point at;
 } pw_near;
+
+/* The box that a ray or a moved box meets first. It is met at the place `num / den` of the way, exactly: at 0 where the way begins, and
+ * at 1 where it ends, which a ray goes on past. `num` is at least 0 and `den` at least 1. `axis` is 0, 1 or 2 and `side` PW_LOWER or
+ * PW_UPPER: the box is entered there by its side that the way comes from. If it comes to several sides at one place it is the one of
+ * the lowest axis. If the way begins in the box, `axis` is PW_NO_AXIS and `side` 0. */
+typedef struct pw_hit {
+    pw_handle handle;
+    int64_t num, den;
+    uint32_t axis, side;
+} pw_hit;
 
 /* What a world is. `exchanges` are those of the endpoint lists since the last frame if it is over PW_SAP, and else 0. */
 typedef struct pw_world_info {
@@ -301,8 +323,8 @@ pw_status pw_changes(pw_world *world, size_t from, pw_told *out, size_t out_len,
 pw_status pw_hits(pw_world *world, const pw_query *query, pw_handle *out, size_t out_len, size_t *count);
 
 /* The same for the boxes that a ray meets, in the order in which it first meets them; those that it meets at one place come by
- * their slots. The order is exact: no rounding. Of the direction only its way counts, not its length. No call tells how far off a
- * box is met: docs/LIBRARY.md has the formula, from the box that pw_get tells. PW_NO_MEMORY. */
+ * their slots. The order is exact: no rounding. Of the direction only its way counts, not its length. How far off the first
+ * box is met pw_ray_first tells; for the others docs/LIBRARY.md has the formula, from the box that pw_get tells. PW_NO_MEMORY. */
 pw_status pw_ray_hits(pw_world *world, const pw_ray *ray, pw_handle *out, size_t out_len, size_t *count);
 
 /* The same for the boxes that a moved box meets on its way, in the order in which it first meets them, and then by their slots.
@@ -313,6 +335,13 @@ pw_status pw_cast_hits(pw_world *world, const pw_cast *cast, pw_handle *out, siz
 /* The nearest live boxes to a place, at most `want` and at most PW_SLOTS, in rising order of the square of their distance (0 for a
  * box that holds it) and then of their slots. PW_NO_MEMORY. */
 pw_status pw_nearest(pw_world *world, const pw_near *near_to, pw_handle *out, size_t out_len, size_t *count);
+
+/* Tells whether a ray meets a box (`count` is 1, or 0 and `out` is as before), and which it meets first, as pw_ray_hits would: where, and
+ * by which side. It looks for no other hit, so over PW_TREE and PW_SKIN it passes by all that lies behind the first. PW_NO_MEMORY. */
+pw_status pw_ray_first(pw_world *world, const pw_ray *ray, pw_hit *out, size_t *count);
+
+/* The same for the box that a moved box meets first, as pw_cast_hits would. PW_INVERTED, PW_NO_MEMORY. */
+pw_status pw_cast_first(pw_world *world, const pw_cast *cast, pw_hit *out, size_t *count);
 
 /* Marks the world as it stands, for rollback. It takes no memory, so that PW_NO_MEMORY comes only of a spent world. PW_FULL:
  * PW_MOST_MARKS are held. */
@@ -357,6 +386,34 @@ static inline pw_status pw_box_around_double(const double lo[3], const double hi
     memcpy(&high, hi, sizeof high);
     return pw_box_around_64(&low, &high, out);
 }
+
+/* The same, cut to the range: what is below it or above it, as an infinity, becomes its end. Bounds without end have a box so, as those
+ * of a plane. A box that lies past the range becomes a flat one at the end, so boxes with a common point have boxes that meet, as above.
+ * PW_NOT_A_NUMBER, PW_INVERTED: the first fault by axes decides, and `out` is as it was. */
+static inline double pw_cut_to_range(double number) {
+    const double least = -32768.0, most = 2147483647.0 / 65536.0;
+    return number < least ? least : number > most ? most : number;
+}
+static inline pw_status pw_box_around_cut_double(const double lo[3], const double hi[3], pw_box *out) {
+    double low[3], high[3];
+    int axis;
+    for (axis = 0; axis < 3; axis++) {
+        /* Two numbers past one end are cut to one number, so what is inverted stays so. */
+        int inverted = lo[axis] > hi[axis];
+        low[axis] = inverted ? 1.0 : pw_cut_to_range(lo[axis]);
+        high[axis] = inverted ? 0.0 : pw_cut_to_range(hi[axis]);
+    }
+    return pw_box_around_double(low, high, out);
+}
+static inline pw_status pw_box_around_cut(const float lo[3], const float hi[3], pw_box *out) {
+    double low[3], high[3];
+    int axis;
+    for (axis = 0; axis < 3; axis++) {
+        low[axis] = lo[axis];
+        high[axis] = hi[axis];
+    }
+    return pw_box_around_cut_double(low, high, out);
+}
 static inline pw_status pw_fix_below(float number, int32_t *out) {
     uint32_t bits;
     memcpy(&bits, &number, sizeof bits);
@@ -394,10 +451,17 @@ static inline pw_new pw_seen_by_all(void) {
     return how;
 }
 
-/* Tells whether a ray meets a box, and which one first. */
+/* Tells whether a ray meets a box, and which one first: the handle of pw_ray_first alone. */
 static inline pw_status pw_first_hit(pw_world *world, const pw_ray *ray, pw_handle *first, size_t *count) {
-    return pw_ray_hits(world, ray, first, 1, count);
+    pw_hit hit;
+    pw_status status = pw_ray_first(world, ray, &hit, count);
+    if (*count > 0) *first = hit.handle;
+    return status;
 }
+
+/* The place of a hit on the way, as the double that is nearest to its fraction: `from + pw_fraction(&hit) * direction` is where a ray
+ * comes to the box, up to rounding. */
+static inline double pw_fraction(const pw_hit *hit) { return (double)hit->num / (double)hit->den; }
 
 #ifdef __cplusplus
 }

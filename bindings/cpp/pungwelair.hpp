@@ -8,7 +8,7 @@
 //         auto moved = world.move(handles, boxes);            // moved.status, moved.done
 //         auto frame = world.update();                        // frame.status, frame.pairs, frame.events, frame.changes
 //         auto told = world.changes(0, changes);              // told.status, told.count
-//         auto found = world.ray_hits(ray, hits);             // found.status, found.count
+//         if (auto hit = world.ray_first(ray)) shoot(*hit);   // hit->handle, hit->place(), hit->normal()
 //     }
 #ifndef PUNGWELAIR_HPP
 #define PUNGWELAIR_HPP
@@ -62,6 +62,9 @@ enum class [[nodiscard]] Status : pw_status {
 enum class Structure : uint32_t { plain = PW_PLAIN, sap = PW_SAP, tree = PW_TREE, grid = PW_GRID, skin = PW_SKIN };
 
 enum class Event : uint32_t { begin = PW_BEGIN, stay = PW_STAY, over = PW_OVER };
+
+// Which side of a box, along an axis.
+enum class Side : uint32_t { lower = PW_LOWER, upper = PW_UPPER };
 
 [[nodiscard]] constexpr Event event_of(const pw_told& told) noexcept { return Event(told.event); }
 
@@ -170,6 +173,33 @@ inline Result<pw_box> try_box_around(const std::array<double, 3>& lo, const std:
     return try_box_around(lo, hi);
 }
 
+// The same, cut to the range: what is past an end of it, as an infinity, becomes that end. Refused are a NaN and a lower corner above the
+// upper one.
+inline Result<pw_box> try_box_around_cut(const float lo[3], const float hi[3]) noexcept {
+    pw_box out{};
+    pw_status status = pw_box_around_cut(lo, hi, &out);
+    return result_of(status, out);
+}
+inline Result<pw_box> try_box_around_cut(const double lo[3], const double hi[3]) noexcept {
+    pw_box out{};
+    pw_status status = pw_box_around_cut_double(lo, hi, &out);
+    return result_of(status, out);
+}
+inline Result<pw_box> try_box_around_cut(const std::array<float, 3>& lo, const std::array<float, 3>& hi) noexcept {
+    return try_box_around_cut(lo.data(), hi.data());
+}
+inline Result<pw_box> try_box_around_cut(const std::array<double, 3>& lo, const std::array<double, 3>& hi) noexcept {
+    return try_box_around_cut(lo.data(), hi.data());
+}
+[[nodiscard]] inline std::optional<pw_box> box_around_cut(const float lo[3], const float hi[3]) noexcept { return try_box_around_cut(lo, hi); }
+[[nodiscard]] inline std::optional<pw_box> box_around_cut(const double lo[3], const double hi[3]) noexcept { return try_box_around_cut(lo, hi); }
+[[nodiscard]] inline std::optional<pw_box> box_around_cut(const std::array<float, 3>& lo, const std::array<float, 3>& hi) noexcept {
+    return try_box_around_cut(lo, hi);
+}
+[[nodiscard]] inline std::optional<pw_box> box_around_cut(const std::array<double, 3>& lo, const std::array<double, 3>& hi) noexcept {
+    return try_box_around_cut(lo, hi);
+}
+
 // The nearest raw numbers that are at most, and at least, a float or a double.
 inline Result<int32_t> try_fix_below(float number) noexcept {
     int32_t out = 0;
@@ -200,6 +230,24 @@ inline Result<int32_t> try_fix_above(double number) noexcept {
 struct Placed {
     pw_handle handle;
     pw_live live;
+};
+
+// The box that a ray or a moved box meets first, as pw_hit has it.
+struct Hit : pw_hit {
+    // How much of the way leads there: 0 where it begins, and 1 where it ends, which a ray goes on past.
+    [[nodiscard]] double place() const noexcept { return pw_fraction(this); }
+    // The axis of the side that it comes to, and which of the two sides: no value if the way begins in the box.
+    [[nodiscard]] std::optional<std::pair<unsigned, Side>> face() const noexcept {
+        if (axis == PW_NO_AXIS) return std::nullopt;
+        return std::pair(unsigned(axis), Side(side));
+    }
+    // The direction that the side faces, of length 1: no value if the way begins in the box.
+    [[nodiscard]] std::optional<std::array<int, 3>> normal() const noexcept {
+        if (axis == PW_NO_AXIS) return std::nullopt;
+        std::array<int, 3> out{};
+        out[axis] = side == PW_UPPER ? 1 : -1;
+        return out;
+    }
 };
 
 // A world, which is closed when it ends. It can be moved and not copied; what it was moved from is a closed world. Questions aren't
@@ -324,11 +372,28 @@ public:
         found.status = Status(pw_nearest(&world, &near_to, out.data(), out.size(), &found.count));
         return found;
     }
+    // What a ray, and a moved box, meets first, and where: no value in the result if it meets no box.
+    Result<std::optional<Hit>> try_ray_first(const pw_ray& ray) noexcept {
+        Hit hit{};
+        std::size_t count;
+        pw_status status = pw_ray_first(&world, &ray, &hit, &count);
+        return result_of(status, count > 0 ? std::optional(hit) : std::nullopt);
+    }
+    Result<std::optional<Hit>> try_cast_first(const pw_cast& cast) noexcept {
+        Hit hit{};
+        std::size_t count;
+        pw_status status = pw_cast_first(&world, &cast, &hit, &count);
+        return result_of(status, count > 0 ? std::optional(hit) : std::nullopt);
+    }
+    // The same, and no value also if the call is refused.
+    [[nodiscard]] std::optional<Hit> ray_first(const pw_ray& ray) noexcept { return *try_ray_first(ray); }
+    [[nodiscard]] std::optional<Hit> cast_first(const pw_cast& cast) noexcept { return *try_cast_first(cast); }
     // The box that a ray meets first, and no value if it meets no box.
     Result<std::optional<pw_handle>> try_first_hit(const pw_ray& ray) noexcept {
         pw_handle first{};
-        Count found = ray_hits(ray, {&first, 1});
-        return result_of(pw_status(found.status), found.count > 0 ? std::optional(first) : std::nullopt);
+        std::size_t count;
+        pw_status status = pw_first_hit(&world, &ray, &first, &count);
+        return result_of(status, count > 0 ? std::optional(first) : std::nullopt);
     }
     // The same, and no value also if the world is closed or memory ran out.
     [[nodiscard]] std::optional<pw_handle> first_hit(const pw_ray& ray) noexcept { return *try_first_hit(ray); }

@@ -16,7 +16,7 @@ static size_t handle_count;
 static pw_world world = PW_WORLD_INIT;
 
 /* How many answers had something in them. */
-static long pairs_seen, over_seen, hits_seen;
+static long pairs_seen, over_seen, hits_seen, firsts_seen;
 
 /* Random numbers: splitmix64. */
 static uint64_t seed;
@@ -254,6 +254,20 @@ static void try_hits(void) {
     expect_hits(status, out, room, count, hits, model_hits(&q, false, hits));
 }
 
+/* The first of the boxes that are met, its place and its side. If none is, what was to be told is as before. */
+static void expect_first(pw_status status, const pw_hit *out, size_t count, const struct question *q, const struct hit *hits, size_t wanted) {
+    uint32_t axis, side;
+    EXPECT(status == PW_OK && count == (wanted > 0));
+    if (wanted == 0) {
+        EXPECT(is_filled(out, sizeof *out));
+        return;
+    }
+    find_side(q, &now.live[hits->slot].body, hits, &axis, &side);
+    EXPECT(same_handle(out->handle, handle_of(hits->slot)) && out->axis == axis && out->side == side);
+    EXPECT(out->num >= 0 && out->den >= 1 && (wide)out->num * hits->parts == hits->number * out->den);
+    firsts_seen++;
+}
+
 static void try_ray_hits(void) {
     static const pw_point origin = {0, 0, 0};
     pw_ray ray = {some_mask(), place(), direction()};
@@ -264,7 +278,12 @@ static void try_ray_hits(void) {
     set_way(&q, origin, ray.direction);
     memset(out, FILL, sizeof out);
     pw_status status = pw_ray_hits(&world, &ray, out, room, &count);
-    expect_hits(status, out, room, count, hits, model_hits(&q, true, hits));
+    size_t wanted = model_hits(&q, true, hits);
+    expect_hits(status, out, room, count, hits, wanted);
+    pw_hit first;
+    memset(&first, FILL, sizeof first);
+    status = pw_ray_first(&world, &ray, &first, &count);
+    expect_first(status, &first, count, &q, hits, wanted);
 }
 
 static void try_cast_hits(void) {
@@ -277,11 +296,18 @@ static void try_cast_hits(void) {
     set_way(&q, origin, cast.by);
     memset(out, FILL, sizeof out);
     pw_status status = pw_cast_hits(&world, &cast, out, room, &count);
+    size_t first_count = 99;
+    pw_hit first;
+    memset(&first, FILL, sizeof first);
+    pw_status first_status = pw_cast_first(&world, &cast, &first, &first_count);
     if (is_inverted(&cast.body)) {
         EXPECT(status == PW_INVERTED && count == 0 && is_filled(out, sizeof out));
+        EXPECT(first_status == PW_INVERTED && first_count == 0 && is_filled(&first, sizeof first));
         return;
     }
-    expect_hits(status, out, room, count, hits, model_hits(&q, true, hits));
+    size_t wanted = model_hits(&q, true, hits);
+    expect_hits(status, out, room, count, hits, wanted);
+    expect_first(first_status, &first, first_count, &q, hits, wanted);
 }
 
 static void try_nearest(void) {
@@ -369,7 +395,7 @@ int main(int count, char **words) {
         for (long k = 0; k < calls; k++) try_some_call(structure);
         EXPECT(pw_close(&world) == PW_OK);
     }
-    printf("random_calls: %ld pairs, %ld over, %ld hits\n", pairs_seen, over_seen, hits_seen);
-    EXPECT(pairs_seen > 0 && over_seen > 0 && hits_seen > 0);
+    printf("random_calls: %ld pairs, %ld over, %ld hits, %ld first hits\n", pairs_seen, over_seen, hits_seen, firsts_seen);
+    EXPECT(pairs_seen > 0 && over_seen > 0 && hits_seen > 0 && firsts_seen > 0);
     return tested("random_calls");
 }

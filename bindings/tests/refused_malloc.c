@@ -107,6 +107,7 @@ static void leave_spent_world(void) {
     pw_box body = box_of(0, 0);
     pw_new how = pw_seen_by_all();
     pw_handle handle;
+    pw_hit hit;
     pw_counts counts;
     pw_query query = {PW_POINT, ~0u, {0, 0, 0}, {0, 0, 0}};
     pw_ray ray = {~0u, {0, 0, 0}, {1, 0, 0}};
@@ -124,6 +125,8 @@ static void leave_spent_world(void) {
     EXPECT(pw_ray_hits(&world, &ray, &handle, 1, &count) == PW_NO_MEMORY && count == 0);
     EXPECT(pw_cast_hits(&world, &cast, &handle, 1, &count) == PW_NO_MEMORY && count == 0);
     EXPECT(pw_nearest(&world, &near_to, &handle, 1, &count) == PW_NO_MEMORY && count == 0);
+    EXPECT(pw_ray_first(&world, &ray, &hit, &count) == PW_NO_MEMORY && count == 0);
+    EXPECT(pw_cast_first(&world, &cast, &hit, &count) == PW_NO_MEMORY && count == 0);
     EXPECT(pw_mark(&world) == PW_NO_MEMORY && pw_forget(&world, 0) == PW_NO_MEMORY && pw_back(&world) == PW_NO_MEMORY);
     /* What it had can be read still. */
     EXPECT(pw_pairs(&world, 0, pairs, ROOM, &count) == PW_OK);
@@ -260,6 +263,7 @@ static void ask(void) {
     pw_cast cast = {~0u, {{0, 0, 0}, {50, 50, 50}}, {900, 900, 900}};
     pw_near near_to = {~0u, 50, {350, 350, 350}};
     pw_handle found[BOXES + MORE];
+    pw_hit hits[2];
     size_t count;
     for (int k = 0; k < 4; k++) {
         ASK(pw_hits(&world, &queries[k], found, BOXES + MORE, &count));
@@ -272,6 +276,11 @@ static void ask(void) {
     ASK(pw_nearest(&world, &near_to, found, BOXES + MORE, &count));
     EXPECT(count == 50);
     answered(found, count * sizeof *found);
+    ASK(pw_ray_first(&world, &ray, &hits[0], &count));
+    EXPECT(count == 1);
+    ASK(pw_cast_first(&world, &cast, &hits[1], &count));
+    EXPECT(count == 1);
+    answered(hits, sizeof hits);
 }
 
 static void see(void) {

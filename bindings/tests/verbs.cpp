@@ -74,6 +74,24 @@ void questions(Structure structure) {
     EXPECT(!world.first_hit({2, {99, 5, 5}, {-1, 0, 0}}));
 }
 
+// The first hit, where it is and by which side, and why there is none.
+void first_hits(Structure structure) {
+    World world(structure);
+    auto far = world.add(cube(50)), near = world.add(cube(0));
+    auto hit = world.ray_first({1, {100, 5, 5}, {-80, 0, 0}});
+    EXPECT(far && near && hit && hit->handle == *far && hit->place() == 0.5 && hit->num * 2 == hit->den);
+    EXPECT(hit->face() && hit->face()->first == 0 && hit->face()->second == pungwelair::Side::upper);
+    EXPECT(hit->normal() && (*hit->normal() == std::array<int, 3>{1, 0, 0}));
+    auto moved = world.cast_first({1, {{0, -20, 0}, {1, -10, 1}}, {0, 20, 0}});
+    EXPECT(moved && moved->handle == *near && moved->place() == 0.5 && (*moved->normal() == std::array<int, 3>{0, -1, 0}));
+    auto within = world.ray_first({1, {5, 5, 5}, {0, 1, 0}});
+    EXPECT(within && within->handle == *near && within->place() == 0 && !within->face() && !within->normal());
+    EXPECT(!world.ray_first({2, {100, 5, 5}, {-80, 0, 0}}) && !world.cast_first({1, cube(-20), {9, 0, 0}}));
+    auto nothing = world.try_cast_first({1, cube(-20), {9, 0, 0}});
+    EXPECT(nothing && !*nothing && world.try_cast_first({1, inverted, origin}).error() == Status::inverted);
+    EXPECT(World().try_ray_first({1, origin, origin}).error() == Status::closed && !World().ray_first({1, origin, origin}));
+}
+
 void marks_and_refusals() {
     World world(Structure::grid);
     auto kept = world.add(cube(0));
@@ -151,6 +169,11 @@ void reasons() {
     EXPECT(pungwelair::try_box_around(low, high)->hi.z == 65536 && pungwelair::try_box_around(high, low).error() == Status::inverted);
     EXPECT(pungwelair::try_box_around(none, high).error() == Status::not_a_number);
     EXPECT(pungwelair::try_box_around(low, far).error() == Status::out_of_range);
+    const std::array<double, 3> endless{0, 0, std::numeric_limits<double>::infinity()};
+    EXPECT(pungwelair::try_box_around_cut(low, endless)->hi.z == INT32_MAX && pungwelair::box_around_cut(low, far)->hi.z == INT32_MAX);
+    EXPECT(pungwelair::try_box_around_cut(none, high).error() == Status::not_a_number && !pungwelair::box_around_cut(high, low));
+    EXPECT((pungwelair::box_around_cut(std::array{0.0f, -9e9f, 0.0f}, std::array{0.1f, 0.0f, 9e9f}) ==
+            pw_box{{0, INT32_MIN, 0}, {6554, 0, INT32_MAX}}));
     EXPECT(*pungwelair::try_fix_below(0.1f) == 6553 && *pungwelair::try_fix_above(0.1f) == 6554);
     EXPECT(*pungwelair::try_fix_below(0.1) == 6553 && *pungwelair::try_fix_above(0.1) == 6554);
     EXPECT(pungwelair::try_fix_below(none[1]).error() == Status::not_a_number);
@@ -251,6 +274,7 @@ static_assert(noexcept(World().is_open()) && noexcept(World().status()) && noexc
 static_assert(noexcept(World().add(inverted)) && noexcept(World().try_add(inverted)) && noexcept(World().move({}, inverted)));
 static_assert(noexcept(World().add(std::declval<std::vector<pw_box>&>(), {}, std::declval<std::vector<pw_handle>&>())));
 static_assert(noexcept(World().move(std::declval<std::vector<pw_handle>&>(), std::declval<std::vector<pw_box>&>())));
+static_assert(noexcept(World().ray_first({})) && noexcept(World().try_cast_first({})) && noexcept(pungwelair::Hit{}.normal()));
 static_assert(noexcept(World().mask({}, {})) && noexcept(World().regroup({}, {})));
 static_assert(noexcept(World().remove(pw_handle{})) && noexcept(World().remove({pw_handle{}, pw_handle{}})));
 static_assert(noexcept(World().get({})) && noexcept(World().try_get({})) && noexcept(World().info()) && noexcept(World().try_info()));
@@ -331,6 +355,7 @@ int main() {
     for (Structure structure : structures) {
         changes_and_frames(structure);
         questions(structure);
+        first_hits(structure);
     }
     marks_and_refusals();
     forgotten_marks();

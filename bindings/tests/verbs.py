@@ -18,8 +18,8 @@ from pathlib import Path
 
 import pungwelair
 from pungwelair import (
-    ALL, BEGIN, MOST_MARKS, NO_HANDLE, OVER, PLAIN, SLOTS, STAY, TREE, Box, Event, Handle, Live, Pair, Point, Ray, Refused, Segment, Status,
-    Stopped, Structure, Told, World, box_around, fix_above, fix_below, library,
+    ALL, BEGIN, LOWER, MOST_MARKS, NO_HANDLE, OVER, PLAIN, SLOTS, STAY, TREE, UPPER, Box, Event, Handle, Hit, Live, Pair, Point, Ray,
+    Refused, Segment, Status, Stopped, Structure, Told, World, box_around, box_around_cut, fix_above, fix_below, library,
 )  # fmt: skip
 
 try:
@@ -167,6 +167,7 @@ def wrong_numbers(world):
         raises(kind, world.hits, raw(0), wrong)
         raises(kind, world.ray_hits, (0, 0, 0), (1, 0, 0), wrong)
         raises(kind, world.first_hit, (0, 0, 0), (1, 0, 0), wrong)
+        raises(kind, world.cast_first, raw(0), (1, 0, 0), wrong)
         raises(kind, world.cast_hits_into, out, raw(0), (1, 0, 0), wrong)
         raises(kind, world.nearest, (0, 0, 0), wrong)
         raises(kind, world.nearest, (0, 0, 0), 1, wrong)
@@ -182,6 +183,7 @@ def wrong_numbers(world):
         raises(kind, world.hits, Segment(Point(), place))
         raises(kind, world.ray_handles, place, (1, 0, 0))
         raises(kind, world.cast_hits, raw(0), place)
+        raises(kind, world.ray_first, place, (1, 0, 0))
         raises(kind, world.nearest, place)
     for wrong in ((0, 0), (0, 0, 0, 0)):
         raises(ValueError, Box, wrong, (0, 0, 0))
@@ -210,6 +212,14 @@ def questions(world):
     assert world.nearest((0, 0, 0), want=0) == world.nearest((0, 0, 0), want=ALL, mask=2) == []
     refused(Status.ARGUMENT, world.hits, Box((1, 0, 0), (0, 0, 0)))
     refused(Status.INVERTED, world.cast_hits, Box((1, 0, 0), (0, 0, 0)), (0, 0, 0))
+    first = world.ray_first((100, 5, 5), (-80, 0, 0))
+    assert first[0] == far and first.place == 0.5 and first[3:] == (0, UPPER) and first.side is UPPER and first.normal == (1, 0, 0)
+    moved = world.cast_first(Box((0, -20, 0), (1, -10, 1)), (0, 20, 0))
+    assert moved == Hit(near, moved.num, 2 * moved.num, 1, LOWER) and moved.normal == (0, -1, 0)
+    within = world.ray_first((5, 5, 5), (0, 0, 0))
+    assert (within.handle, within.place, within.axis, within.side, within.normal) == (near, 0, None, None, None)
+    assert world.ray_first(origin, direction, mask=2) is None and world.cast_first(raw(-20), (9, 0, 0)) is None
+    refused(Status.INVERTED, world.cast_first, Box((1, 0, 0), (0, 0, 0)), (0, 0, 0))
     line = Box((0, 0, 0), (50, 0, 0))
     for call, arguments, answer in (
         (world.hits_into, (line,), [far, near]),
@@ -456,6 +466,7 @@ def closed_worlds(world):
         lambda: world.mask(handle, 1, 1), world.update, world.end_frame, world.events, world.changes, world.pairs, world.pair_events,
         world.pair_changes, lambda: world.pairs_into(bytearray(16)), lambda: world.hits(cube(0)),
         lambda: world.ray_hits((0, 0, 0), (1, 0, 0)), lambda: world.first_hit((0, 0, 0), (1, 0, 0)), lambda: world.cast_hits(cube(0), (0, 0, 0)), lambda: world.nearest((0, 0, 0)),
+        lambda: world.ray_first((0, 0, 0), (1, 0, 0)), lambda: world.cast_first(cube(0), (0, 0, 0)),
         lambda: world.hits_into(bytearray(16), cube(0)), world.mark, world.forget, world.back, world.info,
         lambda: world.at(0), lambda: list(world.boxes()), lambda: world.regroup(handle),
     ):  # fmt: skip
@@ -671,6 +682,13 @@ def floats():
     refused(Status.NOT_A_NUMBER, box_around, (float("nan"), 0, 0), (0, 0, 0))
     refused(Status.OUT_OF_RANGE, box_around, (0, 0, 0), (32768, 0, 0))
     refused(Status.INVERTED, box_around, (1, 0, 0), (0, 0, 0))
+    endless, least, most = float("inf"), -(2**31), 2**31 - 1
+    assert box_around_cut((-endless, -40000, 0.1), (endless, 0.1, 32768)) == Box((least, least, 6553), (most, 6554, most))
+    assert box_around_cut((40000, -1e30, 0), (50000, -40000, 1)) == Box((most, least, 0), (most, least, 65536))
+    refused(Status.INVERTED, box_around_cut, (50000, 0, 0), (40000, float("nan"), 0))
+    refused(Status.NOT_A_NUMBER, box_around_cut, (0, float("nan"), 1), (0, 0, 0))
+    raises(ValueError, box_around_cut, (0, 0), (1, 1))
+    raises(TypeError, box_around_cut, ("0", 0, 0), (1, 1, 1))
     for call in (fix_below, fix_above):
         refused(Status.NOT_A_NUMBER, call, float("nan"))
         refused(Status.OUT_OF_RANGE, call, float("-inf"))
@@ -697,9 +715,9 @@ def types_of_the_library():
         if line.startswith("pw_status pw_"):
             function = getattr(library, line[len("pw_status ") : line.index("(")])
             assert function.argtypes and function.restype is ctypes.c_uint32, line
-    structs = "Point Box New Handle Live Pair Told Counts Query Ray Cast Near Info World".split()
+    structs = "Point Box New Handle Live Pair Told Counts Query Ray Cast Near Hit Info World".split()
     sizes = [ctypes.sizeof(getattr(pungwelair._library, f"Raw{name}")) for name in structs]
-    assert sizes == [12, 24, 16, 8, 40, 16, 20, 24, 32, 28, 40, 20, 32, 16] or ctypes.sizeof(ctypes.c_void_p) != 8
+    assert sizes == [12, 24, 16, 8, 40, 16, 20, 24, 32, 28, 40, 20, 32, 32, 16] or ctypes.sizeof(ctypes.c_void_p) != 8
     pungwelair.call("pw_close", held)
     refused(Status.CLOSED, pungwelair.call, "pw_close", held)
 

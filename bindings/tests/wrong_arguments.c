@@ -69,6 +69,7 @@ static void closed_world(void) {
     pw_pair pairs[ROOM];
     pw_told events[ROOM];
     pw_live live[1];
+    pw_hit hit[1];
     pw_query query = {PW_POINT, ~0u, origin, origin};
     pw_ray ray = {~0u, origin, origin};
     pw_cast cast = {~0u, boxes[0], origin};
@@ -97,6 +98,9 @@ static void closed_world(void) {
     EMPTY(pw_ray_hits(&world, &ray, out, ROOM, &count), PW_CLOSED, count, out);
     EMPTY(pw_cast_hits(&world, &cast, out, ROOM, &count), PW_CLOSED, count, out);
     EMPTY(pw_nearest(&world, &near_to, out, ROOM, &count), PW_CLOSED, count, out);
+    EMPTY(pw_ray_first(&world, &ray, hit, &count), PW_CLOSED, count, hit);
+    EMPTY(pw_cast_first(&world, &cast, hit, &count), PW_CLOSED, count, hit);
+    EMPTY(pw_first_hit(&world, &ray, out, &count), PW_CLOSED, count, out);
     EXPECT(pw_mark(&world) == PW_CLOSED && pw_forget(&world, 0) == PW_CLOSED && pw_back(&world) == PW_CLOSED);
     memset(info, FILL, sizeof info);
     EXPECT(pw_info(&world, info) == PW_CLOSED && is_filled(info, sizeof info));
@@ -230,6 +234,7 @@ static void pair_that_stays(void) {
 static void wrong_questions(void) {
     static const uint32_t unknown[3] = {4, 99, 0xffffffffu};
     pw_handle out[ROOM];
+    pw_hit hit[1];
     size_t count;
     for (int k = 0; k < 3; k++) {
         pw_query query = {unknown[k], ~0u, origin, origin};
@@ -239,6 +244,7 @@ static void wrong_questions(void) {
         STAYS(EMPTY(pw_hits(&world, &query, out, ROOM, &count), PW_ARGUMENT, count, out));
         STAYS(EMPTY(pw_hits(&world, &region, out, ROOM, &count), PW_ARGUMENT, count, out));
         STAYS(EMPTY(pw_cast_hits(&world, &cast, out, ROOM, &count), PW_INVERTED, count, out));
+        STAYS(EMPTY(pw_cast_first(&world, &cast, hit, &count), PW_INVERTED, count, hit));
     }
 }
 
@@ -264,6 +270,59 @@ static void room_for_hits(void) {
     }
 }
 
+static bool is_hit(const pw_hit *hit, uint32_t box, double place, uint32_t axis, uint32_t side) {
+    return !memcmp(&hit->handle, &handles[box], sizeof hit->handle) && pw_fraction(hit) == place && hit->axis == axis && hit->side == side;
+}
+
+/* The first hit from each side, from within, on the side itself, where several sides are met at once, and none. */
+static void first_hits(void) {
+    const struct {
+        pw_point from, direction;
+        uint32_t box;
+        double place;
+        uint32_t axis, side;
+    } rays[] = {{{-5, 1, 1}, {1, 0, 0}, 0, 5, 0, PW_LOWER},        {{60, 5, 5}, {-80, 0, 0}, 1, 0.5, 0, PW_UPPER},
+                {{3, -8, 3}, {0, 4, 0}, 0, 2, 1, PW_LOWER},        {{3, 19, 3}, {0, -1, 0}, 0, 10, 1, PW_UPPER},
+                {{3, 3, -1}, {0, 0, 3}, 0, 1.0 / 3, 2, PW_LOWER},  {{3, 3, 11}, {0, 0, -4}, 0, 0.5, 2, PW_UPPER},
+                {{-2, -2, -2}, {1, 1, 1}, 0, 2, 0, PW_LOWER},      {{3, 11, 11}, {0, -1, -1}, 0, 2, 1, PW_UPPER},
+                {{4, 4, 4}, {-1, 2, 3}, 0, 0, PW_NO_AXIS, 0},      {{4, 4, 4}, {0, 0, 0}, 0, 0, PW_NO_AXIS, 0},
+                {{0, 5, 5}, {1, 0, 0}, 0, 0, 0, PW_LOWER},         {{55, 60, 55}, {0, -7, 0}, 2, 0, 1, PW_UPPER}};
+    pw_cast cast = {~0u, {{-20, 2, 2}, {-10, 4, 4}}, {40, 0, 0}}, within = {~0u, boxes[0], {1, 0, 0}}, ends_short = cast;
+    pw_ray no_group = {0, {-5, 1, 1}, {1, 0, 0}}, beside = {~0u, {-5, 10, 1}, {1, 0, 0}};
+    pw_hit hit[1];
+    pw_handle first[1];
+    size_t count;
+    for (size_t k = 0; k < sizeof rays / sizeof *rays; k++) {
+        pw_ray ray = {~0u, rays[k].from, rays[k].direction};
+        STAYS(EXPECT(pw_ray_first(&world, &ray, hit, &count) == PW_OK && count == 1));
+        EXPECT(is_hit(hit, rays[k].box, rays[k].place, rays[k].axis, rays[k].side));
+        EXPECT(pw_first_hit(&world, &ray, first, &count) == PW_OK && count == 1 && !memcmp(first, &hit->handle, sizeof *first));
+    }
+    ends_short.by.x = 9;
+    EXPECT(pw_cast_first(&world, &cast, hit, &count) == PW_OK && count == 1 && is_hit(hit, 0, 0.25, 0, PW_LOWER));
+    EXPECT(pw_cast_first(&world, &within, hit, &count) == PW_OK && count == 1 && is_hit(hit, 0, 0, PW_NO_AXIS, 0));
+    EMPTY(pw_cast_first(&world, &ends_short, hit, &count), PW_OK, count, hit);
+    EMPTY(pw_ray_first(&world, &beside, hit, &count), PW_OK, count, hit);
+    EMPTY(pw_ray_first(&world, &no_group, hit, &count), PW_OK, count, hit);
+    EMPTY(pw_first_hit(&world, &beside, first, &count), PW_OK, count, first);
+}
+
+/* A box with no group is live, and no question finds it. */
+static void no_group(void) {
+    pw_masks nothing = {0, ~0u}, as_before = pw_seen_by_all().masks;
+    pw_ray ray = {~0u, {55, 55, 0}, {0, 0, 1}};
+    pw_hit hit[1];
+    pw_handle out[ROOM];
+    size_t count;
+    pw_near near_to = {~0u, ROOM, {55, 55, 55}};
+    EXPECT(pw_mask(&world, handles[2], nothing) == PW_OK);
+    EMPTY(pw_ray_first(&world, &ray, hit, &count), PW_OK, count, hit);
+    EMPTY(pw_ray_hits(&world, &ray, out, ROOM, &count), PW_OK, count, out);
+    EXPECT(pw_nearest(&world, &near_to, out, ROOM, &count) == PW_OK && count == 2 && out[0].slot == 1);
+    EXPECT(pw_mask(&world, handles[2], as_before) == PW_OK);
+    EXPECT(pw_ray_first(&world, &ray, hit, &count) == PW_OK && count == 1 && is_hit(hit, 2, 50, 2, PW_LOWER));
+}
+
 /* Questions whose numbers are as large as they may be, or name no box. */
 static void questions_at_the_ends(void) {
     const int32_t least = INT32_MIN, most = INT32_MAX;
@@ -272,9 +331,12 @@ static void questions_at_the_ends(void) {
     pw_ray ray = {~0u, {least, least, least}, {most, most, most}}, no_group = {0, {-5, 1, 1}, {1, 0, 0}};
     pw_cast cast = {~0u, {{least, least, least}, {least, least, least}}, {most, most, most}};
     pw_query segment = {PW_SEGMENT, ~0u, {least, 0, 0}, {most, 0, 0}}, all = {PW_REGION, ~0u, {least, least, least}, {most, most, most}};
+    pw_hit hit[1];
     pw_near none = {~0u, 0, origin}, nobody = {0, 5, origin}, everybody = {~0u, ~0u, {most, most, most}};
     EXPECT(pw_ray_hits(&world, &ray, out, ROOM, &count) == PW_OK && count == 3 && !memcmp(out, handles, sizeof handles));
     EXPECT(pw_cast_hits(&world, &cast, out, ROOM, &count) == PW_OK && count == 0);
+    EXPECT(pw_ray_first(&world, &ray, hit, &count) == PW_OK && count == 1 && is_hit(hit, 0, 2147483648.0 / 2147483647, 0, PW_LOWER));
+    EMPTY(pw_cast_first(&world, &cast, hit, &count), PW_OK, count, hit);
     EXPECT(pw_hits(&world, &segment, out, ROOM, &count) == PW_OK && count == 2);
     EXPECT(pw_hits(&world, &all, out, ROOM, &count) == PW_OK && count == 3);
     EXPECT(pw_nearest(&world, &everybody, out, ROOM, &count) == PW_OK && count == 3 && out[0].slot == 2);
@@ -385,6 +447,31 @@ static void wrong_doubles(void) {
     EXPECT(pw_box_around_double(tenth, tenth, &around) == PW_OK && around.lo.x == 6553 && around.hi.x == 6554 && around.lo.y == -6554);
 }
 
+static bool is_around(const pw_box *box, pw_box wanted) { return !memcmp(box, &wanted, sizeof wanted); }
+
+/* Bounds without end, past the range, on it and within, of floats and of doubles. */
+static void boxes_cut_to_the_range(void) {
+    const int32_t least = INT32_MIN, most = INT32_MAX;
+    const float below[3] = {-INFINITY, -40000, 1}, above[3] = {INFINITY, 0.1f, 3.0e38f}, past[3] = {40000, -1e30f, 2}, far[3] = {50000, -40000, 2};
+    const double low[3] = {-INFINITY, -40000, 0.1}, high[3] = {INFINITY, 0.1, 32767.99999}, nan[3] = {0, NAN, 0}, beyond[3] = {50000, 0, 0};
+    const double first[3] = {-32768, 32767.999984741211, 0}, over[3] = {40000, 0, 0}, zero[3] = {0, 0, 0};
+    pw_box around;
+    EXPECT(pw_box_around_cut(below, above, &around) == PW_OK);
+    EXPECT(is_around(&around, (pw_box){{least, least, 65536}, {most, 6554, most}}));
+    EXPECT(pw_box_around_cut_double(low, high, &around) == PW_OK);
+    EXPECT(is_around(&around, (pw_box){{least, least, 6553}, {most, 6554, most}}));
+    /* Past one end it is flat. */
+    EXPECT(pw_box_around_cut(past, far, &around) == PW_OK);
+    EXPECT(is_around(&around, (pw_box){{most, least, 131072}, {most, least, 131072}}));
+    EXPECT(pw_box_around_cut_double(over, beyond, &around) == PW_OK && around.lo.x == most && around.hi.x == most);
+    EXPECT(pw_box_around_cut_double(first, first, &around) == PW_OK && is_around(&around, (pw_box){{least, most, 0}, {least, most, 0}}));
+    /* What is cut to one number may be inverted. */
+    memset(&around, FILL, sizeof around);
+    EXPECT(pw_box_around_cut_double(beyond, over, &around) == PW_INVERTED && pw_box_around_cut_double(nan, zero, &around) == PW_NOT_A_NUMBER);
+    EXPECT(pw_box_around_cut_double(zero, nan, &around) == PW_NOT_A_NUMBER && pw_box_around_cut_double(over, nan, &around) == PW_INVERTED);
+    EXPECT(is_filled(&around, sizeof around));
+}
+
 /* A number whose float is 30001 is rounded as the double that it is, whatever its qualifiers are, and evaluated once. */
 static void doubles_where_floats_are_taken(void) {
     const double numbers[2] = {30000.99999, -30000.99999}, *next = numbers;
@@ -418,6 +505,8 @@ int main(void) {
         pair_that_stays();
         wrong_questions();
         room_for_hits();
+        first_hits();
+        no_group();
         questions_at_the_ends();
         slots_with_and_without_boxes();
         marks_at_the_ends();
@@ -427,6 +516,7 @@ int main(void) {
     }
     wrong_floats();
     wrong_doubles();
+    boxes_cut_to_the_range();
     doubles_where_floats_are_taken();
     return tested("wrong_arguments");
 }

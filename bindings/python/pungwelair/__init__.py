@@ -17,13 +17,13 @@ the wrong type is a TypeError and a number that doesn't fit a ValueError, before
 
 from ._library import ALL, MOST_MARKS, SLOTS, library
 from ._values import (
-    BEGIN, GRID, NO_HANDLE, OVER, PLAIN, REFUSALS, SAP, SKIN, STAY, TREE, Box, Event, Frame, Handle, Info, Live, Pair, Point, Question,
-    Ray, Refused, Segment, Status, Stopped, Structure, Told, box_around, call, fix_above, fix_below,
+    BEGIN, GRID, LOWER, NO_HANDLE, OVER, PLAIN, REFUSALS, SAP, SKIN, STAY, TREE, UPPER, Box, Event, Frame, Handle, Hit, Info, Live, Pair,
+    Point, Question, Ray, Refused, Segment, Side, Status, Stopped, Structure, Told, box_around, box_around_cut, call, fix_above, fix_below,
 )  # fmt: skip
 from ._world import World
 
 __all__ = [
-    "ALL", "BEGIN", "Box", "Event", "Frame", "GRID", "Handle", "Info", "Live", "MOST_MARKS", "NO_HANDLE", "OVER", "PLAIN", "Pair",
-    "Point", "Question", "REFUSALS", "Ray", "Refused", "SAP", "SKIN", "SLOTS", "STAY", "Segment", "Status", "Stopped", "Structure",
-    "TREE", "Told", "World", "box_around", "call", "fix_above", "fix_below", "library",
+    "ALL", "BEGIN", "Box", "Event", "Frame", "GRID", "Handle", "Hit", "Info", "LOWER", "Live", "MOST_MARKS", "NO_HANDLE", "OVER", "PLAIN",
+    "Pair", "Point", "Question", "REFUSALS", "Ray", "Refused", "SAP", "SKIN", "SLOTS", "STAY", "Segment", "Side", "Status", "Stopped",
+    "Structure", "TREE", "Told", "UPPER", "World", "box_around", "box_around_cut", "call", "fix_above", "fix_below", "library",
 ]  # fmt: skip

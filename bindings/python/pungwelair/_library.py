@@ -8,7 +8,7 @@ from __future__ import annotations
 import ctypes
 import os
 import struct
-from ctypes import POINTER, c_double, c_int32, c_size_t, c_uint32, c_uint64, c_void_p
+from ctypes import POINTER, c_double, c_int32, c_int64, c_size_t, c_uint32, c_uint64, c_void_p
 from pathlib import Path
 from typing import Any, List
 
@@ -74,6 +74,10 @@ class RawCast(ctypes.Structure):
 
 class RawNear(ctypes.Structure):
     _fields_ = [("mask", c_uint32), ("want", c_uint32), ("at", RawPoint)]
+
+
+class RawHit(ctypes.Structure):
+    _fields_ = [("handle", RawHandle), ("num", c_int64), ("den", c_int64), ("axis", c_uint32), ("side", c_uint32)]
 
 
 class RawInfo(ctypes.Structure):
@@ -153,6 +157,8 @@ _takes("pw_changes", _WORLD, c_size_t, _To(RawTold), c_size_t, _COUNT)
 _takes("pw_hits", _WORLD, _To(RawQuery), *_FOUND)
 _takes("pw_ray_hits", _WORLD, _To(RawRay), *_FOUND)
 _takes("pw_cast_hits", _WORLD, _To(RawCast), *_FOUND)
+_takes("pw_ray_first", _WORLD, _To(RawRay), _To(RawHit), _COUNT)
+_takes("pw_cast_first", _WORLD, _To(RawCast), _To(RawHit), _COUNT)
 _takes("pw_nearest", _WORLD, _To(RawNear), *_FOUND)
 _takes("pw_mark", _WORLD)
 _takes("pw_forget", _WORLD, c_uint32)
@@ -189,12 +195,12 @@ class Workspace:
     """
 
     def __init__(self) -> None:
-        self.box, self.handle, self.live, self.info = RawBox(), RawHandle(), RawLive(), RawInfo()
+        self.box, self.handle, self.live, self.hit, self.info = RawBox(), RawHandle(), RawLive(), RawHit(), RawInfo()
         self.count, self.number = c_size_t(), c_int32()
         # Room for the answer to any question, and for what is told of most frames.
         self.found = bytearray(SLOTS * ctypes.sizeof(RawHandle))
         self.box_at, self.handle_at, self.live_at, self.info_at = map(ctypes.byref, (self.box, self.handle, self.live, self.info))
-        self.count_at, self.number_at = ctypes.byref(self.count), ctypes.byref(self.number)
+        self.hit_at, self.count_at, self.number_at = map(ctypes.byref, (self.hit, self.count, self.number))
         self.found_at = ctypes.byref(ctypes.c_char.from_buffer(self.found))
 
 
@@ -211,5 +217,5 @@ def workspace() -> Workspace:
 
 #: How the numbers of each struct stand in memory. Places and lengths are as ctypes has them.
 BOX, HANDLE, PAIR, TOLD = (struct.Struct(form) for form in ("=6i", "=2I", "=4I", "=5I"))
-NEW, LIVE, INFO = (struct.Struct(form) for form in ("=4I", "=6i4I", "=4I2Q"))
+NEW, LIVE, HIT, INFO = (struct.Struct(form) for form in ("=4I", "=6i4I", "=2I2q2I", "=4I2Q"))
 QUERY, RAY, CAST, NEAR, DOUBLES = (struct.Struct(form) for form in ("=2I6i", "=I6i", "=I9i", "=2I3i", "=3d"))

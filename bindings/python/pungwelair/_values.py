@@ -6,7 +6,7 @@ import enum
 import struct
 from ctypes import c_uint64
 from operator import index
-from typing import Any, Iterable, List, NamedTuple, NoReturn, Tuple, Union
+from typing import Any, Iterable, List, NamedTuple, NoReturn, Optional, Tuple, Union
 
 from ._library import ALL, BOX, DOUBLES, kept, library, unchecked, workspace
 
@@ -50,8 +50,16 @@ class Event(enum.IntEnum):
     OVER = 2  #: it was there in the frame before, and is no more
 
 
+class Side(enum.IntEnum):
+    """Which side of a box, along an axis."""
+
+    LOWER = 0  #: the side at `lo`, whose normal points down
+    UPPER = 1  #: the side at `hi`, whose normal points up
+
+
 PLAIN, SAP, TREE, GRID, SKIN = Structure
 BEGIN, STAY, OVER = Event
+LOWER, UPPER = Side
 
 
 class Refused(Exception):
@@ -179,13 +187,44 @@ Question = Union[Box, Point, Ray, Segment]
 
 
 class Live(NamedTuple):
-    """A live box, and how it came: `groups` and `sees` are masks, and `owner` is 0 for nobody's."""
+    """A live box, and how it came: `groups` and `sees` are masks, and `owner` is 0 for nobody's.
+
+    With `groups` 0 it pairs with no box, and no question finds it.
+    """
 
     box: Box
     groups: int
     sees: int
     owner: int
     fixed: bool
+
+
+class Hit(NamedTuple):
+    """The box that a ray or a moved box meets first.
+
+    It is met at the place `num / den` of the way, exactly: at 0 where the way begins, and at 1 where it ends, which a ray goes on past.
+    `axis` (0 to 2) and `side` are those of the side by which it is entered, of the lowest axis if there are several. They are None if
+    the way begins in the box.
+    """
+
+    handle: Handle
+    num: int
+    den: int
+    axis: Optional[int]
+    side: Optional[Side]
+
+    @property
+    def place(self) -> float:
+        """The place, as the float that is nearest to its fraction."""
+        return self.num / self.den
+
+    @property
+    def normal(self) -> Optional[Point]:
+        """The direction that the side faces, of length 1. None if the way begins in the box."""
+        if self.axis is None:
+            return None
+        length = 1 if self.side == UPPER else -1
+        return Point(*(length if axis == self.axis else 0 for axis in range(3)))
 
 
 class Frame(NamedTuple):
@@ -271,6 +310,29 @@ def box_around(lo: Iterable[float], hi: Iterable[float]) -> Box:
     if status:
         raise Refused(status)
     return box
+
+
+#: The ends of the range.
+_LEAST, _MOST = -(2**31) / 65536, (2**31 - 1) / 65536
+
+
+def box_around_cut(lo: Iterable[float], hi: Iterable[float]) -> Box:
+    """As `box_around`, but cut to the range: what is below it or above it, as an infinity, becomes its end.
+
+    A box that lies past the range becomes a flat one at the end. NOT_A_NUMBER or INVERTED: the first fault by axes.
+    """
+    low, high = [*lo], [*hi]
+    for axis, (least, most) in enumerate(zip(low, high)):
+        # Two numbers past one end are cut to one number, so what is inverted stays so. A NaN stays one too.
+        if least > most:
+            low[axis], high[axis] = 1, 0
+        else:
+            low[axis], high[axis] = _cut_to_range(least), _cut_to_range(most)
+    return box_around(low, high)
+
+
+def _cut_to_range(number: float) -> float:
+    return _LEAST if number < _LEAST else _MOST if number > _MOST else number
 
 
 def _fixed(rounds: Any, number: float) -> int:

@@ -10,12 +10,12 @@ from typing import TYPE_CHECKING, Any, Callable, Iterable, Iterator, List, NoRet
 
 from ._buffers import BOXES, EVENTS, HANDLES, PAIRS, Boxes, Handles, Kind, Rows, new_rows, packed_handle, room_of, rows_of
 from ._library import (
-    ALL, BOX, CAST, HANDLE, INFO, LIVE, MOST, NEAR, NEW, NONE, ONE, PAIR, QUERY, RAY, SLOTS, TOLD, RawCast, RawCounts, RawGroup, RawHandle, RawMasks,
-    RawNear, RawNew, RawQuery, RawRay, RawWorld, Workspace, kept, library, unchecked, workspace,
+    ALL, BOX, CAST, HANDLE, HIT, INFO, LIVE, MOST, NEAR, NEW, NONE, ONE, PAIR, QUERY, RAY, SLOTS, TOLD, RawCast, RawCounts, RawGroup,
+    RawHandle, RawMasks, RawNear, RawNew, RawQuery, RawRay, RawWorld, Workspace, kept, library, unchecked, workspace,
 )  # fmt: skip
 from ._values import (
-    BEGIN, OVER, STAY, TREE, Box, Event, Frame, Handle, Info, Live, Pair, Point, Question, Ray, Refused, Segment, Status, Stopped,
-    Structure, Told, made, refuse_kind, refuse_places, refuse_words,
+    BEGIN, LOWER, OVER, STAY, TREE, UPPER, Box, Event, Frame, Handle, Hit, Info, Live, Pair, Point, Question, Ray, Refused, Segment, Side,
+    Status, Stopped, Structure, Told, made, refuse_kind, refuse_places, refuse_words,
 )  # fmt: skip
 
 if TYPE_CHECKING:
@@ -24,6 +24,7 @@ if TYPE_CHECKING:
 _Value = TypeVar("_Value")
 
 _EVENTS: Tuple[Event, ...] = (BEGIN, STAY, OVER)
+_SIDES: Tuple[Side, ...] = (LOWER, UPPER)
 _SLOT, _SLOTS_TOLD = struct.Struct("=I4x"), struct.Struct("=II4xI4x")
 
 _pack_box, _pack_handle, _pack_new, _pack_query = BOX.pack, HANDLE.pack, NEW.pack, QUERY.pack
@@ -35,6 +36,7 @@ _pw_add, _pw_move, _pw_remove, _pw_get = map(unchecked, ("pw_add", "pw_move", "p
 _pw_mask, _pw_regroup = map(unchecked, ("pw_mask", "pw_regroup"))
 _pw_update, _pw_pairs, _pw_events, _pw_changes = map(unchecked, ("pw_update", "pw_pairs", "pw_events", "pw_changes"))
 _pw_hits, _pw_ray_hits, _pw_cast_hits, _pw_nearest = map(unchecked, ("pw_hits", "pw_ray_hits", "pw_cast_hits", "pw_nearest"))
+_pw_ray_first, _pw_cast_first = map(unchecked, ("pw_ray_first", "pw_cast_first"))
 
 
 def _from(start: int) -> int:
@@ -385,12 +387,28 @@ class World:
         """Writes the first of them to a buffer, and tells how many there are, which may be more than it has room for."""
         return self._found_into(library.pw_ray_hits, RawRay.from_buffer_copy(_ray(origin, direction, mask)), out)
 
-    def first_hit(self, origin: Iterable[int], direction: Iterable[int], mask: int = ALL) -> Optional[Handle]:
-        """The box that a ray meets first, or None where it meets none. NO_MEMORY."""
-        work = self._asked(_pw_ray_hits, _ray(origin, direction, mask), ONE)
-        first: Optional[Handle] = made(Handle, _handle_from(work.found)) if work.count.value else None
+    def ray_first(self, origin: Iterable[int], direction: Iterable[int], mask: int = ALL) -> Optional[Hit]:
+        """The box that a ray meets first, where, and by which side, or None if it meets no box. It looks for no other hit. NO_MEMORY."""
+        return self._first(_pw_ray_first, _ray(origin, direction, mask))
+
+    def cast_first(self, box: Box, by: Iterable[int], mask: int = ALL) -> Optional[Hit]:
+        """The same for a box that is moved by a displacement. INVERTED, NO_MEMORY."""
+        return self._first(_pw_cast_first, _cast(box, by, mask))
+
+    def _first(self, asks: Any, question: bytes) -> Optional[Hit]:
+        work = workspace()
+        with self._lock:
+            status = asks(self._world, question, work.hit_at, work.count_at)
+        first = _hit(HIT.unpack_from(work.hit)) if not status and work.count.value else None
         kept.append(work)
+        if status:
+            raise Refused(status)
         return first
+
+    def first_hit(self, origin: Iterable[int], direction: Iterable[int], mask: int = ALL) -> Optional[Handle]:
+        """The box that a ray meets first, or None if it meets no box. NO_MEMORY."""
+        first = self.ray_first(origin, direction, mask)
+        return first.handle if first else None
 
     def cast_hits(self, box: Box, by: Iterable[int], mask: int = ALL) -> List[Handle]:
         """The boxes that a box meets while it is moved by a displacement, in the order in which it first meets them, and then of their
@@ -410,10 +428,10 @@ class World:
         """Writes the first of them to a buffer, and tells how many there are, which may be more than it has room for."""
         return self._found_into(library.pw_nearest, RawNear.from_buffer_copy(_near(at, want, mask)), out)
 
-    def _asked(self, asks: Any, question: bytes, room: c_size_t = MOST) -> Workspace:
+    def _asked(self, asks: Any, question: bytes) -> Workspace:
         work = workspace()
         with self._lock:
-            status = asks(self._world, question, work.found_at, room, work.count_at)
+            status = asks(self._world, question, work.found_at, MOST, work.count_at)
         if status:
             raise Refused(status)
         return work
@@ -479,6 +497,12 @@ def _counted(work: Workspace) -> int:
 def _live(numbers: Tuple[int, ...]) -> Live:
     groups, sees, owner, fixed = numbers[6:]
     return Live(made(Box, numbers[:6]), groups, sees, owner, fixed != 0)
+
+
+def _hit(numbers: Tuple[int, ...]) -> Hit:
+    slot, generation, num, den, axis, side = numbers
+    handle = made(Handle, (slot, generation))
+    return Hit(handle, num, den, axis, _SIDES[side]) if axis < 3 else Hit(handle, num, den, None, None)
 
 
 def _handles(memory: bytearray, count: int) -> List[Handle]:

@@ -40,8 +40,8 @@ mod values;
 mod world;
 
 pub use values::{
-    box_around, box_around_f64, fix_above, fix_above_f64, fix_below, fix_below_f64, Body, Cast, Error, Event, Frame, Group, Handle, How,
-    Info, Live, Masks, Near, Pair, Point, Query, Ray, Stopped, Structure, Told,
+    box_around, box_around_cut, box_around_cut_f64, box_around_f64, fix_above, fix_above_f64, fix_below, fix_below_f64, Body, Cast, Error,
+    Event, Frame, Group, Handle, Hit, How, Info, Live, Masks, Near, Pair, Point, Query, Ray, Side, Stopped, Structure, Told,
 };
 pub use world::World;
 

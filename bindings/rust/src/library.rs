@@ -3,7 +3,7 @@
 //! A reference or a slice's pointer leads to what it says, aligned and not null: that of an empty slice too, which is all that the
 //! header asks of a pointer before a length of 0. What `&mut` leads to overlaps nothing else in the same call.
 
-use crate::values::{Body, Cast, Frame, Group, Handle, How, Info, Live, Masks, Near, Pair, RawQuery, Ray, Told};
+use crate::values::{Body, Cast, Frame, Group, Handle, Hit, How, Info, Live, Masks, Near, Pair, RawQuery, Ray, Told};
 use std::ffi::c_void;
 
 /// A world as the library has it. Zero is a closed one.
@@ -43,6 +43,8 @@ extern "C" {
     pub fn pw_hits(world: &mut Held, query: &RawQuery, out: *mut Handle, out_len: usize, count: &mut usize) -> u32;
     pub fn pw_ray_hits(world: &mut Held, ray: &Ray, out: *mut Handle, out_len: usize, count: &mut usize) -> u32;
     pub fn pw_cast_hits(world: &mut Held, cast: &Cast, out: *mut Handle, out_len: usize, count: &mut usize) -> u32;
+    pub fn pw_ray_first(world: &mut Held, ray: &Ray, out: &mut Hit, count: &mut usize) -> u32;
+    pub fn pw_cast_first(world: &mut Held, cast: &Cast, out: &mut Hit, count: &mut usize) -> u32;
     pub fn pw_nearest(world: &mut Held, near_to: &Near, out: *mut Handle, out_len: usize, count: &mut usize) -> u32;
     pub fn pw_mark(world: &mut Held) -> u32;
     pub fn pw_forget(world: &mut Held, count: u32) -> u32;

@@ -178,7 +178,7 @@ impl From<([i32; 3], [i32; 3])> for Body {
 #[repr(C)]
 #[derive(Clone, Copy, Debug, PartialEq, Eq, PartialOrd, Ord, Hash)]
 pub struct Masks {
-    /// The groups that the box is in, by which questions find it.
+    /// The groups that the box is in, by which questions find it. With 0 it pairs with no box, and no question finds it.
     pub is: u32,
     /// The groups that it sees.
     pub sees: u32,
@@ -404,6 +404,53 @@ pub struct Near {
     pub at: Point,
 }
 
+/// Which side of a box, along an axis.
+#[derive(Clone, Copy, Debug, PartialEq, Eq, PartialOrd, Ord, Hash)]
+pub enum Side {
+    /// The side at `lo`, whose normal points down.
+    Lower,
+    /// The side at `hi`, whose normal points up.
+    Upper,
+}
+
+/// The box that a ray or a moved box meets first. It is met at the place `num / den` of the way, exactly: at 0 where the way begins, and
+/// at 1 where it ends, which a ray goes on past.
+#[repr(C)]
+#[derive(Clone, Copy, Debug, PartialEq, Eq, Hash)]
+pub struct Hit {
+    /// The box.
+    pub handle: Handle,
+    /// How many of the `den` parts of the way lead there: 0 or more.
+    pub num: i64,
+    /// Into how many parts the way is cut: 1 or more.
+    pub den: i64,
+    axis: u32,
+    side: u32,
+}
+
+impl Hit {
+    pub(crate) const NONE: Hit = Hit { handle: Handle::NONE, num: 0, den: 1, axis: 3, side: 0 };
+
+    /// The place as the double that is nearest to its fraction.
+    pub fn place(&self) -> f64 {
+        self.num as f64 / self.den as f64
+    }
+
+    /// The axis, 0 to 2, and the side by which the box is entered, of the lowest axis if there are several. `None` if the way begins in it.
+    pub fn face(&self) -> Option<(usize, Side)> {
+        (self.axis < 3).then_some((self.axis as usize, if self.side == 0 { Side::Lower } else { Side::Upper }))
+    }
+
+    /// The direction that this side faces, of length 1. `None` if the way begins in the box.
+    pub fn normal(&self) -> Option<[i32; 3]> {
+        self.face().map(|(axis, side)| {
+            let mut out = [0; 3];
+            out[axis] = if side == Side::Upper { 1 } else { -1 };
+            out
+        })
+    }
+}
+
 /// What a world is. `exchanges` are those of the endpoint lists since the last frame if it is sweep and prune, and else 0.
 #[repr(C)]
 #[derive(Clone, Copy, Debug, Default, PartialEq, Eq, Hash)]
@@ -444,7 +491,7 @@ const _: () = {
     use std::mem::size_of;
     assert!(size_of::<Body>() == 24 && size_of::<How>() == 16 && size_of::<Live>() == 40 && size_of::<Told>() == 20);
     assert!(size_of::<RawQuery>() == 32 && size_of::<Ray>() == 28 && size_of::<Cast>() == 40 && size_of::<Near>() == 20);
-    assert!(size_of::<Info>() == 32 && size_of::<Frame>() == 24 && size_of::<library::Held>() == 16);
+    assert!(size_of::<Hit>() == 32 && size_of::<Info>() == 32 && size_of::<Frame>() == 24 && size_of::<library::Held>() == 16);
 };
 
 /// The least box in raw units that holds a box of floats: the lower corner is rounded down and the upper one up, so boxes of floats
@@ -464,6 +511,30 @@ pub fn box_around_f64(lo: [f64; 3], hi: [f64; 3]) -> Result<Body, Error> {
     // SAFETY: three references, which lead to three values of their own.
     told(unsafe { library::pw_box_around_64(&low, &high, &mut out) })?;
     Ok(out)
+}
+
+/// As [`box_around`], but cut to the range: what is below it or above it, as an infinity, becomes its end. A box that lies past the range
+/// becomes a flat one at the end. `NotANumber` or `Inverted`: the first fault by axes.
+pub fn box_around_cut(lo: [f32; 3], hi: [f32; 3]) -> Result<Body, Error> {
+    box_around_cut_f64(lo.map(f64::from), hi.map(f64::from))
+}
+
+/// The same of doubles.
+pub fn box_around_cut_f64(lo: [f64; 3], hi: [f64; 3]) -> Result<Body, Error> {
+    let (mut low, mut high) = ([1.0; 3], [0.0; 3]);
+    for axis in 0..3 {
+        // Two numbers past one end are cut to one number, so what is inverted stays so. A NaN stays one too.
+        if !(lo[axis] > hi[axis]) {
+            low[axis] = cut_to_range(lo[axis]);
+            high[axis] = cut_to_range(hi[axis]);
+        }
+    }
+    box_around_f64(low, high)
+}
+
+// A number, or the end of the range that it is past.
+fn cut_to_range(number: f64) -> f64 {
+    number.clamp(f64::from(i32::MIN) / 65536.0, f64::from(i32::MAX) / 65536.0)
 }
 
 /// The greatest raw number that is at most 65,536 times a float. `NotANumber` or `OutOfRange`.

@@ -1,7 +1,9 @@
 //! The owner of a world.
 
 use crate::library::{self, Held};
-use crate::values::{told, Body, Cast, Error, Frame, Group, Handle, How, Info, Live, Masks, Near, Pair, Query, Ray, Stopped, Structure, Told};
+use crate::values::{
+    told, Body, Cast, Error, Frame, Group, Handle, Hit, How, Info, Live, Masks, Near, Pair, Query, Ray, Stopped, Structure, Told,
+};
 use crate::SLOTS;
 
 /// Moving boxes under handles. It is open for as long as it lives, and closed when it is dropped.
@@ -224,10 +226,17 @@ impl World {
         found(|out, count| unsafe { library::pw_ray_hits(&mut self.held, &ray, out, SLOTS, count) })
     }
 
+    /// What a ray meets first, and where: `None` if it meets no box. It looks for no other hit.
+    pub fn ray_first(&mut self, ray: Ray) -> Result<Option<Hit>, Error> {
+        let (mut hit, mut count) = (Hit::NONE, 0);
+        // SAFETY: the words are those that the last call left; `hit` and `count` are values of their own.
+        let status = unsafe { library::pw_ray_first(&mut self.held, &ray, &mut hit, &mut count) };
+        Ok((counted(status, count)? > 0).then_some(hit))
+    }
+
     /// The box that a ray meets first, and `None` if it meets no box.
     pub fn first_hit(&mut self, ray: Ray) -> Result<Option<Handle>, Error> {
-        let mut first = [Handle::NONE];
-        Ok((self.ray_hits(ray, &mut first)? > 0).then_some(first[0]))
+        Ok(self.ray_first(ray)?.map(|hit| hit.handle))
     }
 
     /// Tells how many boxes a moved box meets, and copies the first of their handles, in the order in which it meets them on its way.
@@ -243,6 +252,14 @@ impl World {
     pub fn all_cast_hits(&mut self, cast: Cast) -> Result<Vec<Handle>, Error> {
         // SAFETY: the words are those that the last call left; the pointer leads to room for as many items as the length says.
         found(|out, count| unsafe { library::pw_cast_hits(&mut self.held, &cast, out, SLOTS, count) })
+    }
+
+    /// What a moved box meets first, and where: `None` if it meets no box. `Inverted` if its corners are.
+    pub fn cast_first(&mut self, cast: Cast) -> Result<Option<Hit>, Error> {
+        let (mut hit, mut count) = (Hit::NONE, 0);
+        // SAFETY: the words are those that the last call left; `hit` and `count` are values of their own.
+        let status = unsafe { library::pw_cast_first(&mut self.held, &cast, &mut hit, &mut count) };
+        Ok((counted(status, count)? > 0).then_some(hit))
     }
 
     /// The nearest boxes to a place, the nearest one first: tells how many they are, and copies the first of their handles.

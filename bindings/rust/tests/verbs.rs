@@ -1,8 +1,8 @@
 //! Each call of the crate once: that its declaration is the library's, and what it makes of a status.
 
 use pungwelair::{
-    box_around, box_around_f64, fix_above, fix_above_f64, fix_below, fix_below_f64, Body, Cast, Error, Event, Frame, Group, Handle, How,
-    Info, Live, Masks, Near, Pair, Point, Query, Ray, Stopped, Structure, Told, World,
+    box_around, box_around_cut, box_around_cut_f64, box_around_f64, fix_above, fix_above_f64, fix_below, fix_below_f64, Body, Cast, Error,
+    Event, Frame, Group, Handle, How, Info, Live, Masks, Near, Pair, Point, Query, Ray, Side, Stopped, Structure, Told, World,
 };
 use std::collections::{BTreeSet, HashSet};
 use std::hash::Hash;
@@ -109,7 +109,10 @@ fn boxes_by_slots() {
         world.remove(handles[1]).unwrap();
         let seen: Vec<(Handle, Body)> = world.boxes().map(|(handle, live)| (handle, live.body)).collect();
         assert_eq!(seen, [(handles[0], cube(0)), (handles[2], cube(100))]);
-        assert_eq!((world.at(1), world.at(pungwelair::SLOTS as u32), world.at(u32::MAX)), (Err(Error::Stale), Err(Error::Stale), Err(Error::Stale)));
+        assert_eq!(
+            (world.at(1), world.at(pungwelair::SLOTS as u32), world.at(u32::MAX)),
+            (Err(Error::Stale), Err(Error::Stale), Err(Error::Stale))
+        );
     }
 }
 
@@ -168,6 +171,44 @@ fn first_hits() {
     world.add(cube(50), How::default()).unwrap();
     let near = world.add(cube(0), How::default()).unwrap();
     assert_eq!(world.first_hit(ray), Ok(Some(near)));
+}
+
+// Where a ray and a moved box come first, by which side, and when there is none.
+#[test]
+fn first_hits_have_places() {
+    for structure in STRUCTURES {
+        let mut world = World::new(structure).unwrap();
+        let far = world.add(cube(50), How::default()).unwrap();
+        let near = world.add(cube(0), How::default()).unwrap();
+        let ray = Ray { mask: 1, from: Point::new(100, 5, 5), direction: Point::new(-80, 0, 0) };
+        let hit = world.ray_first(ray).unwrap().unwrap();
+        assert_eq!((hit.handle, hit.place(), hit.num * 2), (far, 0.5, hit.den));
+        assert_eq!((hit.face(), hit.normal()), (Some((0, Side::Upper)), Some([1, 0, 0])));
+        let cast = Cast { mask: 1, body: Body::from(([0, -20, 0], [1, -10, 1])), by: Point::new(0, 20, 0) };
+        let moved = world.cast_first(cast).unwrap().unwrap();
+        assert_eq!((moved.handle, moved.place(), moved.face(), moved.normal()), (near, 0.5, Some((1, Side::Lower)), Some([0, -1, 0])));
+        let within = world.ray_first(Ray { from: Point::new(5, 5, 5), ..ray }).unwrap().unwrap();
+        assert_eq!((within.handle, within.place(), within.face(), within.normal()), (near, 0.0, None, None));
+        assert_eq!(
+            (world.ray_first(Ray { mask: 2, ..ray }), world.cast_first(Cast { by: Point::new(0, 9, 0), ..cast })),
+            (Ok(None), Ok(None))
+        );
+        assert_eq!(world.cast_first(Cast { body: inverted(), ..cast }), Err(Error::Inverted));
+        assert_eq!(hit, world.ray_first(ray).unwrap().unwrap());
+    }
+}
+
+#[test]
+fn boxes_cut_to_the_range() {
+    let (least, most) = (i32::MIN, i32::MAX);
+    let endless = box_around_cut([f32::NEG_INFINITY, -40_000.0, 1.0], [f32::INFINITY, 0.1, 3.0e38]);
+    assert_eq!(endless, Ok(Body::from(([least, least, 65536], [most, 6554, most]))));
+    assert_eq!(
+        box_around_cut_f64([40_000.0, -1e30, 0.1], [50_000.0, -40_000.0, 0.1]),
+        Ok(Body::from(([most, least, 6553], [most, least, 6554])))
+    );
+    assert_eq!(box_around_cut_f64([50_000.0, 0.0, 0.0], [40_000.0, f64::NAN, 0.0]), Err(Error::Inverted));
+    assert_eq!(box_around_cut([0.0, f32::NAN, 1.0], [0.0; 3]), Err(Error::NotANumber));
 }
 
 #[test]

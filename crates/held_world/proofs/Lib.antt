@@ -1,5 +1,6 @@
 pub mod Asked
 pub mod BatchUnderWay
+pub mod FirstTold
 pub mod MoveAnswered
 pub mod RoomFilled
 pub mod Told

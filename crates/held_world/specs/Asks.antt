@@ -14,7 +14,7 @@ pub record IsFound (hits : List Handle) (spent : Bool) (reply : Reply) (room out
   pub copied : out ≡ copied handle_out hits room
 
 -- it told a status and nothing else
-pub record IsUnanswered (status : ℕ) (reply : Reply) (room out : List PwHandle) : Type 0 where
+pub record IsUnanswered {A : Type 0} (status : ℕ) (reply : Reply) (room out : A) : Type 0 where
   pub told : reply ≡ record { status = status; count = 0 }
   pub same : out ≡ room
 

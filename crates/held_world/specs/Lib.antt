@@ -3,6 +3,7 @@ pub mod Asks
 pub mod Batches
 pub mod Changes
 pub mod Copies
+pub mod Firsts
 pub mod Floats
 pub mod Plain
 pub mod Reading

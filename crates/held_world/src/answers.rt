@@ -4,6 +4,7 @@ ghost use Rattle.std.specs.Prelude.{◌≡◌};
 ghost use Rattle.held_world.specs.declared.TheConstants.{OK, STALE, FULL, NO_MEMORY, INVERTED, CLOSED, ARGUMENT, EXHAUSTED};
 ghost use Rattle.held_world.specs.declared.TheConstants.{NO_MARK, NOT_A_NUMBER, OUT_OF_RANGE};
 ghost use Rattle.held_world.specs.declared.TheConstants.{PLAIN, SAP, TREE, GRID, SKIN, BEGIN, STAY, OVER, REGION, POINT, RAY, SEGMENT};
+ghost use Rattle.held_world.specs.declared.TheConstants.{LOWER, UPPER, NO_AXIS};
 ghost use Rattle.held_world.specs.Answers.{status, status_of};
 
 use crate::{EXHAUSTED, FULL, NO_MEMORY, OK, STALE};
@@ -44,5 +45,6 @@ pub fn number_law()
         × (NO_MARK ≡ 8) × (NOT_A_NUMBER ≡ 9) × (OUT_OF_RANGE ≡ 10) }
     ensures structures { (PLAIN ≡ 0) × (SAP ≡ 1) × (TREE ≡ 2) × (GRID ≡ 3) × (SKIN ≡ 4) }
     ensures events { (BEGIN ≡ 0) × (STAY ≡ 1) × (OVER ≡ 2) }
+    ensures sides { (LOWER ≡ 0) × (UPPER ≡ 1) × (NO_AXIS ≡ 3) }
     ensures kinds { (REGION ≡ 0) × (POINT ≡ 1) × (RAY ≡ 2) × (SEGMENT ≡ 3) }
 {}

@@ -6,6 +6,7 @@ mod answers;
 mod asking;
 mod changing;
 mod copying;
+mod firsts;
 mod floats;
 mod held;
 mod plain;
@@ -16,8 +17,8 @@ pub use answers::{Reply, number_law, status};
 pub use floats::{PwBits32, PwBits64, box_around_32, box_around_64, fault_of};
 pub use held::HeldWorld;
 pub use plain::{
-    PwBox, PwGroup, PwHandle, PwLive, PwMasks, PwPair, PwPoint, PwQuery, PwTold, body_of, group_of,
-    handle_of, handle_out, masks_of, query_of, structure_of,
+    PwBox, PwGroup, PwHandle, PwHit, PwLive, PwMasks, PwPair, PwPoint, PwQuery, PwTold, body_of,
+    group_of, handle_of, handle_out, masks_of, query_of, structure_of,
 };
 pub use questions::{PwCast, PwNear, PwRay};
 pub use reading::{PwCounts, PwInfo};
@@ -78,6 +79,15 @@ pub const STAY: u32 = 1;
 
 /// A pair is over.
 pub const OVER: u32 = 2;
+
+/// The side of a box at its lower corner, along an axis.
+pub const LOWER: u32 = 0;
+
+/// The side at its upper corner.
+pub const UPPER: u32 = 1;
+
+/// The axis of a first hit whose way begins in the box. The axes are 0, 1 and 2.
+pub const NO_AXIS: u32 = 3;
 
 /// Which boxes meet the one from `a` to `b`.
 pub const REGION: u32 = 0;

@@ -78,6 +78,18 @@ pub struct PwTold {
     pub pair: PwPair,
 }
 
+/// The box that is met first on a way: at `num / den` of it, by the side `LOWER` or `UPPER` of the axis 0, 1 or 2, or with `NO_AXIS` if
+/// the way begins in it.
+#[repr(C)]
+#[derive(Clone, Copy)]
+pub struct PwHit {
+    pub handle: PwHandle,
+    pub num: i64,
+    pub den: i64,
+    pub axis: u32,
+    pub side: u32,
+}
+
 /// A question about the boxes of the groups that `mask` has. What `a` and `b` are is told by its kind: `REGION`, `POINT`,
 /// `RAY` or `SEGMENT`.
 #[repr(C)]

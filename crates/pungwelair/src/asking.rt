@@ -3,14 +3,17 @@
 ghost use Rattle.std.specs.Prelude.{◌≡◌, min, Some, option_map};
 ghost use Rattle.fixed_box.specs.declared.TheConstants.{SLOTS};
 ghost use Rattle.live_queries.specs.Pairs.{hits_of};
+ghost use Rattle.live_queries.specs.First.{IsFirstEntered};
 ghost use Rattle.live_queries.specs.Queries.{entered_of, cast_of, nearest_to};
+ghost use Rattle.any_world.specs.AnyWorld.{state_of};
 ghost use Rattle.held_world.specs.declared.TheConstants.{ARGUMENT, INVERTED};
+ghost use Rattle.held_world.specs.Firsts.{AsksFirst, AsksFirstCast};
 ghost use Rattle.held_world.specs.Plain.{query_in, ray_in, cast_in, near_in};
 ghost use Rattle.held_world.specs.declared.answers.Reply.{Reply};
 ghost use Rattle.pungwelair.specs.Exports.{Asked, Calls, IsClosed};
 
 use crate::world::PwWorld;
-use held_world::{CLOSED, PwCast, PwHandle, PwNear, PwQuery, PwRay};
+use held_world::{CLOSED, PwCast, PwHandle, PwHit, PwNear, PwQuery, PwRay};
 use std::alloc::Global;
 
 /// The live boxes that meet a question, by their slots: how many there are in all, and the first of them in `out`.
@@ -104,6 +107,54 @@ pub extern "C" fn pw_nearest(
         return CLOSED;
     };
     let reply = held.nearest(near, out);
+    world.put(held);
+    *count = reply.count;
+    reply.status
+}
+
+/// The box that a ray meets first, where, and by which side, in `out`: the count is 1, or 0 where it meets none.
+#[unsafe(no_mangle)]
+pub extern "C" fn pw_ray_first(
+    alloc: Global,
+    world: &mut PwWorld,
+    ray: &PwRay,
+    out: &mut PwHit,
+    count: &mut usize,
+) -> u32
+    ensures { let reply : Reply = record { status = result; count = count.new } in
+        Calls (λ was now. (now ≡ was) × AsksFirst (IsFirstEntered (state_of was.world).time.now.table.entries (ray_in ray.now) ray.now.mask)
+        (state_of was.world).spent reply out.old out.new)
+        (IsClosed reply out.old out.new) world.old.held.inner world.new.held.inner }
+{
+    let Some(held) = world.take(alloc) else {
+        *count = 0;
+        return CLOSED;
+    };
+    let reply = held.first_entered(ray, out);
+    world.put(held);
+    *count = reply.count;
+    reply.status
+}
+
+/// The same for the box that a moved box meets first on its way.
+#[unsafe(no_mangle)]
+pub extern "C" fn pw_cast_first(
+    alloc: Global,
+    world: &mut PwWorld,
+    cast: &PwCast,
+    out: &mut PwHit,
+    count: &mut usize,
+) -> u32
+    ensures { let reply : Reply = record { status = result; count = count.new } in
+        Calls (λ was now. (now ≡ was) × AsksFirstCast (cast_in cast.now) (state_of was.world).time.now.table.entries cast.now.mask
+        (state_of was.world).spent reply out.old out.new)
+        (IsClosed reply out.old out.new) world.old.held.inner world.new.held.inner }
+{
+    let Some(held) = world.take(alloc) else {
+        *count = 0;
+        return CLOSED;
+    };
+    let reply = held.first_cast(cast, out);
     world.put(held);
     *count = reply.count;
     reply.status

@@ -1,5 +1,5 @@
 -- One event more is copied.
-use Rattle.std.proofs.Common.{◌≡◌, ◌-◌, ◌∷◌, ◌<◌, length, min, drop, rules, arith, refl, ap, ◌∙◌}
+use Rattle.std.proofs.Common.{◌≡◌, ◌∷◌, ◌<◌, length, min, drop, rules, arith, refl, ap, ◌∙◌}
 use Rattle.std.proofs.lemmas.List.{length-drop}
 use Rattle.held_world.specs.Plain.{told_out}
 use Rattle.held_world.proofs.RoomFilled.{copying_goes_on, copied_whole, counted_whole}
