@@ -141,7 +141,7 @@ enum {
     PW_UPPER = 1  /* the side at `hi`, whose normal points up */
 };
 
-/* The axis of a pw_hit whose way begins in the box. */
+/* The axis of a pw_hit whose way begins in the box and comes in by no side. */
 #define PW_NO_AXIS 3u
 
 /* A place or a displacement, in raw units of 1/65,536. */
@@ -235,7 +235,8 @@ typedef struct pw_near {
 /* The box that a ray or a moved box meets first. It is met at the place `num / den` of the way, exactly: at 0 where the way begins, and
  * at 1 where it ends, which a ray goes on past. `num` is at least 0 and `den` at least 1. `axis` is 0, 1 or 2 and `side` PW_LOWER or
  * PW_UPPER: the box is entered there by its side that the way comes from. If it comes to several sides at one place it is the one of
- * the lowest axis. If the way begins in the box, `axis` is PW_NO_AXIS and `side` 0. */
+ * the lowest axis. A way that begins on a side and goes in there has that side. If it begins in the box and comes in by no side, `axis`
+ * is PW_NO_AXIS and `side` 0. */
 typedef struct pw_hit {
     pw_handle handle;
     int64_t num, den;

@@ -236,12 +236,12 @@ struct Placed {
 struct Hit : pw_hit {
     // How much of the way leads there: 0 where it begins, and 1 where it ends, which a ray goes on past.
     [[nodiscard]] double place() const noexcept { return pw_fraction(this); }
-    // The axis of the side that it comes to, and which of the two sides: no value if the way begins in the box.
+    // The axis of the side that it comes to, and which of the two sides: no value if the way begins in the box and comes in by none.
     [[nodiscard]] std::optional<std::pair<unsigned, Side>> face() const noexcept {
         if (axis == PW_NO_AXIS) return std::nullopt;
         return std::pair(unsigned(axis), Side(side));
     }
-    // The direction that the side faces, of length 1: no value if the way begins in the box.
+    // The direction that the side faces, of length 1: no value if there is no side.
     [[nodiscard]] std::optional<std::array<int, 3>> normal() const noexcept {
         if (axis == PW_NO_AXIS) return std::nullopt;
         std::array<int, 3> out{};

@@ -204,7 +204,7 @@ class Hit(NamedTuple):
 
     It is met at the place `num / den` of the way, exactly: at 0 where the way begins, and at 1 where it ends, which a ray goes on past.
     `axis` (0 to 2) and `side` are those of the side by which it is entered, of the lowest axis if there are several. They are None if
-    the way begins in the box.
+    the way begins in the box and comes in by no side.
     """
 
     handle: Handle
@@ -220,7 +220,7 @@ class Hit(NamedTuple):
 
     @property
     def normal(self) -> Optional[Point]:
-        """The direction that the side faces, of length 1. None if the way begins in the box."""
+        """The direction that the side faces, of length 1. None if there is no side."""
         if self.axis is None:
             return None
         length = 1 if self.side == UPPER else -1

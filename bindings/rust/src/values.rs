@@ -436,12 +436,13 @@ impl Hit {
         self.num as f64 / self.den as f64
     }
 
-    /// The axis, 0 to 2, and the side by which the box is entered, of the lowest axis if there are several. `None` if the way begins in it.
+    /// The axis, 0 to 2, and the side by which the box is entered, of the lowest axis if there are several. `None` if the way begins in
+    /// the box and comes in by no side.
     pub fn face(&self) -> Option<(usize, Side)> {
         (self.axis < 3).then_some((self.axis as usize, if self.side == 0 { Side::Lower } else { Side::Upper }))
     }
 
-    /// The direction that this side faces, of length 1. `None` if the way begins in the box.
+    /// The direction that this side faces, of length 1. `None` if there is no side.
     pub fn normal(&self) -> Option<[i32; 3]> {
         self.face().map(|(axis, side)| {
             let mut out = [0; 3];
