@@ -1,19 +1,18 @@
--- Copies of boxes: which of them the columns pass by, and which stand behind a place.
+-- Copies of boxes: which of them packets pass by, and which stand behind a place.
 use Rattle.std.proofs.Common.{◌≡◌, ◌⊎◌, ℕ, zero, suc, ◌+◌, ◌-◌, ◌*◌, ◌≤◌, Bool, true, false, cond, ◌||◌, ◌==◌, refl, sym, ap, ◌∙◌}
-use Rattle.std.proofs.Common.{List, [], ◌∷◌, length, map, take, drop, All, inl, inr, subst, arith}
-use Rattle.std.specs.List.{drop-map, take-map}
+use Rattle.std.proofs.Common.{List, [], ◌∷◌, ◌++◌, ◌<◌, length, map, take, drop, get_or, All, inl, inr, subst, arith}
+use Rattle.std.specs.List.{take-map}
 use Rattle.std.specs.Simd.Lanes.{mask_l}
 use Rattle.std.proofs.lemmas.Bool.{or_cases, false≢true}
-use Rattle.std.proofs.lemmas.List.{length-map, length-take}
-use Rattle.std.proofs.lemmas.List.Elements.{All-append, All-cons, All-nil}
+use Rattle.std.proofs.lemmas.List.{get_or-drop, get_or-take, get_or_append_left, get_or_push, length-append, length-drop, length-take}
+use Rattle.std.proofs.lemmas.List.Elements.{All-cons, All-nil}
 use Rattle.fixed_box.specs.Bounds.{Bounds, meets}
 use Rattle.broad_index.specs.Members.{has_slot}
 use Rattle.lane_boxes.specs.Places.{next_eight}
 use Rattle.grid_boxes.specs.declared.slot_box.SlotBox.{SlotBox}
-use Rattle.grid_boxes.specs.Copies.{AreColumned, bodies_in, slots_of, stretch}
-use Rattle.grid_boxes.specs.StretchLaws.{stretch_parts}
+use Rattle.grid_boxes.specs.Copies.{ArePacked, bodies_in, slots_of, stretch}
 
--- ---- what the columns pass by
+-- ---- what packets pass by
 none_met : (body : Bounds) (es : List SlotBox) → mask_l (map (meets body) (bodies_in es)) ≡ 0 → All (λ e. meets body e.body ≡ false) es
 none_met body [] h = All-nil (λ (e : SlotBox). meets body e.body ≡ false)
 none_met body (e ∷ es) h =
@@ -35,14 +34,13 @@ in_front (x ∷ xs) zero (suc count) (suc n) le = ap (λ l. x ∷ l) (in_front x
 in_front (x ∷ xs) (suc at) count zero le = absurd (omega arith)
 in_front (x ∷ xs) (suc at) count (suc n) le = in_front xs at count n (omega arith)
 
-pub passed_by : (body : Bounds) (es : List SlotBox) (boxes : List Bounds) (at : ℕ) → AreColumned es boxes → at + 8 ≤ length boxes
-    → next_eight (meets body) at boxes ≡ 0 → All (λ e. meets body e.body ≡ false) (take 8 (drop at es))
-passed_by body es boxes at is le none =
-    let same : take 8 (drop at boxes) ≡ bodies_in (take 8 (drop at es)) =
-    ap (λ l. take 8 (drop at l)) is ∙ in_front (bodies_in es) at 8 (length boxes) le ∙ ap (take 8) (drop-map (λ (e : SlotBox). e.body) at es)
-    ∙ take-map (λ (e : SlotBox). e.body) 8 (drop at es)
-    in
-    none_met body (take 8 (drop at es)) (ap (λ l. mask_l (map (meets body) l)) (sym same) ∙ none)
+pub passed_by : (body : Bounds) (es : List SlotBox) (packet : List Bounds) (at : ℕ) → packet ≡ bodies_in (take 8 (drop at es))
+    → next_eight (meets body) 0 packet ≡ 0 → All (λ e. meets body e.body ≡ false) (take 8 (drop at es))
+passed_by body es packet at is none =
+    let eight = take 8 (drop at es) in
+    let same : take 8 packet ≡ bodies_in eight =
+    ap (take 8) is ∙ take-map (λ (e : SlotBox). e.body) 8 eight ∙ ap bodies_in (in_front (drop at es) 0 8 8 (omega arith)) in
+    none_met body eight (ap (λ l. mask_l (map (meets body) l)) (sym same) ∙ none)
 
 -- ---- what stands in a stretch
 or_true : (b : Bool) → (b || true) ≡ true
@@ -106,17 +104,67 @@ behind_or_before es from to mid end q rises low within h =
     let among = behind_in es from (to - from) end q (omega arith) h in
     in_halves es mid (end - mid) q (ap (λ n. has_slot (slots_of (take n es)) q) whole ∙ among)
 
--- the next eight are passed by too
-pub eight_more : (body : Bounds) (es : List SlotBox) (from at : ℕ) → from ≤ at → All (λ e. meets body e.body ≡ false) (stretch from at es)
-    → All (λ e. meets body e.body ≡ false) (take 8 (drop at es)) → All (λ e. meets body e.body ≡ false) (stretch from (at + 8) es)
-eight_more body es from at low before here =
-    let P : SlotBox → Type 0 = λ e. meets body e.body ≡ false in
-    let eight : at + 8 - at ≡ 8 = omega arith in
-    subst (All P) (stretch_parts es from at (at + 8) low (omega arith))
-    (All-append P (stretch from at es) (stretch at (at + 8) es) before (subst (λ n. All P (take n (drop at es))) (sym eight) here))
+-- ---- places of a stretch
+at_stretch : (es : List SlotBox) (from to i : ℕ) (d : SlotBox) → i < to - from → get_or (stretch from to es) i d ≡ get_or es (from + i) d
+at_stretch es from to i d l = get_or-take (to - from) (drop from es) i d l ∙ get_or-drop from es i d
 
--- no more boxes stand in columns than there are
-pub no_more : (es : List SlotBox) (boxes : List Bounds) → AreColumned es boxes → length boxes ≤ length es
-no_more es boxes is =
-    let n = length boxes in
-    omega (arith, ap length is, length-take n (bodies_in es), length-map es (λ (e : SlotBox). e.body))
+in_stretch : (es : List SlotBox) (from to i : ℕ) → i < length (stretch from to es) → (i < to - from) × (from + i < length es)
+in_stretch es from to i l =
+    let first = length-take (to - from) (drop from es) in
+    let rest = length-drop from es in
+    (omega (arith, first, l), omega (arith, first, rest, l))
+
+of_stretch : (es : List SlotBox) (from to i : ℕ) → i < to - from → from + i < length es → i < length (stretch from to es)
+of_stretch es from to i low within =
+    let first = length-take (to - from) (drop from es) in
+    let rest = length-drop from es in
+    omega (arith, first, rest)
+
+below_or_not : (x y : ℕ) → (x < y) ⊎ (y ≤ x)
+below_or_not x y = grind arith
+
+-- the next eight are passed by too, also where the first of them stand before the stretch
+pub eight_more : (body : Bounds) (es : List SlotBox) (from at : ℕ) → All (λ e. meets body e.body ≡ false) (stretch from at es)
+    → All (λ e. meets body e.body ≡ false) (take 8 (drop at es)) → All (λ e. meets body e.body ≡ false) (stretch from (at + 8) es)
+eight_more body es from at before here i d l =
+    let P : SlotBox → Type 0 = λ e. meets body e.body ≡ false in
+    let there = in_stretch es from (at + 8) i l in
+    let is = at_stretch es from (at + 8) i d there.0 in
+    elim (below_or_not (from + i) at) as (λ _. P (get_or (stretch from (at + 8) es) i d)) [
+      | inl sooner ↦
+          let low : i < at - from = omega arith in
+          subst P (at_stretch es from at i d low ∙ sym is) (before i d (of_stretch es from at i low there.1))
+      | inr later ↦
+          let k : ℕ = from + i - at in
+          let eight : at + 8 - at ≡ 8 = omega arith in
+          let low : k < at + 8 - at = omega (arith, there.0) in
+          let place : at + k ≡ from + i = omega arith in
+          let within : at + k < length es = omega (arith, there.1) in
+          subst P (at_stretch es at (at + 8) k d low ∙ ap (λ n. get_or es n d) place ∙ sym is)
+          (subst (λ n. All P (take n (drop at es))) (sym eight) here k d (of_stretch es at (at + 8) k low within))
+    ]
+
+-- what is passed by up to a place is so up to a sooner one
+pub up_to : (body : Bounds) (es : List SlotBox) (from at end : ℕ) → end - from ≤ at - from → All (λ e. meets body e.body ≡ false) (stretch from at es)
+    → All (λ e. meets body e.body ≡ false) (stretch from end es)
+up_to body es from at end le before i d l =
+    let P : SlotBox → Type 0 = λ e. meets body e.body ≡ false in
+    let there = in_stretch es from end i l in
+    let low : i < at - from = omega (arith, le, there.0) in
+    subst P (at_stretch es from at i d low ∙ sym (at_stretch es from end i d there.0)) (before i d (of_stretch es from at i low there.1))
+
+-- one packet more
+pub one_more : (es : List SlotBox) (packets : List (List Bounds)) (packet : List Bounds) → ArePacked es packets → 8 * length packets + 8 ≤ length es
+    → packet ≡ bodies_in (take 8 (drop (8 * length packets) es)) → ArePacked es (packets ++ packet ∷ [])
+one_more es packets packet was room is =
+    let longer = length-append packets (packet ∷ []) in
+    record {
+      within = omega (arith, longer);
+      each = λ k d l. elim (below_or_not k (length packets)) as
+          (λ _. get_or (packets ++ packet ∷ []) k d ≡ bodies_in (take 8 (drop (8 * k) es))) [
+            | inl sooner ↦ get_or_append_left packets (packet ∷ []) d k sooner ∙ was.each k d sooner
+            | inr later ↦
+                let last : length packets ≡ k = omega (arith, longer, l) in
+                get_or_push packets packet d k last ∙ is ∙ ap (λ n. bodies_in (take 8 (drop (8 * n) es))) last
+          ];
+    }

@@ -1,5 +1,5 @@
--- Serves proofs alone: boxes beside their slots, stretches of them, and the columns of their boxes.
-use Rattle.std.specs.Prelude.{◌≡◌, ◌⊎◌, ℕ, ◌-◌, true, List, length, map, take, drop, Some}
+-- Serves proofs alone: boxes beside their slots, stretches of them, and the packets of their boxes.
+use Rattle.std.specs.Prelude.{◌≡◌, ◌⊎◌, ℕ, ◌-◌, ◌*◌, ◌<◌, ◌≤◌, true, List, length, map, take, drop, get_or, Some}
 use Rattle.std.specs.Ordering.{nat_cmp}
 use Rattle.std.specs.FinMap.{FinMap, get}
 use Rattle.fixed_box.specs.Bounds.{Bounds}
@@ -19,9 +19,10 @@ bodies_in es = map (λ e. e.body) es
 abbrev pub stretch : ℕ → ℕ → List SlotBox → List SlotBox
 stretch from to es = take (to - from) (drop from es)
 
--- the boxes in the columns are those of as many first entries
-abbrev pub AreColumned : List SlotBox → List Bounds → Type 0
-AreColumned entries boxes = boxes ≡ take (length boxes) (bodies_in entries)
+-- packets have the boxes of entries by eights, from the first on
+pub record ArePacked (entries : List SlotBox) (packets : List (List Bounds)) : Type 0 where
+  pub within : 8 * length packets ≤ length entries
+  pub each : (k : ℕ) (d : List Bounds) → k < length packets → get_or packets k d ≡ bodies_in (take 8 (drop (8 * k) entries))
 
 -- What stands in the cell of a box stands before a place, or from it on and before an end.
 abbrev pub HasCellBehind : FinMap nat_cmp Bounds → ℕ → Bounds → ℕ → ℕ → List SlotBox → Type 0

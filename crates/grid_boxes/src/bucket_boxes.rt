@@ -28,8 +28,8 @@ struct Crowding {
     shared: usize,
 }
 
-// From so many boxes in a bucket on all are put in columns, which eight at a time are passed by in.
-const FEWEST_IN_COLUMNS: usize = 48;
+// From so many boxes in a bucket on all are put in packets, so that eight at a time are passed by.
+const FEWEST_IN_PACKETS: usize = 48;
 
 // A sample is taken in so many parts of the list.
 const SAMPLES: usize = 64;
@@ -150,8 +150,8 @@ impl BucketBoxes {
         self.list.fill(cells)?;
         self.copies.copy_boxes(kept.boxes(), self.list.slots())?;
         self.crowding = self.crowding_now();
-        let pays = self.crowding.fullest >= FEWEST_IN_COLUMNS;
-        self.copies.put_in_columns(pays)?;
+        let pays = self.crowding.fullest >= FEWEST_IN_PACKETS;
+        self.copies.put_in_packets(pays)?;
         Ok(())
     }
 
@@ -196,7 +196,7 @@ impl BucketBoxes {
     /// The slots by bucket as they were copied last, if boxes lay in heaps then.
     #[inline(always)]
     pub fn heaps(&self) -> Option<&BucketList> {
-        if self.crowding.fullest >= FEWEST_IN_COLUMNS {
+        if self.crowding.fullest >= FEWEST_IN_PACKETS {
             Some(&self.list)
         } else {
             None

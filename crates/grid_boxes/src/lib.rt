@@ -1,4 +1,5 @@
-//! The boxes of a hierarchical grid: under their slots, in the cells of their levels, in columns, and copied bucket by bucket.
+//! The boxes of a hierarchical grid: under their slots, in the cells of their levels, in columns, and copied bucket by bucket, in
+//! heaps also in packets of eight.
 //!
 //! What lies near a region is appended as slots; whether boxes meet is for the caller to test.
 #![tactic(auto)]
@@ -15,7 +16,7 @@ mod row_lens;
 mod slot_box;
 mod standing_cells;
 
-pub use box_copies::BoxCopies;
+pub use box_copies::{BoxCopies, PACKED};
 pub use bucket_boxes::BucketBoxes;
 pub use grid_boxes::{BOXES_PER_SCANNED, GridBoxes};
 pub use slot_box::SlotBox;

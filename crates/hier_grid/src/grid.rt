@@ -36,7 +36,7 @@ const LISTED_FROM: u32 = 1_024;
 ///
 /// Where 1,024 or more slots are present in `pairs`, and where `pairs_with` searches by pieces, all boxes are first copied in
 /// the order of the buckets of their cells, in 28 bytes each, once for all pieces and until a box changes. That walks over
-/// 16,384 buckets. Where a bucket has many boxes, all stand in columns too, in 24 bytes each, and eight are compared at
+/// 16,384 buckets. Where a bucket has many boxes, all stand in packets of eight too, in 24 bytes each, and eight are compared at
 /// once. `pairs` with fewer slots and no such copies at hand, and a query, follow the links between the slots of a
 /// bucket instead.
 ///

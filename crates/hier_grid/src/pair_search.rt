@@ -27,8 +27,10 @@ pub(crate) fn pairs_of_all(boxes: &Searched, found: &mut Found) -> Result<u64, N
     'boxes: while place < copies.len() {
         let own = &copies.entries()[place];
         place += 1;
+        // for both parts, so that it is found once
+        let level = boxes.level(&own.body);
         pairs_in_own_cell(copied, place, own, found)?;
-        pairs_elsewhere(boxes, boxes.level(&own.body), own, found)?;
+        pairs_elsewhere(boxes, level, own, found)?;
     }
     Ok(found.looked)
 }

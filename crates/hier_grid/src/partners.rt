@@ -49,6 +49,7 @@ pub(crate) fn is_partner(boxes: &SlotBoxes, own: &SlotBox, any: bool, other: u32
 
 /// Appends a slot's pairs with its partners among other boxes, either any or those with higher slots alone. After an `Err`
 /// `out` is as before.
+#[inline(always)]
 pub(crate) fn push_met_pairs(
     own: &SlotBox,
     any: bool,
@@ -78,6 +79,7 @@ fn met_pair(own: &SlotBox, any: bool, other: &SlotBox) -> Option<Pair>
 
 // Whether another box is a partner. No branch is taken on which slots may be partners, since that is past telling
 // beforehand.
+#[inline(always)]
 fn pairs_up(own: &SlotBox, any: bool, other: &SlotBox) -> bool
     ensures { result ≡ pairs_up own.now any other.now }
 {
@@ -96,6 +98,7 @@ fn meets_at(boxes: &SlotBoxes, body: &FBox, slot: u32) -> bool
 }
 
 // Whether another slot may be a partner.
+#[inline(always)]
 fn is_sought(slot: u32, any: bool, other: u32) -> bool
     ensures { result ≡ (not (other == slot) && (any || nat_lt slot other)) }
 {

@@ -19,14 +19,14 @@ returns c bodies filled =
     let old = c.args.found.now.pairs.items in
     let there = stretch from end es in
     let right = right_stretch bodies es from end filled.right in
-    let is : c.push_pairs_in.new.pairs.items ≡ old ++ met_pairs mine true there =
+    let is : c.push_pairs_in.new.found.pairs.items ≡ old ++ met_pairs mine true there =
     c.in_ok-push_pairs_in.ensures ∙ ap (λ l. old ++ met_pairs mine true (stretch from end l)) c.copies.ensures in
     record {
       sound = λ own s. subst (IsSound bodies) (sym is) (sound_met bodies mine true there old right own s);
       more = λ p h. ap (λ l. has_pair l p) is ∙ more_pairs old _ p h;
       found = λ q b e at m other due.
           let pair = ordered mine.slot q in
-          elim (c.cell_end-end.ensures.whole bodies filled q b e at.0) as (λ _. has_pair c.push_pairs_in.new.pairs.items pair ≡ true) [
+          elim (c.cell_end-end.ensures.whole bodies filled q b e at.0) as (λ _. has_pair c.push_pairs_in.new.found.pairs.items pair ≡ true) [
             | inl i ↦ absurd (false≢true (sym at.1 ∙ i))
             | inr i ↦ ap (λ l. has_pair l pair) is ∙ pair_met bodies mine true there old q b right e m other due i
           ];

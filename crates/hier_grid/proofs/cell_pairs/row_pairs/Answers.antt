@@ -29,10 +29,10 @@ returns c =
     let first = stretch places.from places.to es in
     let rest = stretch 0 places.wrapped es in
     let old = c.args.found.now.pairs.items in
-    let mid = c.push_pairs_in.new.pairs.items in
+    let mid = c.push_pairs_in.new.found.pairs.items in
     let one : mid ≡ old ++ met_pairs mine any first =
     c.in_ok-push_pairs_in.ensures ∙ ap (λ l. old ++ met_pairs mine any (stretch places.from places.to l)) c.copies-copies.ensures in
-    let two : c.push_pairs_in-2.new.pairs.items ≡ mid ++ met_pairs mine any rest =
+    let two : c.push_pairs_in-2.new.found.pairs.items ≡ mid ++ met_pairs mine any rest =
     c.in_ok-push_pairs_in-2.ensures ∙ ap (λ l. mid ++ met_pairs mine any (stretch 0 places.wrapped l)) c.copies-copies.ensures in
     record {
       sound = λ own s. subst (IsSound bodies) (sym two) (sound_met bodies mine any rest mid row.rest_right own
@@ -41,7 +41,7 @@ returns c =
       found = λ q b e at m other due.
           let pair = ordered mine.slot q in
           let there = subst (λ n. IsInRow c.args.row.now (standing_cell n b)) (sym c.copied-copied.ensures.floor) at in
-          elim (row.whole q b e there) as (λ _. has_pair c.push_pairs_in-2.new.pairs.items pair ≡ true) [
+          elim (row.whole q b e there) as (λ _. has_pair c.push_pairs_in-2.new.found.pairs.items pair ≡ true) [
             | inl i ↦ ap (λ l. has_pair l pair) two ∙ more_pairs mid _ pair (ap (λ l. has_pair l pair) one
                 ∙ pair_met bodies mine any first old q b row.first_right e m other due i)
             | inr i ↦ ap (λ l. has_pair l pair) two ∙ pair_met bodies mine any rest mid q b row.rest_right e m other due i

@@ -21,7 +21,7 @@ copy_boxes-requires c k d l =
 
 pub returns-clause-filled : goal.returns-clause-filled
 returns-clause-filled c =
-    let is : c.put_in_columns.new.self ≡ c.copy_boxes.new.self = c.put_in_columns.ensures in
+    let is : c.put_in_packets.new.self ≡ c.copy_boxes.new.self = c.put_in_packets.ensures in
     record {
       cells = c.args.cells.now;
       low = c.requires.low;

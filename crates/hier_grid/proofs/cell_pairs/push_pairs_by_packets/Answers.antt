@@ -6,22 +6,22 @@ use Rattle.grid_boxes.specs.Copies.{stretch}
 use Rattle.grid_boxes.specs.StretchLaws.{stretch_parts}
 use Rattle.hier_grid.specs.Listing.{met_pairs}
 use Rattle.hier_grid.proofs.BucketLemmas.{met_more, none_passed}
-use Rattle.hier_grid.proofs.cell_pairs.push_pairs_by_eights.Goals as goal
+use Rattle.hier_grid.proofs.cell_pairs.push_pairs_by_packets.Goals as goal
 
-pub eights-preserved : goal.eights-preserved
-eights-preserved c =
+pub packets-preserved : goal.packets-preserved
+packets-preserved c =
     let own = c.args.own.now in
     let any = c.args.any in
     let es = c.args.copies.now in
     let from = c.args.from in
-    let at = c.eights.at in
+    let at = c.packets.at in
     let next = c.next_near.result in
     let near = c.min-near.result in
     let end = c.min-end.result in
     let old = c.args.pairs.now.items in
-    let before = c.eights.pairs.items in
+    let before = c.packets.pairs.items in
     let P : List SlotBox → List Pair = met_pairs own any in
-    let low : from ≤ at = c.eights.invariant.after in
+    let low : from ≤ at = c.packets.invariant.after in
     let step : at ≤ near = omega (arith, c.next_near.ensures.later) in
     let within : near ≤ next = omega arith in
     let rise : near ≤ end = omega arith in
@@ -38,7 +38,7 @@ eights-preserved c =
       after = omega arith;
       before = omega arith;
       done = c.in_ok-push_met_pairs.ensures.ok ∙ ap (λ l. before ++ P (stretch near end l)) c.entries.ensures
-          ∙ ap (λ l. l ++ P (stretch near end es)) c.eights.invariant.done
+          ∙ ap (λ l. l ++ P (stretch near end es)) c.packets.invariant.done
           ∙ append_assoc old (P (stretch from at es)) (P (stretch near end es))
           ∙ sym (ap (λ l. old ++ l) whole);
     }
