@@ -7,13 +7,14 @@ ghost use Rattle.live_table.specs.Table.{IsTable};
 ghost use Rattle.live_queries.specs.First.{IsFirstEntered, IsFirstTouched, HasFirst};
 ghost use Rattle.live_queries.specs.Pairs.{hits_of};
 ghost use Rattle.live_queries.specs.Queries.{entered_of, cast_of, nearest_to};
+ghost use Rattle.box_world.specs.World.{pairs};
 ghost use Rattle.any_world.specs.AnyWorld.{state_of, structure_of};
 
 use crate::AnyWorld;
 use box_cast::Cast;
 use broad_index::Query;
 use fixed_box::NoMemory;
-use live_queries::{FirstHit, NearQuery};
+use live_queries::{AskRoom, FirstHit, NearQuery};
 use live_table::{Handle, Live, LiveTable};
 use pair_events::{Events, HPair};
 use ray_slabs::Ray;
@@ -168,58 +169,89 @@ impl AnyWorld {
         }
     }
 
-    /// Appends the handles of the live boxes that meet a query and are in one of the groups that `mask` has, by their slots.
-    /// After an `Err` `out` is as before. A spent world answers want of memory, here and in the queries below.
-    pub fn hits(&mut self, query: &Query, mask: u32, out: &mut Vec<Handle>) -> Result<(), NoMemory>
+    /// Appends the pairs that the frame would have if it ended now, in the order of pairs. The frame goes on, and nothing else changes.
+    /// After an `Err` `out` is as before. It searches as `update` does.
+    pub fn current_pairs(&mut self, out: &mut Vec<HPair>) -> Result<(), NoMemory>
         ensures sound { OnOk result ((state_of self.old).spent ≡ false) }
-        ensures ok { OnOk result (out.new.items ≡ out.old.items ++ hits_of (state_of self.old).time.now.table.entries query.now mask) }
+        ensures ok { OnOk result (out.new.items ≡ out.old.items ++ pairs (state_of self.old).time.now) }
         ensures err { OnErr result (out.new.items ≡ out.old.items) }
         ensures same { state_of self.new ≡ state_of self.old }
         ensures structure { structure_of self.new ≡ structure_of self.old }
     {
         match self {
-            AnyWorld::Plain(world) => world.hits(query, mask, out),
-            AnyWorld::Sap(world) => world.hits(query, mask, out),
-            AnyWorld::Tree(world) => world.hits(query, mask, out),
-            AnyWorld::Grid(world) => world.hits(query, mask, out),
-            AnyWorld::Skin(world) => world.hits(query, mask, out),
+            AnyWorld::Plain(world) => world.current_pairs(out),
+            AnyWorld::Sap(world) => world.current_pairs(out),
+            AnyWorld::Tree(world) => world.current_pairs(out),
+            AnyWorld::Grid(world) => world.current_pairs(out),
+            AnyWorld::Skin(world) => world.current_pairs(out),
+        }
+    }
+
+    /// Appends the handles of the live boxes that meet a query and are in one of the groups that `mask` has, by their slots.
+    /// After an `Err` `out` is as before. A spent world answers want of memory, here and in the queries below. They change nothing, so
+    /// that several threads may ask one world at once, each with room of its own.
+    pub fn hits(
+        &self,
+        query: &Query,
+        mask: u32,
+        room: &mut AskRoom,
+        out: &mut Vec<Handle>,
+    ) -> Result<(), NoMemory>
+        ensures sound { OnOk result ((state_of self.now).spent ≡ false) }
+        ensures ok { OnOk result (out.new.items ≡ out.old.items ++ hits_of (state_of self.now).time.now.table.entries query.now mask) }
+        ensures err { OnErr result (out.new.items ≡ out.old.items) }
+    {
+        match self {
+            AnyWorld::Plain(world) => world.hits(query, mask, room, out),
+            AnyWorld::Sap(world) => world.hits(query, mask, room, out),
+            AnyWorld::Tree(world) => world.hits(query, mask, room, out),
+            AnyWorld::Grid(world) => world.hits(query, mask, room, out),
+            AnyWorld::Skin(world) => world.hits(query, mask, room, out),
         }
     }
 
     /// Appends the handles of the live boxes that a ray meets, of the groups that `mask` has, in the order in which it first
     /// meets them; those that it meets at one place come by their slots. After an `Err` `out` is as before.
-    pub fn entered(&mut self, ray: &Ray, mask: u32, out: &mut Vec<Handle>) -> Result<(), NoMemory>
-        ensures sound { OnOk result ((state_of self.old).spent ≡ false) }
-        ensures ok { OnOk result (out.new.items ≡ out.old.items ++ entered_of (state_of self.old).time.now.table.entries ray.now mask) }
+    pub fn entered(
+        &self,
+        ray: &Ray,
+        mask: u32,
+        room: &mut AskRoom,
+        out: &mut Vec<Handle>,
+    ) -> Result<(), NoMemory>
+        ensures sound { OnOk result ((state_of self.now).spent ≡ false) }
+        ensures ok { OnOk result (out.new.items ≡ out.old.items ++ entered_of (state_of self.now).time.now.table.entries ray.now mask) }
         ensures err { OnErr result (out.new.items ≡ out.old.items) }
-        ensures same { state_of self.new ≡ state_of self.old }
-        ensures structure { structure_of self.new ≡ structure_of self.old }
     {
         match self {
-            AnyWorld::Plain(world) => world.entered(ray, mask, out),
-            AnyWorld::Sap(world) => world.entered(ray, mask, out),
-            AnyWorld::Tree(world) => world.entered(ray, mask, out),
-            AnyWorld::Grid(world) => world.entered(ray, mask, out),
-            AnyWorld::Skin(world) => world.entered(ray, mask, out),
+            AnyWorld::Plain(world) => world.entered(ray, mask, room, out),
+            AnyWorld::Sap(world) => world.entered(ray, mask, room, out),
+            AnyWorld::Tree(world) => world.entered(ray, mask, room, out),
+            AnyWorld::Grid(world) => world.entered(ray, mask, room, out),
+            AnyWorld::Skin(world) => world.entered(ray, mask, room, out),
         }
     }
 
     /// Appends the handles of the live boxes that a box which is cast meets on its way, of the groups that `mask` has, in the
     /// order in which it first meets them; those that it meets at one place come by their slots. After an `Err` `out` is as
     /// before.
-    pub fn cast(&mut self, cast: &Cast, mask: u32, out: &mut Vec<Handle>) -> Result<(), NoMemory>
-        ensures sound { OnOk result ((state_of self.old).spent ≡ false) }
-        ensures ok { OnOk result (out.new.items ≡ out.old.items ++ cast_of (state_of self.old).time.now.table.entries cast.now mask) }
+    pub fn cast(
+        &self,
+        cast: &Cast,
+        mask: u32,
+        room: &mut AskRoom,
+        out: &mut Vec<Handle>,
+    ) -> Result<(), NoMemory>
+        ensures sound { OnOk result ((state_of self.now).spent ≡ false) }
+        ensures ok { OnOk result (out.new.items ≡ out.old.items ++ cast_of (state_of self.now).time.now.table.entries cast.now mask) }
         ensures err { OnErr result (out.new.items ≡ out.old.items) }
-        ensures same { state_of self.new ≡ state_of self.old }
-        ensures structure { structure_of self.new ≡ structure_of self.old }
     {
         match self {
-            AnyWorld::Plain(world) => world.cast(cast, mask, out),
-            AnyWorld::Sap(world) => world.cast(cast, mask, out),
-            AnyWorld::Tree(world) => world.cast(cast, mask, out),
-            AnyWorld::Grid(world) => world.cast(cast, mask, out),
-            AnyWorld::Skin(world) => world.cast(cast, mask, out),
+            AnyWorld::Plain(world) => world.cast(cast, mask, room, out),
+            AnyWorld::Sap(world) => world.cast(cast, mask, room, out),
+            AnyWorld::Tree(world) => world.cast(cast, mask, room, out),
+            AnyWorld::Grid(world) => world.cast(cast, mask, room, out),
+            AnyWorld::Skin(world) => world.cast(cast, mask, room, out),
         }
     }
 
@@ -259,18 +291,23 @@ impl AnyWorld {
     /// Appends the handles of the live boxes that are nearest to a point, of the groups that the query's mask has: at most as
     /// many as it wants and at most `SLOTS`, in rising order of the square of their distance and then of their slot. After an
     /// `Err` `out` is as before.
-    pub fn nearest(&self, query: &NearQuery, out: &mut Vec<Handle>) -> Result<(), NoMemory>
+    pub fn nearest(
+        &self,
+        query: &NearQuery,
+        room: &mut AskRoom,
+        out: &mut Vec<Handle>,
+    ) -> Result<(), NoMemory>
         ensures sound { OnOk result ((state_of self.now).spent ≡ false) }
         ensures ok { OnOk result (out.new.items ≡ out.old.items
             ++ nearest_to (state_of self.now).time.now.table.entries query.now.at (min query.now.want SLOTS) query.now.mask) }
         ensures err { OnErr result (out.new.items ≡ out.old.items) }
     {
         match self {
-            AnyWorld::Plain(world) => world.nearest(query, out),
-            AnyWorld::Sap(world) => world.nearest(query, out),
-            AnyWorld::Tree(world) => world.nearest(query, out),
-            AnyWorld::Grid(world) => world.nearest(query, out),
-            AnyWorld::Skin(world) => world.nearest(query, out),
+            AnyWorld::Plain(world) => world.nearest(query, room, out),
+            AnyWorld::Sap(world) => world.nearest(query, room, out),
+            AnyWorld::Tree(world) => world.nearest(query, room, out),
+            AnyWorld::Grid(world) => world.nearest(query, room, out),
+            AnyWorld::Skin(world) => world.nearest(query, room, out),
         }
     }
 }

@@ -39,7 +39,6 @@ pub(crate) struct Parts<B: Drop> {
     pub next_began: Vec<HPair>,
     pub next_over: Vec<HPair>,
     pub pairs: Vec<Pair>,
-    pub slots: Vec<u32>,
 }
 
 impl<B: BroadPhase + Drop> Parts<B> {
@@ -78,7 +77,6 @@ impl<B: BroadPhase + Drop> Parts<B> {
             next_began: Vec::new(alloc),
             next_over: Vec::new(alloc),
             pairs: Vec::new(alloc),
-            slots: Vec::new(alloc),
         })
     }
 

@@ -8,14 +8,16 @@ ghost use Rattle.live_table.specs.Table.{IsTable};
 ghost use Rattle.live_queries.specs.First.{IsFirstEntered, IsFirstTouched, HasFirst};
 ghost use Rattle.live_queries.specs.Pairs.{hits_of};
 ghost use Rattle.live_queries.specs.Queries.{entered_of, cast_of, nearest_to};
+ghost use Rattle.box_world.specs.World.{pairs};
 
 use crate::BoxWorld;
+use crate::since::Since;
 use box_cast::Cast;
 use broad_index::{BroadPhase, Query};
 use fixed_box::{NoMemory, SLOTS};
 use live_queries::{
-    FirstHit, NearQuery, first_cast, first_entered, push_cast, push_entered, push_hits,
-    push_nearest,
+    AskRoom, FirstHit, NearQuery, first_cast, first_entered, push_cast, push_entered, push_hits,
+    push_nearest, push_pairs,
 };
 use live_table::{Handle, Live, LiveTable};
 use pair_events::{Events, HPair};
@@ -123,42 +125,75 @@ impl<B: BroadPhase + Drop> BoxWorld<B> {
         &self.parts.table
     }
 
-    /// Appends the handles of the live boxes that meet a query and are in one of the groups that `mask` has, by their slots.
-    /// After an `Err` `out` is as before. A spent world answers want of memory, here and in the queries below.
-    pub fn hits(&mut self, query: &Query, mask: u32, out: &mut Vec<Handle>) -> Result<(), NoMemory>
+    /// Appends the pairs that the frame would have if it ended now, in the order of pairs. The frame goes on, and nothing else changes:
+    /// what was told stays, and so do the last pairs. After an `Err` `out` is as before. It searches as `update` does, and where nothing
+    /// changed since the last frame it copies that one's pairs.
+    pub fn current_pairs(&mut self, out: &mut Vec<HPair>) -> Result<(), NoMemory>
         ensures sound { OnOk result (self.old.spent ≡ false) }
-        ensures ok { OnOk result (out.new.items ≡ out.old.items ++ hits_of self.old.time.now.table.entries query.now mask) }
+        ensures ok { OnOk result (out.new.items ≡ out.old.items ++ pairs self.old.time.now) }
         ensures err { OnErr result (out.new.items ≡ out.old.items) }
         ensures same { self.new ≡ self.old }
     {
         if self.spent {
             return Err(NoMemory);
         }
-        self.parts.slots.clear();
-        self.parts.index.hits(query, &mut self.parts.slots)?;
-        push_hits(&self.parts.table, query, mask, &self.parts.slots, out)
+        match self.parts.since {
+            Since::Same => Ok(out.extend_from_slice(self.parts.pair_table.last())?),
+            _ => {
+                self.parts.pairs.clear();
+                self.parts.index.pairs(&mut self.parts.pairs)?;
+                push_pairs(&self.parts.table, &self.parts.pairs, out)
+            }
+        }
+    }
+
+    /// Appends the handles of the live boxes that meet a query and are in one of the groups that `mask` has, by their slots.
+    /// After an `Err` `out` is as before. A spent world answers want of memory, here and in the queries below. They change nothing, so
+    /// that several threads may ask one world at once, each with room of its own.
+    pub fn hits(
+        &self,
+        query: &Query,
+        mask: u32,
+        room: &mut AskRoom,
+        out: &mut Vec<Handle>,
+    ) -> Result<(), NoMemory>
+        ensures sound { OnOk result (self.now.spent ≡ false) }
+        ensures ok { OnOk result (out.new.items ≡ out.old.items ++ hits_of self.now.time.now.table.entries query.now mask) }
+        ensures err { OnErr result (out.new.items ≡ out.old.items) }
+    {
+        if self.spent {
+            return Err(NoMemory);
+        }
+        room.slots.clear();
+        self.parts.index.hits(query, &mut room.slots)?;
+        push_hits(&self.parts.table, query, mask, &room.slots, out)
     }
 
     /// Appends the handles of the live boxes that a ray meets, of the groups that `mask` has, in the order in which it first
     /// meets them; those that it meets at one place come by their slots. After an `Err` `out` is as before.
-    pub fn entered(&mut self, ray: &Ray, mask: u32, out: &mut Vec<Handle>) -> Result<(), NoMemory>
-        ensures sound { OnOk result (self.old.spent ≡ false) }
-        ensures ok { OnOk result (out.new.items ≡ out.old.items ++ entered_of self.old.time.now.table.entries ray.now mask) }
+    pub fn entered(
+        &self,
+        ray: &Ray,
+        mask: u32,
+        room: &mut AskRoom,
+        out: &mut Vec<Handle>,
+    ) -> Result<(), NoMemory>
+        ensures sound { OnOk result (self.now.spent ≡ false) }
+        ensures ok { OnOk result (out.new.items ≡ out.old.items ++ entered_of self.now.time.now.table.entries ray.now mask) }
         ensures err { OnErr result (out.new.items ≡ out.old.items) }
-        ensures same { self.new ≡ self.old }
     {
         if self.spent {
             return Err(NoMemory);
         }
-        self.parts.slots.clear();
+        room.slots.clear();
         let along = Query::Along(*ray);
-        self.parts.index.hits(&along, &mut self.parts.slots)?;
+        self.parts.index.hits(&along, &mut room.slots)?;
         push_entered(
-            self.parts.alloc,
             &self.parts.table,
             ray,
             mask,
-            &self.parts.slots,
+            &room.slots,
+            &mut room.met,
             out,
         )
     }
@@ -166,24 +201,29 @@ impl<B: BroadPhase + Drop> BoxWorld<B> {
     /// Appends the handles of the live boxes that a box which is cast meets on its way, of the groups that `mask` has, in the
     /// order in which it first meets them; those that it meets at one place come by their slots. After an `Err` `out` is as
     /// before.
-    pub fn cast(&mut self, cast: &Cast, mask: u32, out: &mut Vec<Handle>) -> Result<(), NoMemory>
-        ensures sound { OnOk result (self.old.spent ≡ false) }
-        ensures ok { OnOk result (out.new.items ≡ out.old.items ++ cast_of self.old.time.now.table.entries cast.now mask) }
+    pub fn cast(
+        &self,
+        cast: &Cast,
+        mask: u32,
+        room: &mut AskRoom,
+        out: &mut Vec<Handle>,
+    ) -> Result<(), NoMemory>
+        ensures sound { OnOk result (self.now.spent ≡ false) }
+        ensures ok { OnOk result (out.new.items ≡ out.old.items ++ cast_of self.now.time.now.table.entries cast.now mask) }
         ensures err { OnErr result (out.new.items ≡ out.old.items) }
-        ensures same { self.new ≡ self.old }
     {
         if self.spent {
             return Err(NoMemory);
         }
-        self.parts.slots.clear();
+        room.slots.clear();
         let swept = Query::Swept(*cast);
-        self.parts.index.hits(&swept, &mut self.parts.slots)?;
+        self.parts.index.hits(&swept, &mut room.slots)?;
         push_cast(
-            self.parts.alloc,
             &self.parts.table,
             cast,
             mask,
-            &self.parts.slots,
+            &room.slots,
+            &mut room.met,
             out,
         )
     }
@@ -230,7 +270,12 @@ impl<B: BroadPhase + Drop> BoxWorld<B> {
     /// Appends the handles of the live boxes that are nearest to a point, of the groups that the query's mask has: at most as
     /// many as it wants and at most `SLOTS`, in rising order of the square of their distance and then of their slot. After an
     /// `Err` `out` is as before.
-    pub fn nearest(&self, query: &NearQuery, out: &mut Vec<Handle>) -> Result<(), NoMemory>
+    pub fn nearest(
+        &self,
+        query: &NearQuery,
+        room: &mut AskRoom,
+        out: &mut Vec<Handle>,
+    ) -> Result<(), NoMemory>
         ensures sound { OnOk result (self.now.spent ≡ false) }
         ensures ok { OnOk result (out.new.items ≡ out.old.items
             ++ nearest_to self.now.time.now.table.entries query.now.at (min query.now.want SLOTS) query.now.mask) }
@@ -247,10 +292,10 @@ impl<B: BroadPhase + Drop> BoxWorld<B> {
             ..*query
         };
         push_nearest(
-            self.parts.alloc,
             &self.parts.table,
             &self.parts.index,
             &wanted,
+            &mut room.nears,
             out,
         )
     }

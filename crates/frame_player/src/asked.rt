@@ -10,7 +10,7 @@ ghost use Rattle.frame_player.specs.Owed.{query_for, answer_line, met_line};
 
 use broad_index::{QKind, Query};
 use fixed_box::NoMemory;
-use live_queries::{push_cast, push_entered, push_hits};
+use live_queries::{MetRoom, push_cast, push_entered, push_hits};
 use live_table::{Handle, LiveTable};
 use pair_report::{put_cast, put_hits};
 use ray_slabs::Ray;
@@ -54,7 +54,7 @@ impl Asked {
         match self {
             Asked::Hits { query, mask } => put_met(table, query, *mask, slots, handles, text),
             Asked::Entered { ray, mask } => {
-                push_entered(alloc, table, ray, *mask, slots, handles)?;
+                push_entered(table, ray, *mask, slots, &mut MetRoom::new(alloc), handles)?;
                 put_hits(QKind::Along, handles, text)
             }
         }
@@ -79,7 +79,7 @@ fn put_met(
     match query {
         Query::Swept(cast) => {
             let alloc = *handles.allocator();
-            push_cast(alloc, table, cast, mask, slots, handles)?;
+            push_cast(table, cast, mask, slots, &mut MetRoom::new(alloc), handles)?;
             put_cast(handles, text)
         }
         // each kind by itself, since its line is told by its kind

@@ -17,7 +17,7 @@ use crate::report::Report;
 use crate::setup::Setup;
 use broad_index::{BroadPhase, Gate};
 use fixed_box::NoMemory;
-use live_queries::NearQuery;
+use live_queries::{AskRoom, NearQuery};
 use pair_report::put_near;
 use play_io::{Sink, SinkFault};
 use scene_words::Command;
@@ -110,6 +110,7 @@ fn put_nearest<B: BroadPhase + Drop>(
     ensures err { OnErr result (text.new.items ≡ text.old.items) }
 {
     let mut handles = Vec::new(player.alloc);
-    player.world.nearest(query, &mut handles)?;
+    let mut room = AskRoom::new(player.alloc);
+    player.world.nearest(query, &mut room, &mut handles)?;
     put_near(&handles, text)
 }

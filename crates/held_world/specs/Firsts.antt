@@ -1,14 +1,19 @@
 -- The first hit of a ray or of a moved box, as C is told of it.
-use Rattle.std.specs.Prelude.{◌≡◌, ◌⊎◌, ℕ, Bool, true, false, List, Option, None, Some}
+use Rattle.std.specs.Prelude.{◌≡◌, ◌⊎◌, ℕ, ◌^◌, ◌/◌, ◌%◌, Bool, true, false, List, Option, None, Some}
+use Rattle.fixed_box.specs.Bounds.{Bounds}
+use Rattle.ray_slabs.specs.Crossing.{Fraction}
 use Rattle.box_cast.specs.declared.cast.Cast.{Cast}
 use Rattle.live_table.specs.declared.live.Live.{Live}
 use Rattle.live_queries.specs.declared.face.Axis.{Axis}
 use Rattle.live_queries.specs.declared.face.Axis.TheVariants.{X, Y, Z}
 use Rattle.live_queries.specs.declared.face.Face.{Face}
 use Rattle.live_queries.specs.declared.first_hit.FirstHit.{FirstHit}
-use Rattle.live_queries.specs.First.{IsFirstTouched}
-use Rattle.held_world.specs.declared.TheConstants.{OK, NO_MEMORY, INVERTED, LOWER, UPPER, NO_AXIS}
+use Rattle.live_queries.specs.Face.{contact_face}
+use Rattle.live_queries.specs.First.{IsFirstTouched, IsHitAt}
+use Rattle.live_queries.specs.Queries.{contact_of}
+use Rattle.held_world.specs.declared.TheConstants.{OK, STALE, NO_MEMORY, INVERTED, LOWER, UPPER, NO_AXIS}
 use Rattle.held_world.specs.declared.answers.Reply.{Reply}
+use Rattle.held_world.specs.declared.meetings.PwSquare.{PwSquare}
 use Rattle.held_world.specs.declared.plain.PwHit.{PwHit}
 use Rattle.held_world.specs.Asks.{IsUnanswered}
 use Rattle.held_world.specs.Plain.{handle_out}
@@ -64,6 +69,27 @@ pub record IsFirst (IsHit : Option FirstHit → Type 0) (spent : Bool) (reply : 
 -- question of a spent world meets with.
 abbrev pub AsksFirst : (Option FirstHit → Type 0) → Bool → Reply → PwHit → PwHit → Type 0
 AsksFirst IsHit spent reply room out = IsFirst IsHit spent reply room out ⊎ IsUnanswered NO_MEMORY reply room out
+
+-- Where a way meets a live box: what is to be told of that, and the count is 1; or it isn't met, the count is 0, and the room is as it was.
+pub record IsMeeting (meeting : Bounds → Option Fraction) (side : Fraction → Bounds → Option Face) (entry : Live) (reply : Reply) (room out : PwHit) : Type 0 where
+  pub hit : Option FirstHit
+  pub at : IsHitAt meeting side entry hit
+  pub told : reply ≡ record { status = OK; count = hit_count hit }
+  pub room_has : out ≡ hit_told hit room
+
+-- what is told of where a way meets the live box of a handle, if there is one
+abbrev pub TellsMeeting : (Bounds → Option Fraction) → (Fraction → Bounds → Option Face) → Option Live → Reply → PwHit → PwHit → Type 0
+TellsMeeting meeting side None reply room out = IsUnanswered STALE reply room out
+TellsMeeting meeting side (Some entry) reply room out = IsMeeting meeting side entry reply room out
+
+-- the same for a box that is cast, where there is one
+abbrev pub TellsCastMeeting : Option Cast → Option Live → Reply → PwHit → PwHit → Type 0
+TellsCastMeeting None entry reply room out = IsUnanswered INVERTED reply room out
+TellsCastMeeting (Some cast) entry reply room out = TellsMeeting (contact_of cast) (contact_face cast) entry reply room out
+
+-- the square of a distance in two words
+abbrev pub square_out : ℕ → PwSquare
+square_out square = record { low = square % 2 ^ 64; high = square / 2 ^ 64 }
 
 -- the same for a box that is cast, where there is one, among live boxes of some groups
 abbrev pub AsksFirstCast : Option Cast → List Live → ℕ → Bool → Reply → PwHit → PwHit → Type 0

@@ -1,10 +1,10 @@
-//! Queries among the live boxes, whose handles are copied into the caller's room.
+//! Questions about the live boxes of a world, whose handles are copied into the caller's room.
 
 ghost use Rattle.std.specs.Prelude.{◌≡◌, min, length, Some, option_map, OnOk, OnErr};
 ghost use Rattle.fixed_box.specs.declared.TheConstants.{SLOTS};
 ghost use Rattle.live_queries.specs.Pairs.{hits_of};
 ghost use Rattle.live_queries.specs.Queries.{entered_of, cast_of, nearest_to};
-ghost use Rattle.any_world.specs.AnyWorld.{state_of, structure_of};
+ghost use Rattle.any_world.specs.AnyWorld.{state_of};
 ghost use Rattle.held_world.specs.declared.TheConstants.{OK, NO_MEMORY, ARGUMENT, INVERTED};
 ghost use Rattle.held_world.specs.Plain.{handle_out, query_in, ray_in, cast_in, near_in};
 ghost use Rattle.held_world.specs.Copies.{copied};
@@ -13,19 +13,19 @@ ghost use Rattle.held_world.specs.Asks.{Asks};
 use crate::copying::copy_handles;
 use crate::plain::{PwHandle, PwQuery, query_of};
 use crate::questions::{PwCast, PwNear, PwRay, cast_of, near_of, ray_of};
-use crate::{ARGUMENT, HeldWorld, INVERTED, NO_MEMORY, OK, Reply};
+use crate::room::HeldRoom;
+use crate::{ARGUMENT, INVERTED, NO_MEMORY, OK, Reply};
+use any_world::AnyWorld;
 use fixed_box::NoMemory;
 
-impl HeldWorld {
+impl HeldRoom {
     /// Copies the handles of the live boxes that meet a question, by their slots, as many as there is room for, and tells how many
     /// there are in all. `ARGUMENT` comes where it is no question. After any status but `OK`, here and below, the count is 0 and
     /// `out` is as before.
-    pub fn hits(&mut self, query: &PwQuery, out: &mut [PwHandle]) -> Reply
-        ensures asks { let old = state_of self.old.world in
-            Asks ARGUMENT (option_map (λ asked. hits_of old.time.now.table.entries asked query.now.mask) (query_in query.now)) old.spent
+    pub fn hits(&mut self, world: &AnyWorld, query: &PwQuery, out: &mut [PwHandle]) -> Reply
+        ensures { let state = state_of world.now in
+            Asks ARGUMENT (option_map (λ asked. hits_of state.time.now.table.entries asked query.now.mask) (query_in query.now)) state.spent
             result out.old out.new }
-        ensures same { state_of self.new.world ≡ state_of self.old.world }
-        ensures structure { structure_of self.new.world ≡ structure_of self.old.world }
     {
         let Some(asked) = query_of(query) else {
             return Reply {
@@ -34,30 +34,26 @@ impl HeldWorld {
             };
         };
         self.found.clear();
-        let answer = self.world.hits(&asked, query.mask, &mut self.found);
+        let answer = world.hits(&asked, query.mask, &mut self.asking, &mut self.found);
         self.answered(answer, out)
     }
 
     /// Copies the handles of the live boxes that a ray meets, in the order in which it first meets them and then by their slots, as
     /// many as there is room for, and tells how many there are in all.
-    pub fn entered(&mut self, ray: &PwRay, out: &mut [PwHandle]) -> Reply
-        ensures asks { let old = state_of self.old.world in
-            Asks ARGUMENT (Some (entered_of old.time.now.table.entries (ray_in ray.now) ray.now.mask)) old.spent result out.old out.new }
-        ensures same { state_of self.new.world ≡ state_of self.old.world }
-        ensures structure { structure_of self.new.world ≡ structure_of self.old.world }
+    pub fn entered(&mut self, world: &AnyWorld, ray: &PwRay, out: &mut [PwHandle]) -> Reply
+        ensures { let state = state_of world.now in
+            Asks ARGUMENT (Some (entered_of state.time.now.table.entries (ray_in ray.now) ray.now.mask)) state.spent result out.old out.new }
     {
         self.found.clear();
-        let answer = self.world.entered(&ray_of(ray), ray.mask, &mut self.found);
+        let answer = world.entered(&ray_of(ray), ray.mask, &mut self.asking, &mut self.found);
         self.answered(answer, out)
     }
 
     /// The same for the boxes that a moved box meets on its way. `INVERTED` comes where it is none.
-    pub fn cast(&mut self, cast: &PwCast, out: &mut [PwHandle]) -> Reply
-        ensures asks { let old = state_of self.old.world in
-            Asks INVERTED (option_map (λ asked. cast_of old.time.now.table.entries asked cast.now.mask) (cast_in cast.now)) old.spent
+    pub fn cast(&mut self, world: &AnyWorld, cast: &PwCast, out: &mut [PwHandle]) -> Reply
+        ensures { let state = state_of world.now in
+            Asks INVERTED (option_map (λ asked. cast_of state.time.now.table.entries asked cast.now.mask) (cast_in cast.now)) state.spent
             result out.old out.new }
-        ensures same { state_of self.new.world ≡ state_of self.old.world }
-        ensures structure { structure_of self.new.world ≡ structure_of self.old.world }
     {
         let Some(asked) = cast_of(cast) else {
             return Reply {
@@ -66,21 +62,19 @@ impl HeldWorld {
             };
         };
         self.found.clear();
-        let answer = self.world.cast(&asked, cast.mask, &mut self.found);
+        let answer = world.cast(&asked, cast.mask, &mut self.asking, &mut self.found);
         self.answered(answer, out)
     }
 
     /// The same for the boxes that are nearest to a place: at most as many as are wanted and at most `SLOTS`, the nearest first and then by
     /// their slots.
-    pub fn nearest(&mut self, near: &PwNear, out: &mut [PwHandle]) -> Reply
-        ensures asks { let old = state_of self.old.world in
-            Asks ARGUMENT (Some (nearest_to old.time.now.table.entries (near_in near.now).at (min near.now.want SLOTS) near.now.mask)) old.spent
+    pub fn nearest(&mut self, world: &AnyWorld, near: &PwNear, out: &mut [PwHandle]) -> Reply
+        ensures { let state = state_of world.now in
+            Asks ARGUMENT (Some (nearest_to state.time.now.table.entries (near_in near.now).at (min near.now.want SLOTS) near.now.mask)) state.spent
             result out.old out.new }
-        ensures same { state_of self.new.world ≡ state_of self.old.world }
-        ensures structure { structure_of self.new.world ≡ structure_of self.old.world }
     {
         self.found.clear();
-        let answer = self.world.nearest(&near_of(near), &mut self.found);
+        let answer = world.nearest(&near_of(near), &mut self.asking, &mut self.found);
         self.answered(answer, out)
     }
 

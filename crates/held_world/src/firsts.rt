@@ -46,19 +46,29 @@ fn told(answer: Result<Option<FirstHit>, NoMemory>, out: &mut PwHit) -> Reply
     ensures err { OnErr answer ((result ≡ record { status = NO_MEMORY; count = 0 }) × (out.new ≡ out.old)) }
 {
     match answer {
-        Ok(Some(hit)) => {
-            *out = hit_out(&hit);
+        Ok(hit) => put_hit(&hit, out),
+        Err(_) => Reply {
+            status: NO_MEMORY,
+            count: 0,
+        },
+    }
+}
+
+// Tells a hit, if there is one, and how many there are.
+pub(crate) fn put_hit(hit: &Option<FirstHit>, out: &mut PwHit) -> Reply
+    ensures told { result ≡ record { status = OK; count = hit_count hit.now } }
+    ensures room { out.new ≡ hit_told hit.now out.old }
+{
+    match hit {
+        Some(hit) => {
+            *out = hit_out(hit);
             Reply {
                 status: OK,
                 count: 1,
             }
         }
-        Ok(None) => Reply {
+        None => Reply {
             status: OK,
-            count: 0,
-        },
-        Err(_) => Reply {
-            status: NO_MEMORY,
             count: 0,
         },
     }

@@ -3,9 +3,11 @@
 ghost use Rattle.std.specs.Prelude.{◌≡◌, ◌≢◌, ◌↔◌, ◌⊎◌, ◌<◌, ◌≤◌, ◌-◌, ◌++◌, [], false, min, length, map, zip, take, drop};
 ghost use Rattle.std.specs.Prelude.{Some, None, Err, IfOk, IfErr};
 ghost use Rattle.box_world.specs.Answers.{opened};
+ghost use Rattle.box_world.specs.World.{pairs};
 ghost use Rattle.any_world.specs.AnyWorld.{state_of, structure_of, counts_of};
 ghost use Rattle.live_table.specs.Table.{next_handle};
 ghost use Rattle.held_world.specs.declared.TheConstants.{NO_MEMORY, ARGUMENT};
+ghost use Rattle.held_world.specs.Asks.{AsksPairs};
 ghost use Rattle.held_world.specs.Batches.{IsBatch};
 ghost use Rattle.held_world.specs.Changes.{adds, moves, removes, handles_given};
 ghost use Rattle.held_world.specs.Copies.{copied};
@@ -16,13 +18,14 @@ ghost use Rattle.held_world.specs.Steps.{Stepped};
 use crate::answers::status_of;
 use crate::copying::{copy_pairs, copy_told};
 use crate::plain::{body_of, handle_of, handle_out, structure_of};
+use crate::room::HeldRoom;
 use crate::{ARGUMENT, INVERTED, NO_MEMORY, OK, PwBox, PwHandle, PwPair, PwTold, Reply};
 use any_world::AnyWorld;
 use live_table::{Group, Handle, Masks};
 use pair_events::Events;
 use std::alloc::Global;
 
-/// What stands behind a world that C holds: the world, and room for the answer to one query.
+/// What stands behind a world that C holds: the world, and room for the answers to the questions that bring none.
 ///
 /// A batch does its steps in order, up to the first that is refused, whose status it tells with the number of those before it.
 /// Those stay done, and where memory runs out in a step and spends the world, that step isn't done: the world has what those before it
@@ -30,7 +33,7 @@ use std::alloc::Global;
 #[derive(Drop)]
 pub struct HeldWorld {
     pub world: AnyWorld,
-    pub found: Vec<Handle>,
+    pub room: HeldRoom,
 }
 
 impl HeldWorld {
@@ -47,7 +50,7 @@ impl HeldWorld {
         match AnyWorld::new(alloc, structure) {
             Ok(world) => Ok(HeldWorld {
                 world,
-                found: Vec::new(alloc),
+                room: HeldRoom::new(alloc),
             }),
             Err(_) => Err(NO_MEMORY),
         }
@@ -69,7 +72,7 @@ impl HeldWorld {
         ensures handles { let given = handles_given (counts_of self.old.world) masks group (state_of self.old.world).time.now boxes.now in
             length boxes.now ≤ length out.old → out.new ≡ map handle_out (take result.count given) ++ drop result.count out.old }
         ensures structure { structure_of self.new.world ≡ structure_of self.old.world }
-        ensures found { self.new.found ≡ self.old.found }
+        ensures room { self.new.room ≡ self.old.room }
     {
         if out.len() < boxes.len() {
             return Reply {
@@ -98,7 +101,7 @@ impl HeldWorld {
         ensures moved { length handles.now ≡ length boxes.now → IsBatch (moves (counts_of self.old.world)) (zip handles.now boxes.now)
             result.count result.status (state_of self.old.world) (state_of self.new.world) }
         ensures structure { structure_of self.new.world ≡ structure_of self.old.world }
-        ensures found { self.new.found ≡ self.old.found }
+        ensures room { self.new.room ≡ self.old.room }
     {
         if handles.len() != boxes.len() {
             return Reply {
@@ -125,7 +128,7 @@ impl HeldWorld {
         ensures unmarked { let old = state_of self.old.world in old.spent ≡ false → old.time.marks ≡ [] → result.status ≢ NO_MEMORY }
         ensures spent { (state_of self.new.world).spent ≡ (state_of self.old.world).spent }
         ensures structure { structure_of self.new.world ≡ structure_of self.old.world }
-        ensures found { self.new.found ≡ self.old.found }
+        ensures room { self.new.room ≡ self.old.room }
     {
         let mut count = 0;
         let mut rest = handles;
@@ -146,6 +149,29 @@ impl HeldWorld {
         ensures count { result ≡ min (length (state_of self.now.world).time.now.last - from) (length out.old) }
     {
         copy_pairs(self.world.pairs(), from, out)
+    }
+
+    /// Tells how many pairs the frame would have if it ended now, and copies them from number `from` on, as many as there is room for.
+    /// The frame goes on. After any status but `OK` the count is 0 and `out` is as before. It searches as a frame's end does.
+    pub fn pairs_now(&mut self, from: usize, out: &mut [PwPair]) -> Reply
+        ensures told { let old = state_of self.old.world in AsksPairs (pairs old.time.now) from old.spent result out.old out.new }
+        ensures same { state_of self.new.world ≡ state_of self.old.world }
+        ensures structure { structure_of self.new.world ≡ structure_of self.old.world }
+    {
+        self.room.pairs.clear();
+        match self.world.current_pairs(&mut self.room.pairs) {
+            Ok(()) => {
+                copy_pairs(&self.room.pairs, from, out);
+                Reply {
+                    status: OK,
+                    count: self.room.pairs.len(),
+                }
+            }
+            Err(_) => Reply {
+                status: NO_MEMORY,
+                count: 0,
+            },
+        }
     }
 
     /// Copies what was told of the last frame that ended from number `from` on, as many as there is room for, and answers how many
@@ -173,7 +199,7 @@ impl HeldWorld {
         ensures step { Stepped (adds (counts_of self.old.world) masks group) body.now result (state_of self.old.world) (state_of self.new.world) }
         ensures handle { IfOk result (λ handle. handle ≡ next_handle (state_of self.old.world).time.now.table) }
         ensures structure { structure_of self.new.world ≡ structure_of self.old.world }
-        ensures found { self.new.found ≡ self.old.found }
+        ensures room { self.new.room ≡ self.old.room }
     {
         let Some(body) = body_of(body) else {
             if self.world.is_spent() {
@@ -188,7 +214,7 @@ impl HeldWorld {
     fn shift(&mut self, handle: &PwHandle, body: &PwBox) -> Result<(), u32>
         ensures step { Stepped (moves (counts_of self.old.world)) (handle.now, body.now) result (state_of self.old.world) (state_of self.new.world) }
         ensures structure { structure_of self.new.world ≡ structure_of self.old.world }
-        ensures found { self.new.found ≡ self.old.found }
+        ensures room { self.new.room ≡ self.old.room }
     {
         let Some(body) = body_of(body) else {
             if self.world.is_spent() {
@@ -208,7 +234,7 @@ impl HeldWorld {
         ensures unmarked { let old = state_of self.old.world in old.spent ≡ false → old.time.marks ≡ [] → result ≢ Err NO_MEMORY }
         ensures spent { (state_of self.new.world).spent ≡ (state_of self.old.world).spent }
         ensures structure { structure_of self.new.world ≡ structure_of self.old.world }
-        ensures found { self.new.found ≡ self.old.found }
+        ensures room { self.new.room ≡ self.old.room }
     {
         self.world.remove(handle_of(handle)).map_err(status_of)
     }

@@ -9,19 +9,23 @@ mod copying;
 mod firsts;
 mod floats;
 mod held;
+mod meetings;
 mod plain;
 mod questions;
 mod reading;
+mod room;
 
 pub use answers::{Reply, number_law, status};
 pub use floats::{PwBits32, PwBits64, box_around_32, box_around_64, fault_of};
 pub use held::HeldWorld;
+pub use meetings::PwSquare;
 pub use plain::{
     PwBox, PwGroup, PwHandle, PwHit, PwLive, PwMasks, PwPair, PwPoint, PwQuery, PwTold, body_of,
     group_of, handle_of, handle_out, masks_of, query_of, structure_of,
 };
 pub use questions::{PwCast, PwNear, PwRay};
 pub use reading::{PwCounts, PwInfo};
+pub use room::HeldRoom;
 
 /// The call did what it is for.
 pub const OK: u32 = 0;
@@ -86,7 +90,7 @@ pub const LOWER: u32 = 0;
 /// The side at its upper corner.
 pub const UPPER: u32 = 1;
 
-/// The axis of a first hit whose way begins in the box. The axes are 0, 1 and 2.
+/// The axis of a first hit whose way begins in the box and comes in by no side. The axes are 0, 1 and 2.
 pub const NO_AXIS: u32 = 3;
 
 /// Which boxes meet the one from `a` to `b`.

@@ -79,7 +79,7 @@ pub struct PwTold {
 }
 
 /// The box that is met first on a way: at `num / den` of it, by the side `LOWER` or `UPPER` of the axis 0, 1 or 2, or with `NO_AXIS` if
-/// the way begins in it.
+/// the way begins in it and comes in by no side: one that begins on a side and goes in there has that side.
 #[repr(C)]
 #[derive(Clone, Copy)]
 pub struct PwHit {

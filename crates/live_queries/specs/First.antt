@@ -18,6 +18,11 @@ pub record IsHitOf (meeting : Bounds → Option Fraction) (side : Fraction → B
   pub place : IsSameValue (Some hit.place) (meeting entry.body)
   pub face : hit.face ≡ side hit.place entry.body
 
+-- the hit of a live box, and none where it isn't met
+abbrev pub IsHitAt : (Bounds → Option Fraction) → (Fraction → Bounds → Option Face) → Live → Option FirstHit → Type 0
+IsHitAt meeting side entry None = IsSameValue None (meeting entry.body)
+IsHitAt meeting side entry (Some hit) = IsHitOf meeting side entry hit
+
 -- the hit of the first of some live boxes, and none where there is no box
 abbrev pub IsHitOfFirst : (Bounds → Option Fraction) → (Fraction → Bounds → Option Face) → List Live → Option FirstHit → Type 0
 IsHitOfFirst meeting side [] None = Unit {0}

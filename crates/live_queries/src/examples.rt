@@ -30,7 +30,7 @@ fn casts_meet_nearer_boxes_first()
     ensures away { cast_of (lives 1 at_the_end) (moved_by (flat 0) (negsuc 2147483647)) 4294967295 ≡ [] }
 {}
 
-// A ray comes into a box by its lower side, and by none where it starts within. A box that is cast back touches the upper one,
+// A ray comes into a box by its lower side, and by none where it starts inside. A box that is cast back touches the upper one,
 // and one that stands beside another from the start on touches the side that it moves to.
 fn faces_are_the_sides_that_are_reached()
     ensures ahead { entry_face (ray_from 0) (record { num = pos 131072; den = pos 65536 }) (between 2 3)

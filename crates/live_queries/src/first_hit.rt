@@ -11,6 +11,7 @@ pub struct FirstHit {
     pub handle: Handle,
     /// Where it is met: the fraction of the ray's direction, or of the way of the cast.
     pub place: Entry,
-    /// The side of it that is reached there, and `None` where the ray starts within the box, or the cast meets it from its start on.
+    /// The side of it that is reached there, and `None` where the way begins in the box and comes in by no side; one that begins on a
+    /// side and goes in there has that side.
     pub face: Option<Face>,
 }

@@ -2,6 +2,7 @@
 //! are asked for, and in the order that is asked for.
 #![tactic(auto)]
 
+mod ask_room;
 mod examples;
 mod face;
 mod first;
@@ -10,17 +11,20 @@ mod handles;
 mod hit;
 mod hits;
 mod laws;
+mod meeting;
 mod met;
 mod nearest;
 mod pairs;
 mod probe;
 mod ray_test;
 
+pub use ask_room::{AskRoom, MetRoom};
 pub use face::{Axis, Face};
 pub use first::{first_cast, first_entered};
 pub use first_hit::FirstHit;
 pub use hits::push_hits;
 pub use laws::{current_laws, pairs_law, queries_law};
+pub use meeting::{cast_meeting, ray_meeting};
 pub use met::{push_cast, push_entered};
 pub use nearest::{NearQuery, push_nearest};
 pub use pairs::{push_pairs, push_pairs_and_changes};

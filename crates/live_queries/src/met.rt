@@ -1,6 +1,6 @@
 //! The live boxes that a ray or a cast meets, in the order in which it meets them.
 
-ghost use Rattle.std.specs.Prelude.{◌≡◌, ◌++◌, IfOk, OnOk, OnErr};
+ghost use Rattle.std.specs.Prelude.{◌≡◌, ◌++◌, OnOk, OnErr};
 ghost use Rattle.std.specs.List.{filter_map};
 ghost use Rattle.live_table.specs.Bodies.{bodies_of};
 ghost use Rattle.live_table.specs.Table.{IsTable};
@@ -9,6 +9,7 @@ ghost use Rattle.broad_index.specs.Found.{found};
 ghost use Rattle.live_queries.specs.Beside.{AreBeside, IsBeside, IsHit, ListsMet, met_at};
 ghost use Rattle.live_queries.specs.Queries.{entered_of, cast_of, handles, met_in_order};
 
+use crate::ask_room::MetRoom;
 use crate::handles::push_handles;
 use crate::hit::Hit;
 use crate::hits::is_asked_for;
@@ -18,19 +19,19 @@ use fixed_box::NoMemory;
 use live_table::{Handle, LiveTable};
 use ordered_lists::put_in_order;
 use ray_slabs::Ray;
-use std::alloc::Global;
 
 /// Appends the handles of the live boxes that a ray meets, of the groups that `mask` has, in the order in which it first
 /// meets them; those that it meets at one place come by their slots. The slots are those that an index of the live boxes has
 /// found for the ray. After an `Err` `out` is as before.
 ///
-/// Each place is computed once. It takes memory for a place and a handle for each of these boxes, and sorts them.
+/// Each place is computed once. The room has a place for each of these boxes, which are sorted, and `out` a handle: it takes memory
+/// where they have none left.
 pub fn push_entered(
-    alloc: Global,
     table: &LiveTable,
     ray: &Ray,
     mask: u32,
     slots: &[u32],
+    room: &mut MetRoom,
     out: &mut Vec<Handle>,
 ) -> Result<(), NoMemory>
     requires table { IsTable table.now }
@@ -38,21 +39,21 @@ pub fn push_entered(
     ensures ok { OnOk result (out.new.items ≡ out.old.items ++ entered_of table.now.entries ray.now mask) }
     ensures err { OnErr result (out.new.items ≡ out.old.items) }
 {
-    push_met(alloc, table, ray, mask, slots, out)
+    push_met(table, ray, mask, slots, &mut room.hits, out)
 }
 
 /// Appends the handles of the live boxes that a box which is cast meets on its way, of the groups that `mask` has, in the
 /// order in which it first meets them; those that it meets at one place come by their slots. The slots are those that an
 /// index of the live boxes has found for the cast. After an `Err` `out` is as before.
 ///
-/// Where each of these boxes that is asked for is met is computed once. It takes memory for a place and a handle for each box
-/// that is met, and sorts them.
+/// Where each of these boxes that is asked for is met is computed once. The room has a place for each box that is met, which are
+/// sorted, and `out` a handle: it takes memory where they have none left.
 pub fn push_cast(
-    alloc: Global,
     table: &LiveTable,
     cast: &Cast,
     mask: u32,
     slots: &[u32],
+    room: &mut MetRoom,
     out: &mut Vec<Handle>,
 ) -> Result<(), NoMemory>
     requires table { IsTable table.now }
@@ -61,16 +62,16 @@ pub fn push_cast(
     ensures err { OnErr result (out.new.items ≡ out.old.items) }
 {
     cast_law();
-    push_met(alloc, table, cast, mask, slots, out)
+    push_met(table, cast, mask, slots, &mut room.hits, out)
 }
 
 // Appends the handles of the boxes that are met on the way and asked for, in the order in which they are met.
 fn push_met<P: Probe>(
-    alloc: Global,
     table: &LiveTable,
     probe: &P,
     mask: u32,
     slots: &[u32],
+    hits: &mut Vec<Hit>,
     out: &mut Vec<Handle>,
 ) -> Result<(), NoMemory>
     requires table { IsTable table.now }
@@ -78,23 +79,23 @@ fn push_met<P: Probe>(
     ensures ok { OnOk result (out.new.items ≡ out.old.items ++ handles (met_in_order (P.place probe.now) table.now.entries mask)) }
     ensures err { OnErr result (out.new.items ≡ out.old.items) }
 {
-    let mut hits = find_hits(alloc, table, probe, mask, slots)?;
-    put_in_order(&mut hits);
-    push_handles(table, &hits, out)
+    find_hits(table, probe, mask, slots, hits)?;
+    put_in_order(hits);
+    push_handles(table, hits, out)
 }
 
-// A hit for each slot whose box is met on the way and asked for, in the order of the slots.
+// Replaces a list by a hit for each slot whose box is met on the way and asked for, in the order of the slots.
 fn find_hits<P: Probe>(
-    alloc: Global,
     table: &LiveTable,
     probe: &P,
     mask: u32,
     slots: &[u32],
-) -> Result<Vec<Hit>, NoMemory>
-    ensures { IfOk result (λ hits. AreBeside (IsHit (P.place probe.now) table.now.entries) hits.items
+    hits: &mut Vec<Hit>,
+) -> Result<(), NoMemory>
+    ensures { OnOk result (AreBeside (IsHit (P.place probe.now) table.now.entries) hits.new.items
         (filter_map (met_at (P.place probe.now) mask table.now.entries) slots.now)) }
 {
-    let mut hits = Vec::new(alloc);
+    hits.clear();
     let mut rest = slots;
     'slots: while let Some((slot, more)) = rest.split_first() {
         if let Some(hit) = hit_at(table, probe, mask, *slot) {
@@ -102,7 +103,7 @@ fn find_hits<P: Probe>(
         }
         rest = more;
     }
-    Ok(hits)
+    Ok(())
 }
 
 // The hit of a slot, where its box is met on the way and asked for.

@@ -13,8 +13,7 @@ use crate::hits::is_asked_for;
 use broad_index::BroadPhase;
 use fixed_box::{FBox, NoMemory, Point};
 use live_table::{Handle, LiveTable};
-use near_boxes::{Bodies, nearest};
-use std::alloc::Global;
+use near_boxes::{Bodies, Near, nearest};
 
 /// A question for the boxes that are nearest to a point: at most `want` of them, of the groups that `mask` has.
 #[derive(Clone, Copy, Debug, PartialEq, Eq)]
@@ -60,13 +59,13 @@ fn body_at(table: &LiveTable, mask: u32, slot: u32) -> Option<FBox>
 /// many as it wants: in rising order of the square of their distance and then of their slot. The index has the live boxes.
 /// After an `Err` `out` is as before.
 ///
-/// It asks the index for cubes around the point, as `nearest` of `near_boxes` does, and takes memory as that does, and for
-/// the handles.
+/// It asks the index as `nearest` of `near_boxes` does, and takes memory as that does. `nears` is room for the nearest slots: what
+/// is in it is replaced.
 pub fn push_nearest<B: BroadPhase>(
-    alloc: Global,
     table: &LiveTable,
     index: &B,
     query: &NearQuery,
+    nears: &mut Vec<Near>,
     out: &mut Vec<Handle>,
 ) -> Result<(), NoMemory>
     requires table { IsTable table.now }
@@ -80,7 +79,8 @@ pub fn push_nearest<B: BroadPhase>(
         table,
         mask: query.mask,
     };
-    let mut nears = Vec::new(alloc);
-    nearest(alloc, index, &asked, &query.at, query.want, &mut nears)?;
-    push_handles(table, &nears, out)
+    nears.clear();
+    let alloc = *nears.allocator();
+    nearest(alloc, index, &asked, &query.at, query.want, nears)?;
+    push_handles(table, nears, out)
 }

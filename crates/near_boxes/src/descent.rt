@@ -62,24 +62,26 @@ impl<T: Bodies> Visitor for NearestSearch<'_, T> {
     }
 }
 
-// The nearest bodies by one descent, in rising order.
+// The nearest bodies by one descent, in rising order, in the room of an empty list.
 pub(crate) fn descend<B: BroadPhase, T: Bodies>(
-    alloc: Global,
+    room: Vec<Near>,
     index: &B,
     bodies: &T,
     at: &Point,
     want: usize,
 ) -> Result<Vec<Near>, NoMemory>
+    requires empty { room.items ≡ [] }
     requires in_space { AreInSpace (T.bodies bodies.now) }
     requires among { AreAmong (T.bodies bodies.now) (B.bodies index.now) }
     ensures { IfOk result (λ found. found.items ≡ nearest (T.bodies bodies.now) at.now want) }
 {
     spot_law(at);
+    let alloc = *room.allocator();
     let mut search = NearestSearch {
         bodies,
         at: *at,
         want,
-        nears: Vec::new(alloc),
+        nears: room,
     };
     index.visit(alloc, &mut search)?;
     Ok(search.nears)

@@ -20,6 +20,7 @@ use fixed_box::{FBox, NoMemory, Point, space_law};
 use ordered_lists::{order_laws, push_front_in_order};
 use slot_lists::push_filter_mapped;
 use std::alloc::Global;
+use std::mem;
 
 // Half the side of the first cube, in raw units: a sixteenth of a unit.
 const NARROWEST: u32 = 1 << 12;
@@ -30,8 +31,8 @@ const MOST_BY_DESCENT: u32 = 16;
 /// Appends the `want` bodies that are nearest to a point, or all where there are fewer, in rising order of the square of
 /// their distance and then of their slot. After an `Err` `out` is as before.
 ///
-/// Up to 16 are sought by one descent of an index that descends, which passes by what lies farther than those it has, and takes
-/// memory for these. Else it asks the index for a cube around the point, and for wider ones until `want` bodies are as near as the cube's sides:
+/// Up to 16 are sought by one descent of an index that descends, which passes by what lies farther than those it has. It takes
+/// memory for these where `out` isn't empty, or has no room for one more than `want`. Else it asks the index for a cube around the point, and for wider ones until `want` bodies are as near as the cube's sides:
 /// at most 21, of which the last is all of space. So over a structure that keeps boxes by where they are, its time goes by
 /// how many lie about as near as the last of the answer. It takes memory for the slots that a cube meets, and for those of
 /// the bodies that are near enough.
@@ -55,13 +56,35 @@ pub fn nearest<B: BroadPhase, T: Bodies>(
 {
     in_space(bodies);
     if want <= MOST_BY_DESCENT && index.descends() {
-        let found = descend(alloc, index, bodies, at, want as usize)?;
-        out.extend_from_slice(&found)?;
-        return Ok(());
+        return push_by_descent(alloc, index, bodies, at, want as usize, out);
     }
     let want = want as usize;
     let mut found = find_enough(alloc, index, bodies, at, want)?;
     push_front_in_order(&mut found, want, out)?;
+    Ok(())
+}
+
+// The same by one descent, for which an empty list needs no other.
+fn push_by_descent<B: BroadPhase, T: Bodies>(
+    alloc: Global,
+    index: &B,
+    bodies: &T,
+    at: &Point,
+    want: usize,
+    out: &mut Vec<Near>,
+) -> Result<(), NoMemory>
+    requires in_space { AreInSpace (T.bodies bodies.now) }
+    requires among { AreAmong (T.bodies bodies.now) (B.bodies index.now) }
+    ensures ok { OnOk result (out.new.items ≡ out.old.items ++ nearest (T.bodies bodies.now) at.now want) }
+    ensures err { OnErr result (out.new.items ≡ out.old.items) }
+{
+    if out.is_empty() {
+        let room = mem::replace(out, Vec::new(alloc));
+        *out = descend(room, index, bodies, at, want)?;
+    } else {
+        let found = descend(Vec::new(alloc), index, bodies, at, want)?;
+        out.extend_from_slice(&found)?;
+    }
     Ok(())
 }
 

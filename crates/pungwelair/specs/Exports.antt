@@ -7,7 +7,7 @@ use Rattle.live_table.specs.declared.handle.Handle.{Handle}
 use Rattle.live_table.specs.declared.live.Live.{Live}
 use Rattle.live_table.specs.declared.masks.Masks.{Masks}
 use Rattle.live_table.specs.Entries.{live_at}
-use Rattle.box_world.specs.World.{masked, regrouped, marked, forgotten, gone_back}
+use Rattle.box_world.specs.World.{pairs, masked, regrouped, marked, forgotten, gone_back}
 use Rattle.box_world.specs.Answers.{opened, with_world, with_time, after_frame, change_refusal, frame_refusal}
 use Rattle.any_world.specs.declared.any_world.AnyWorld.{AnyWorld}
 use Rattle.any_world.specs.AnyWorld.{state_of, structure_of, counts_of, runs_out}
@@ -17,9 +17,10 @@ use Rattle.held_world.specs.declared.held.HeldWorld.{HeldWorld}
 use Rattle.held_world.specs.declared.plain.PwBox.{PwBox}
 use Rattle.held_world.specs.declared.plain.PwHandle.{PwHandle}
 use Rattle.held_world.specs.declared.plain.PwLive.{PwLive}
+use Rattle.held_world.specs.declared.plain.PwPair.{PwPair}
 use Rattle.held_world.specs.declared.reading.PwCounts.{PwCounts}
 use Rattle.held_world.specs.declared.reading.PwInfo.{PwInfo}
-use Rattle.held_world.specs.Asks.{Asks}
+use Rattle.held_world.specs.Asks.{Asks, AsksPairs}
 use Rattle.held_world.specs.Batches.{IsBatch}
 use Rattle.held_world.specs.Changes.{adds, moves, removes, handles_given}
 use Rattle.held_world.specs.Copies.{copied}
@@ -91,6 +92,11 @@ pub record Removes (handles : List PwHandle) (reply : Reply) (was now : AnyWorld
 -- changed by it.
 pub record Asked (none : ℕ) (hits : List Live → Option (List Handle)) (reply : Reply) (room out : List PwHandle) (was now : AnyWorld) : Type 0 where
   pub answer : Asks none (hits (state_of was).time.now.table.entries) (state_of was).spent reply room out
+  pub kept : IsAsBefore was now
+
+-- What a call says that tells the pairs which the frame would have if it ended now, from number `from` on.
+pub record ListsPairs (from : ℕ) (reply : Reply) (room out : List PwPair) (was now : AnyWorld) : Type 0 where
+  pub answer : AsksPairs (pairs (state_of was).time.now) from (state_of was).spent reply room out
   pub kept : IsAsBefore was now
 
 -- What a call says that copies items from number `from` on.

@@ -34,7 +34,8 @@ pub extern "C" fn pw_hits(
         *count = 0;
         return CLOSED;
     };
-    let reply = held.hits(query, out);
+    let open = &mut *held;
+    let reply = open.room.hits(&open.world, query, out);
     world.put(held);
     *count = reply.count;
     reply.status
@@ -58,7 +59,8 @@ pub extern "C" fn pw_ray_hits(
         *count = 0;
         return CLOSED;
     };
-    let reply = held.entered(ray, out);
+    let open = &mut *held;
+    let reply = open.room.entered(&open.world, ray, out);
     world.put(held);
     *count = reply.count;
     reply.status
@@ -82,7 +84,8 @@ pub extern "C" fn pw_cast_hits(
         *count = 0;
         return CLOSED;
     };
-    let reply = held.cast(cast, out);
+    let open = &mut *held;
+    let reply = open.room.cast(&open.world, cast, out);
     world.put(held);
     *count = reply.count;
     reply.status
@@ -106,7 +109,8 @@ pub extern "C" fn pw_nearest(
         *count = 0;
         return CLOSED;
     };
-    let reply = held.nearest(near, out);
+    let open = &mut *held;
+    let reply = open.room.nearest(&open.world, near, out);
     world.put(held);
     *count = reply.count;
     reply.status

@@ -12,6 +12,7 @@ mod batches;
 mod changes;
 mod floats;
 mod held;
+mod meetings;
 mod opening;
 mod reading;
 mod world;

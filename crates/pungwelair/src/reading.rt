@@ -7,7 +7,7 @@ ghost use Rattle.held_world.specs.declared.TheConstants.{OK, STALE, CLOSED};
 ghost use Rattle.held_world.specs.Plain.{handle_in, live_out, pair_out, told_out};
 ghost use Rattle.held_world.specs.Reading.{changes_of};
 ghost use Rattle.held_world.specs.declared.answers.Reply.{Reply};
-ghost use Rattle.pungwelair.specs.Exports.{Calls, IsClosed, Copies, Puts, Places, IsInfo};
+ghost use Rattle.pungwelair.specs.Exports.{Calls, IsClosed, Copies, ListsPairs, Puts, Places, IsInfo};
 
 use crate::world::PwWorld;
 use held_world::{CLOSED, OK, PwHandle, PwInfo, PwLive, PwPair, PwTold, STALE};
@@ -86,6 +86,29 @@ pub extern "C" fn pw_pairs(
     *copied = held.copy_pairs(from, out);
     world.put(held);
     OK
+}
+
+/// How many pairs the frame would have if it ended now, and those from number `from` on in `out`, as many as there is room for.
+#[unsafe(no_mangle)]
+pub extern "C" fn pw_pairs_now(
+    alloc: Global,
+    world: &mut PwWorld,
+    from: usize,
+    out: &mut [PwPair],
+    count: &mut usize,
+) -> u32
+    ensures { let reply : Reply = record { status = result; count = count.new } in
+        Calls (λ was now. ListsPairs from reply out.old out.new was.world now.world)
+        (IsClosed reply out.old out.new) world.old.held.inner world.new.held.inner }
+{
+    let Some(mut held) = world.take(alloc) else {
+        *count = 0;
+        return CLOSED;
+    };
+    let reply = held.pairs_now(from, out);
+    world.put(held);
+    *count = reply.count;
+    reply.status
 }
 
 /// Copies the events of the last frame from number `from` on, as many as there is room for, and tells how many those are.

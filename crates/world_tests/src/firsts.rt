@@ -6,8 +6,8 @@ use crate::worlds::NOBODYS;
 use any_world::{AnyWorld, Structure};
 use box_cast::Cast;
 use fixed_box::{FBox, Point};
-use live_queries::{Axis, Face, FirstHit};
-use live_table::{Handle, Masks};
+use live_queries::{AskRoom, Axis, Face, FirstHit, cast_meeting, ray_meeting};
+use live_table::{Handle, Live, Masks};
 use ray_slabs::{Ray, WPoint};
 use std::alloc::Global;
 use std::mem;
@@ -778,10 +778,31 @@ fn is_first_of(hit: &Option<FirstHit>, handles: &[Handle]) -> bool {
     }
 }
 
+// The box of a hit, while it lives.
+fn box_of(world: &AnyWorld, hit: &Option<FirstHit>) -> Option<Live> {
+    match hit {
+        Some(hit) => world.get(hit.handle),
+        None => None,
+    }
+}
+
+// Where a ray meets the box of a hit, asked of that box by itself.
+fn entered_alone(world: &AnyWorld, ray: &Ray, hit: &Option<FirstHit>) -> Option<FirstHit> {
+    let live = box_of(world, hit)?;
+    ray_meeting(ray, &live)
+}
+
+// The same of a cast.
+fn touched_alone(world: &AnyWorld, cast: &Cast, hit: &Option<FirstHit>) -> Option<FirstHit> {
+    let live = box_of(world, hit)?;
+    cast_meeting(cast, &live)
+}
+
 // Asks for the first box that a ray and a cast meet, and for all of them.
 fn is_head(
-    world: &mut AnyWorld,
+    world: &AnyWorld,
     random: &mut Random,
+    room: &mut AskRoom,
     handles: &mut Vec<Handle>,
 ) -> Result<bool, Fail> {
     let mask = random.mask();
@@ -790,15 +811,18 @@ fn is_head(
         dir: WPoint::of(&random.way()),
     };
     handles.clear();
-    world.entered(&ray, mask, handles)?;
-    let entered = is_first_of(&world.first_entered(&ray, mask)?, handles);
+    world.entered(&ray, mask, room, handles)?;
+    let first = world.first_entered(&ray, mask)?;
+    let entered = is_first_of(&first, handles) && first == entered_alone(world, &ray, &first);
     let cast = Cast {
         body: random.body(20)?,
         by: random.way(),
     };
     handles.clear();
-    world.cast(&cast, mask, handles)?;
-    Ok(entered && is_first_of(&world.first_cast(&cast, mask)?, handles))
+    world.cast(&cast, mask, room, handles)?;
+    let first = world.first_cast(&cast, mask)?;
+    let touched = is_first_of(&first, handles) && first == touched_alone(world, &cast, &first);
+    Ok(entered && touched)
 }
 
 // Many boxes, of which the first is asked for over and over.
@@ -811,9 +835,10 @@ fn are_heads(alloc: Global, world: &mut AnyWorld) -> Result<bool, Fail> {
         };
         world.add(random.body(60)?, masks, NOBODYS)?;
     }
+    let mut room = AskRoom::new(alloc);
     let mut handles = Vec::new(alloc);
     for _ in 0..WAYS {
-        if !is_head(world, &mut random, &mut handles)? {
+        if !is_head(world, &mut random, &mut room, &mut handles)? {
             return Ok(false);
         }
     }

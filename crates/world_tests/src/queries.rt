@@ -7,7 +7,7 @@ ghost use Rattle.live_table.specs.Table.{IsTable};
 use box_cast::Cast;
 use broad_index::{BroadPhase, PlainIndex, Query};
 use fixed_box::{FBox, Point, SLOTS};
-use live_queries::{NearQuery, push_cast, push_entered, push_hits, push_nearest};
+use live_queries::{MetRoom, NearQuery, push_cast, push_entered, push_hits, push_nearest};
 use live_table::{Group, Handle, LiveTable, Masks};
 use ray_slabs::{Ray, WPoint};
 use std::alloc::Global;
@@ -112,7 +112,7 @@ fn ask(
         Asked::Entered(x) => {
             let ray = ray_from(*x);
             index.hits(&Query::Along(ray), &mut slots)?;
-            push_entered(alloc, table, &ray, mask, &slots, out)?;
+            push_entered(table, &ray, mask, &slots, &mut MetRoom::new(alloc), out)?;
         }
         Asked::Cast { body, by } => {
             let cast = Cast {
@@ -120,7 +120,7 @@ fn ask(
                 by: Point { x: *by, y: 0, z: 0 },
             };
             index.hits(&Query::Swept(cast), &mut slots)?;
-            push_cast(alloc, table, &cast, mask, &slots, out)?;
+            push_cast(table, &cast, mask, &slots, &mut MetRoom::new(alloc), out)?;
         }
         Asked::Nearest { at, want } => {
             let query = NearQuery {
@@ -128,7 +128,7 @@ fn ask(
                 want: (*want).clamp(1, SLOTS),
                 mask,
             };
-            push_nearest(alloc, table, index, &query, out)?;
+            push_nearest(table, index, &query, &mut Vec::new(alloc), out)?;
         }
     }
     Ok(())

@@ -4,8 +4,9 @@ use any_world::{AnyWorld, Structure};
 use box_world::{BoxWorld, Refusal};
 use broad_index::{BroadPhase, NoGate, PlainIndex, Query};
 use fixed_box::{FBox, Point, SLOTS};
+use live_queries::AskRoom;
 use live_table::{Group, Handle, Masks};
-use pair_events::{Event, Events};
+use pair_events::{Event, Events, HPair};
 use std::alloc::Global;
 use std::mem;
 use std::test::Fail;
@@ -180,11 +181,14 @@ fn place(world: &mut AnyWorld) -> Result<Boxes, Fail> {
 }
 
 // The two are a pair, and the third moves to them.
-fn joins(world: &mut AnyWorld, third: Handle) -> Result<bool, Fail> {
+fn joins(alloc: Global, world: &mut AnyWorld, third: Handle) -> Result<bool, Fail> {
+    let before = are_pairs_now(alloc, world, 1, 0)?;
     let began = world.update()?;
+    let ended = are_pairs_now(alloc, world, 1, 1)?;
     world.shift(third, unit(2, 0)?)?;
+    let moved = are_pairs_now(alloc, world, 2, 1)?;
     let joined = world.update()?;
-    Ok(began == 1 && joined == 2)
+    Ok(before && began == 1 && ended && moved && joined == 2)
 }
 
 // A mark, one box sees nobody and another goes, and no pair is left.
@@ -196,10 +200,28 @@ fn parts(world: &mut AnyWorld, boxes: Boxes) -> Result<bool, Fail> {
     Ok(marked && parted == 0)
 }
 
+// Whether the pairs of now are those of the frame that comes, and the last ones stay until then.
+fn are_pairs_now(
+    alloc: Global,
+    world: &mut AnyWorld,
+    now: usize,
+    last: usize,
+) -> Result<bool, Fail> {
+    let mut pairs = Vec::new(alloc);
+    world.current_pairs(&mut pairs)?;
+    Ok(pairs.len() == now && world.pairs().len() == last && are_ordered(&pairs))
+}
+
+// Whether each pair has its lower slot first.
+fn are_ordered(pairs: &[HPair]) -> bool {
+    pairs.iter().all(|pair| pair.a.slot < pair.b.slot)
+}
+
 // Whether the first two boxes are those that meet the place of the first one.
-fn are_found(alloc: Global, world: &mut AnyWorld, boxes: Boxes) -> Result<bool, Fail> {
+fn are_found(alloc: Global, world: &AnyWorld, boxes: Boxes) -> Result<bool, Fail> {
     let mut met = Vec::new(alloc);
-    world.hits(&Query::Region(unit(0, 0)?), 1, &mut met)?;
+    let mut room = AskRoom::new(alloc);
+    world.hits(&Query::Region(unit(0, 0)?), 1, &mut room, &mut met)?;
     Ok(met.len() == 2 && met[0] == boxes.first && met[1] == boxes.second)
 }
 
@@ -209,7 +231,7 @@ fn plays_a_scene(alloc: Global, world: &mut AnyWorld, structure: Structure) -> R
     let boxes = place(world)?;
     let exchanges = if structure == Structure::Sap { 3 } else { 0 };
     let counted = world.exchanges() == exchanges;
-    let changed = joins(world, boxes.third)? && parts(world, boxes)? && world.back()?;
+    let changed = joins(alloc, world, boxes.third)? && parts(world, boxes)? && world.back()?;
     let found = are_found(alloc, world, boxes)?;
     Ok(counted && changed && found && is_as_marked(world) && world.structure() == structure)
 }

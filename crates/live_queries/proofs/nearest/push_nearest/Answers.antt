@@ -18,7 +18,7 @@ returns-clause-ok g c =
     let query = c.args.query.now in
     let bodies = bodies_of (asked_for c.args.table.now.entries query.mask) in
     let told : c.deref.result.now ≡ nearest bodies query.at query.want =
-    c.deref.ensures.value ∙ c.in_ok-nearest.ensures.ok ∙ ap (λ ns. ns ++ nearest bodies query.at query.want) c.new-nears.ensures.items in
+    c.deref.ensures.value ∙ c.in_ok-nearest.ensures.ok ∙ ap (λ ns. ns ++ nearest bodies query.at query.want) c.clear.ensures.items in
     on_ok_weaker c.push_handles.result (λ is. is
     ∙ ap (λ hs. c.args.out.now.items ++ hs) (nearest_handles c.args.table.now query.at query.want query.mask c.deref.result.now c.requires.table told))
     c.push_handles.ensures.ok

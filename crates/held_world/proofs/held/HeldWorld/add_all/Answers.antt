@@ -47,7 +47,7 @@ adds-preserved c =
           c.adds.invariant.handles (given_next counted masks group rest more next now new first step)
           (c.handle_out.ensures.out ∙ ap handle_out c.in-Ok.ensures.handle) fits;
       structure = c.in-Ok.ensures.structure ∙ same;
-      found = c.in-Ok.ensures.found ∙ c.adds.invariant.found;
+      room = c.in-Ok.ensures.room ∙ c.adds.invariant.room;
     }
 
 pub returns-in-Err-clause-added : goal.returns-in-Err-clause-added

@@ -14,7 +14,7 @@ invariant-adds l = record {
       IsCopying handle_out (handles_given counts l.masks l.group (state_of l.fn.self.world).time.now l.boxes)
       (handles_given counts l.masks l.group (state_of l.self.world).time.now l.rest) l.count l.fn.out l.out;
   structure : structure_of l.self.world ≡ structure_of l.fn.self.world;
-  found : l.self.found ≡ l.fn.self.found;
+  room : l.self.room ≡ l.fn.self.room;
 }
 
 abbrev pub decreases-adds : goal.decreases-adds

@@ -55,7 +55,7 @@ moves-preserved c =
           (state_of c.shift.new.self.world) c.moves.invariant.structure first some c.moves.invariant.batch c.in-Ok.ensures.step;
       left = omega (arith, longer, c.moves.invariant.left);
       structure = c.in-Ok.ensures.structure ∙ c.moves.invariant.structure;
-      found = c.in-Ok.ensures.found ∙ c.moves.invariant.found;
+      room = c.in-Ok.ensures.room ∙ c.moves.invariant.room;
     }
 
 pub returns-in-Err-clause-moved : goal.returns-in-Err-clause-moved

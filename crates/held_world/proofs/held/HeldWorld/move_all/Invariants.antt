@@ -11,7 +11,7 @@ invariant-moves l = record {
       (state_of l.fn.self.world) (state_of l.self.world);
   left : l.count + length l.rest ≡ length l.handles;
   structure : structure_of l.self.world ≡ structure_of l.fn.self.world;
-  found : l.self.found ≡ l.fn.self.found;
+  room : l.self.room ≡ l.fn.self.room;
 }
 
 abbrev pub decreases-moves : goal.decreases-moves

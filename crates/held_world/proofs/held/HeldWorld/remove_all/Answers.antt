@@ -14,7 +14,7 @@ removes-preserved c =
           c.in-Ok.ensures.step;
       spent = c.in-Ok.ensures.spent ∙ c.removes.invariant.spent;
       structure = c.in-Ok.ensures.structure ∙ c.removes.invariant.structure;
-      found = c.in-Ok.ensures.found ∙ c.removes.invariant.found;
+      room = c.in-Ok.ensures.room ∙ c.removes.invariant.room;
     }
 
 pub returns-in-Err-clause-unmarked : goal.returns-in-Err-clause-unmarked

@@ -10,7 +10,7 @@ invariant-removes l = record {
   batch : IsUnderWay removes l.handles l.rest l.count (state_of l.fn.self.world) (state_of l.self.world);
   spent : (state_of l.self.world).spent ≡ (state_of l.fn.self.world).spent;
   structure : structure_of l.self.world ≡ structure_of l.fn.self.world;
-  found : l.self.found ≡ l.fn.self.found;
+  room : l.self.room ≡ l.fn.self.room;
 }
 
 abbrev pub decreases-removes : goal.decreases-removes

@@ -7,11 +7,11 @@ use Rattle.any_world.specs.AnyWorld.{state_of}
 use Rattle.held_world.specs.declared.TheConstants.{ARGUMENT}
 use Rattle.held_world.specs.Asks.{Asks}
 use Rattle.held_world.proofs.Asked.{answered}
-use Rattle.held_world.proofs.held.HeldWorld.nearest.Goals as goal
+use Rattle.held_world.proofs.room.HeldRoom.nearest.Goals as goal
 
-pub returns-clause-asks : goal.returns-clause-asks
-returns-clause-asks c =
-    let old = state_of c.args.self.now.world in let entries = old.time.now.table.entries in let asked = c.near_of.result in
+pub returns : goal.returns
+returns c =
+    let old = state_of c.args.world.now in let entries = old.time.now.table.entries in let asked = c.near_of.result in
     subst (λ (near : NearQuery). Asks ARGUMENT (Some (nearest_to entries near.at (min near.want SLOTS) near.mask)) old.spent c.answered.result
     c.args.out.now c.answered.new.out) c.near_of.ensures
     (answered c.nearest-answer.result old.spent (nearest_to entries asked.at (min asked.want SLOTS) asked.mask) c.clear.new.self.items

@@ -6,11 +6,11 @@ use Rattle.any_world.specs.AnyWorld.{state_of}
 use Rattle.held_world.specs.declared.TheConstants.{ARGUMENT}
 use Rattle.held_world.specs.Asks.{Asks}
 use Rattle.held_world.proofs.Asked.{answered}
-use Rattle.held_world.proofs.held.HeldWorld.entered.Goals as goal
+use Rattle.held_world.proofs.room.HeldRoom.entered.Goals as goal
 
-pub returns-clause-asks : goal.returns-clause-asks
-returns-clause-asks c =
-    let old = state_of c.args.self.now.world in let entries = old.time.now.table.entries in let mask = c.args.ray.now.mask in
+pub returns : goal.returns
+returns c =
+    let old = state_of c.args.world.now in let entries = old.time.now.table.entries in let mask = c.args.ray.now.mask in
     subst (λ (ray : Ray). Asks ARGUMENT (Some (entered_of entries ray mask)) old.spent c.answered.result c.args.out.now c.answered.new.out)
     c.ray_of.ensures
     (answered c.entered-answer.result old.spent (entered_of entries c.ray_of.result mask) c.clear.new.self.items c.entered-answer.new.out.items
