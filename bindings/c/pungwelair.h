@@ -73,9 +73,10 @@ enum {
     PW_NO_MEMORY = 3,     /* malloc gave no memory, and the step that ran out wasn't done: of a batch the steps before it were.
                              After pw_add, pw_move or pw_back a world over PW_PLAIN or PW_SAP may be spent, which pw_info tells;
                              one over PW_TREE, PW_GRID or PW_SKIN never is. A spent world keeps what it had: pw_get, pw_at,
-                             pw_pairs, pw_events, pw_changes and pw_info tell its boxes, pairs, events, frames and marks. Each
-                             call that would change it or ask it gives PW_NO_MEMORY. Close it, open another one and add its
-                             boxes there. After any other call all is as before: ask again. */
+                             pw_pairs, pw_events, pw_changes and pw_info tell its boxes, pairs, events, frames and marks, and
+                             pw_ray_meets, pw_cast_meets and pw_square_to answer about its boxes. Each other call that would
+                             change it or ask it gives PW_NO_MEMORY. Close it, open another one and add its boxes there. After
+                             any other call all is as before: ask again. */
     PW_INVERTED = 4,      /* not a box: lo > hi on some axis */
     PW_CLOSED = 5,        /* the world isn't open */
     PW_ARGUMENT = 6,      /* no such structure, no such kind of question, a region whose lo > hi, lengths that don't agree, or
@@ -98,11 +99,13 @@ enum {
  *     pw_hits                              PW_ARGUMENT, PW_NO_MEMORY
  *     pw_cast_hits, pw_cast_first          PW_INVERTED, PW_NO_MEMORY
  *     pw_ray_hits, pw_ray_first            PW_NO_MEMORY
- *     pw_nearest                           PW_NO_MEMORY
+ *     pw_nearest, pw_pairs_now             PW_NO_MEMORY
  *     pw_mark                              PW_FULL, PW_NO_MEMORY (1)
  *     pw_forget                            PW_NO_MARK, PW_NO_MEMORY (1)
  *     pw_back                              PW_NO_MARK, PW_NO_MEMORY
  *     pw_get, pw_at                        PW_STALE
+ *     pw_ray_meets, pw_square_to           PW_STALE
+ *     pw_cast_meets                        PW_INVERTED, PW_STALE
  *     pw_pairs, pw_events, pw_changes      nothing else
  *     pw_info, pw_close                    nothing else
  *     pw_fix_below_32 and the like         PW_NOT_A_NUMBER, PW_OUT_OF_RANGE
@@ -232,7 +235,7 @@ typedef struct pw_near {
     pw_point at;
 } pw_near;
 
-/* The box that a ray or a moved box meets first. It is met at the place `num / den` of the way, exactly: at 0 where the way begins, and
+/* Where a ray or a moved box meets a box. It is met at the place `num / den` of the way, exactly: at 0 where the way begins, and
  * at 1 where it ends, which a ray goes on past. `num` is at least 0 and `den` at least 1. `axis` is 0, 1 or 2 and `side` PW_LOWER or
  * PW_UPPER: the box is entered there by its side that the way comes from. If it comes to several sides at one place it is the one of
  * the lowest axis. A way that begins on a side and goes in there has that side. If it begins in the box and comes in by no side, `axis`
@@ -242,6 +245,11 @@ typedef struct pw_hit {
     int64_t num, den;
     uint32_t axis, side;
 } pw_hit;
+
+/* The square of a distance, in raw units squared: high * 2^64 + low, exactly. */
+typedef struct pw_square {
+    uint64_t low, high;
+} pw_square;
 
 /* What a world is. `exchanges` are those of the endpoint lists since the last frame if it is over PW_SAP, and else 0. */
 typedef struct pw_world_info {
@@ -308,6 +316,12 @@ pw_status pw_update(pw_world *world, pw_counts *counts);
  * of a pair may be stale by now. */
 pw_status pw_pairs(pw_world *world, size_t from, pw_pair *out, size_t out_len, size_t *copied);
 
+/* Tells how many pairs the frame would have if it ended now, and copies those from number `from` on, in the order of pw_pairs, as many
+ * as there is room for. `count` is that of all the pairs, whatever `from` and the room are. The frame goes on and the world is as
+ * before: pw_pairs, pw_events and pw_changes tell what they told. Each call searches as pw_update does, so give it room for all; if
+ * nothing was told since the last update it copies the pairs of that one. PW_NO_MEMORY: `out` is as before. */
+pw_status pw_pairs_now(pw_world *world, size_t from, pw_pair *out, size_t out_len, size_t *count);
+
 /* Copies what the last update told, from number `from` on: each of its pairs in order, PW_BEGIN or PW_STAY, and then in order those
  * that are over, PW_OVER. It copies as many as there is room for, and tells how many those are. After pw_back they stay what the
  * last update told. Events are made while they are copied, with a step for each before `from` too: read all by one call, or call
@@ -324,17 +338,17 @@ pw_status pw_changes(pw_world *world, size_t from, pw_told *out, size_t out_len,
 pw_status pw_hits(pw_world *world, const pw_query *query, pw_handle *out, size_t out_len, size_t *count);
 
 /* The same for the boxes that a ray meets, in the order in which it first meets them; those that it meets at one place come by
- * their slots. The order is exact: no rounding. Of the direction only its way counts, not its length. How far off the first
- * box is met pw_ray_first tells; for the others docs/LIBRARY.md has the formula, from the box that pw_get tells. PW_NO_MEMORY. */
+ * their slots. The order is exact: no rounding. Of the direction only its way counts, not its length. How far off each of them
+ * is met, and by which side, pw_ray_meets tells. PW_NO_MEMORY. */
 pw_status pw_ray_hits(pw_world *world, const pw_ray *ray, pw_handle *out, size_t out_len, size_t *count);
 
 /* The same for the boxes that a moved box meets on its way, in the order in which it first meets them, and then by their slots.
- * Those that it touches before it moves come first, as the floor that it stands on. PW_INVERTED: not a box, lo > hi on some axis.
- * PW_NO_MEMORY. */
+ * Those that it touches before it moves come first, as the floor that it stands on. Where each of them is met, and by which side,
+ * pw_cast_meets tells. PW_INVERTED: not a box, lo > hi on some axis. PW_NO_MEMORY. */
 pw_status pw_cast_hits(pw_world *world, const pw_cast *cast, pw_handle *out, size_t out_len, size_t *count);
 
 /* The nearest live boxes to a place, at most `want` and at most PW_SLOTS, in rising order of the square of their distance (0 for a
- * box that holds it) and then of their slots. PW_NO_MEMORY. */
+ * box that holds it) and then of their slots. The square pw_square_to tells. PW_NO_MEMORY. */
 pw_status pw_nearest(pw_world *world, const pw_near *near_to, pw_handle *out, size_t out_len, size_t *count);
 
 /* Tells whether a ray meets a box (`count` is 1, or 0 and `out` is as before), and which it meets first, as pw_ray_hits would: where, and
@@ -343,6 +357,18 @@ pw_status pw_ray_first(pw_world *world, const pw_ray *ray, pw_hit *out, size_t *
 
 /* The same for the box that a moved box meets first, as pw_cast_hits would. PW_INVERTED, PW_NO_MEMORY. */
 pw_status pw_cast_first(pw_world *world, const pw_cast *cast, pw_hit *out, size_t *count);
+
+/* Tells whether a ray meets one live box, whatever groups the ray asks for (`count` is 1, or 0 and `out` is as before), and where and
+ * by which side, as pw_ray_first tells of the first. It looks at no other box. PW_STALE: no live box has the handle, the count is 0
+ * and `out` is as before. It takes no memory; it also answers in a spent world. */
+pw_status pw_ray_meets(pw_world *world, const pw_ray *ray, pw_handle handle, pw_hit *out, size_t *count);
+
+/* The same for a moved box. PW_INVERTED, which is asked first, PW_STALE. */
+pw_status pw_cast_meets(pw_world *world, const pw_cast *cast, pw_handle handle, pw_hit *out, size_t *count);
+
+/* The square of the distance of a place from a live box: 0 if the box holds it. PW_STALE, and `out` is as it was. It takes no memory; it
+ * also answers in a spent world. */
+pw_status pw_square_to(pw_world *world, const pw_point *at, pw_handle handle, pw_square *out);
 
 /* Marks the world as it stands, for rollback. It takes no memory, so that PW_NO_MEMORY comes only of a spent world. PW_FULL:
  * PW_MOST_MARKS are held. */
@@ -463,6 +489,11 @@ static inline pw_status pw_first_hit(pw_world *world, const pw_ray *ray, pw_hand
 /* The place of a hit on the way, as the double that is nearest to its fraction: `from + pw_fraction(&hit) * direction` is where a ray
  * comes to the box, up to rounding. */
 static inline double pw_fraction(const pw_hit *hit) { return (double)hit->num / (double)hit->den; }
+
+/* The square of a distance in units squared, up to rounding: its root is the distance in units. */
+static inline double pw_squared(const pw_square *square) {
+    return (double)square->high * 4294967296.0 + (double)square->low / 4294967296.0;
+}
 
 #ifdef __cplusplus
 }
