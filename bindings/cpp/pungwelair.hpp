@@ -232,7 +232,7 @@ struct Placed {
     pw_live live;
 };
 
-// The box that a ray or a moved box meets first, as pw_hit has it.
+// Where a ray or a moved box meets a box, as pw_hit has it.
 struct Hit : pw_hit {
     // How much of the way leads there: 0 where it begins, and 1 where it ends, which a ray goes on past.
     [[nodiscard]] double place() const noexcept { return pw_fraction(this); }
@@ -339,6 +339,13 @@ public:
         copied.status = Status(pw_pairs(&world, from, out.data(), out.size(), &copied.count));
         return copied;
     }
+    // The pairs that the frame would have if it ended now. It tells how many there are, whatever `from` is, which may be more than there
+    // was room for.
+    Count pairs_now(std::size_t from, Span<pw_pair> out) noexcept {
+        Count found{};
+        found.status = Status(pw_pairs_now(&world, from, out.data(), out.size(), &found.count));
+        return found;
+    }
     Count events(std::size_t from, Span<pw_told> out) noexcept {
         Count copied{};
         copied.status = Status(pw_events(&world, from, out.data(), out.size(), &copied.count));
@@ -388,6 +395,29 @@ public:
     // The same, and no value also if the call is refused.
     [[nodiscard]] std::optional<Hit> ray_first(const pw_ray& ray) noexcept { return *try_ray_first(ray); }
     [[nodiscard]] std::optional<Hit> cast_first(const pw_cast& cast) noexcept { return *try_cast_first(cast); }
+    // Where a ray, and a moved box, meets one live box, whatever groups it asks for: no value in the result if it doesn't meet it.
+    Result<std::optional<Hit>> try_ray_meets(const pw_ray& ray, pw_handle handle) noexcept {
+        Hit hit{};
+        std::size_t count;
+        pw_status status = pw_ray_meets(&world, &ray, handle, &hit, &count);
+        return result_of(status, count > 0 ? std::optional(hit) : std::nullopt);
+    }
+    Result<std::optional<Hit>> try_cast_meets(const pw_cast& cast, pw_handle handle) noexcept {
+        Hit hit{};
+        std::size_t count;
+        pw_status status = pw_cast_meets(&world, &cast, handle, &hit, &count);
+        return result_of(status, count > 0 ? std::optional(hit) : std::nullopt);
+    }
+    // The same, and no value also if the call is refused.
+    [[nodiscard]] std::optional<Hit> ray_meets(const pw_ray& ray, pw_handle handle) noexcept { return *try_ray_meets(ray, handle); }
+    [[nodiscard]] std::optional<Hit> cast_meets(const pw_cast& cast, pw_handle handle) noexcept { return *try_cast_meets(cast, handle); }
+    // The square of the distance of a place from a live box, exactly; pw_squared makes a double of it.
+    Result<pw_square> try_square_to(const pw_point& at, pw_handle handle) noexcept {
+        pw_square square{};
+        pw_status status = pw_square_to(&world, &at, handle, &square);
+        return result_of(status, square);
+    }
+    [[nodiscard]] std::optional<pw_square> square_to(const pw_point& at, pw_handle handle) noexcept { return try_square_to(at, handle); }
     // The box that a ray meets first, and no value if it meets no box.
     Result<std::optional<pw_handle>> try_first_hit(const pw_ray& ray) noexcept {
         pw_handle first{};

@@ -92,6 +92,50 @@ void first_hits(Structure structure) {
     EXPECT(World().try_ray_first({1, origin, origin}).error() == Status::closed && !World().ray_first({1, origin, origin}));
 }
 
+// Where a way meets a box that isn't the first, or is in no group that is asked for; how far off it is; and why there is no answer.
+void meetings(Structure structure) {
+    World world(structure);
+    auto far = world.add(cube(50)), near = world.add(cube(0));
+    const pw_ray ray{2, {100, 5, 5}, {-80, 0, 0}};
+    const pw_cast cast{0, cube(-20), {60, 0, 0}}, wrong{1, inverted, origin};
+    EXPECT(far && near);
+    auto hit = world.ray_meets(ray, *near), moved = world.cast_meets(cast, *far);
+    EXPECT(hit && hit->handle == *near && hit->num * 8 == hit->den * 9 && hit->place() == 1.125);
+    EXPECT(hit && (*hit->normal() == std::array<int, 3>{1, 0, 0}));
+    EXPECT(moved && moved->handle == *far && moved->place() == 1 && (*moved->normal() == std::array<int, 3>{-1, 0, 0}));
+    EXPECT(world.ray_meets({1, {5, 5, 5}, origin}, *near)->place() == 0 && !world.ray_meets({1, {5, 5, 5}, origin}, *near)->face());
+    const pw_cast shorter{1, cube(-20), {59, 0, 0}};
+    auto missed = world.try_ray_meets({1, {100, 5, 5}, {80, 0, 0}}, *near), ends_short = world.try_cast_meets(shorter, *far);
+    EXPECT(missed && !*missed && ends_short && !*ends_short && !world.cast_meets(shorter, *far));
+    EXPECT(world.try_ray_meets(ray, pungwelair::no_handle).error() == Status::stale && !world.ray_meets(ray, pungwelair::no_handle));
+    EXPECT(world.try_cast_meets(cast, pungwelair::no_handle).error() == Status::stale);
+    EXPECT(world.try_cast_meets(wrong, pungwelair::no_handle).error() == Status::inverted && !world.cast_meets(wrong, *near));
+    EXPECT(World().try_ray_meets(ray, *near).error() == Status::closed && World().try_cast_meets(cast, *near).error() == Status::closed);
+
+    auto square = world.square_to({13, 14, 10}, *near), within = world.square_to({55, 5, 5}, *far);
+    EXPECT(square && square->low == 25 && square->high == 0 && within && within->low == 0 && within->high == 0);
+    auto unit = world.square_to({55, 5, 65546}, *far);
+    EXPECT(unit && unit->low == uint64_t(1) << 32 && pw_squared(&*unit) == 1);
+    EXPECT(world.move(*near, {{INT32_MAX, INT32_MAX, 0}, {INT32_MAX, INT32_MAX, 0}}) == Status::ok);
+    auto farthest = world.try_square_to({INT32_MIN, INT32_MIN, 0}, *near);
+    // Twice (2^32 - 1)^2.
+    EXPECT(farthest && farthest->high == 1 && farthest->low == 0xfffffffc00000002u && pw_squared(&*farthest) == 8589934588);
+    EXPECT(world.try_square_to(origin, pungwelair::no_handle).error() == Status::stale && !World().square_to(origin, *near));
+}
+
+// The pairs of now, of which there may be more than there is room for, beside those of the last frame.
+void pairs_within_a_frame(Structure structure) {
+    World world(structure);
+    std::array<pw_handle, 3> handles;
+    std::array<pw_pair, 4> pairs{};
+    EXPECT(world.add({cube(0), cube(5), cube(30)}, pungwelair::seen_by_all, handles) && world.update().pairs == 1);
+    EXPECT(world.pairs_now(0, pairs).count == 1 && (pairs[0] == pw_pair{handles[0], handles[1]}));
+    EXPECT(world.move(handles[2], cube(8)) == Status::ok);
+    EXPECT(world.pairs_now(1, {pairs.data(), 1}).count == 3 && (pairs[0] == pw_pair{handles[0], handles[2]}));
+    EXPECT(world.pairs_now(0, {nullptr, 0}).count == 3 && world.pairs(0, pairs).count == 1 && world.info()->frames == 1);
+    EXPECT(world.update().changes == 2 && World().pairs_now(0, pairs).status == Status::closed && World().pairs_now(0, pairs).count == 0);
+}
+
 void marks_and_refusals() {
     World world(Structure::grid);
     auto kept = world.add(cube(0));
@@ -275,6 +319,8 @@ static_assert(noexcept(World().add(inverted)) && noexcept(World().try_add(invert
 static_assert(noexcept(World().add(std::declval<std::vector<pw_box>&>(), {}, std::declval<std::vector<pw_handle>&>())));
 static_assert(noexcept(World().move(std::declval<std::vector<pw_handle>&>(), std::declval<std::vector<pw_box>&>())));
 static_assert(noexcept(World().ray_first({})) && noexcept(World().try_cast_first({})) && noexcept(pungwelair::Hit{}.normal()));
+static_assert(noexcept(World().ray_meets({}, {})) && noexcept(World().try_cast_meets({}, {})) && noexcept(World().square_to({}, {})));
+static_assert(noexcept(World().pairs_now(0, std::declval<std::vector<pw_pair>&>())));
 static_assert(noexcept(World().mask({}, {})) && noexcept(World().regroup({}, {})));
 static_assert(noexcept(World().remove(pw_handle{})) && noexcept(World().remove({pw_handle{}, pw_handle{}})));
 static_assert(noexcept(World().get({})) && noexcept(World().try_get({})) && noexcept(World().info()) && noexcept(World().try_info()));
@@ -356,6 +402,8 @@ int main() {
         changes_and_frames(structure);
         questions(structure);
         first_hits(structure);
+        meetings(structure);
+        pairs_within_a_frame(structure);
     }
     marks_and_refusals();
     forgotten_marks();
