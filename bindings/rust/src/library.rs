@@ -3,7 +3,7 @@
 //! A reference or a slice's pointer leads to what it says, aligned and not null: that of an empty slice too, which is all that the
 //! header asks of a pointer before a length of 0. What `&mut` leads to overlaps nothing else in the same call.
 
-use crate::values::{Body, Cast, Frame, Group, Handle, Hit, How, Info, Live, Masks, Near, Pair, RawQuery, Ray, Told};
+use crate::values::{Body, Cast, Frame, Group, Handle, Hit, How, Info, Live, Masks, Near, Pair, Point, RawQuery, Ray, Square, Told};
 use std::ffi::c_void;
 
 /// A world as the library has it. Zero is a closed one.
@@ -38,6 +38,7 @@ extern "C" {
     pub fn pw_at(world: &mut Held, slot: u32, handle: &mut Handle, out: &mut Live) -> u32;
     pub fn pw_update(world: &mut Held, counts: &mut Frame) -> u32;
     pub fn pw_pairs(world: &mut Held, from: usize, out: *mut Pair, out_len: usize, copied: &mut usize) -> u32;
+    pub fn pw_pairs_now(world: &mut Held, from: usize, out: *mut Pair, out_len: usize, count: &mut usize) -> u32;
     pub fn pw_events(world: &mut Held, from: usize, out: *mut Told, out_len: usize, copied: &mut usize) -> u32;
     pub fn pw_changes(world: &mut Held, from: usize, out: *mut Told, out_len: usize, copied: &mut usize) -> u32;
     pub fn pw_hits(world: &mut Held, query: &RawQuery, out: *mut Handle, out_len: usize, count: &mut usize) -> u32;
@@ -45,6 +46,9 @@ extern "C" {
     pub fn pw_cast_hits(world: &mut Held, cast: &Cast, out: *mut Handle, out_len: usize, count: &mut usize) -> u32;
     pub fn pw_ray_first(world: &mut Held, ray: &Ray, out: &mut Hit, count: &mut usize) -> u32;
     pub fn pw_cast_first(world: &mut Held, cast: &Cast, out: &mut Hit, count: &mut usize) -> u32;
+    pub fn pw_ray_meets(world: &mut Held, ray: &Ray, handle: Handle, out: &mut Hit, count: &mut usize) -> u32;
+    pub fn pw_cast_meets(world: &mut Held, cast: &Cast, handle: Handle, out: &mut Hit, count: &mut usize) -> u32;
+    pub fn pw_square_to(world: &mut Held, at: &Point, handle: Handle, out: &mut Square) -> u32;
     pub fn pw_nearest(world: &mut Held, near_to: &Near, out: *mut Handle, out_len: usize, count: &mut usize) -> u32;
     pub fn pw_mark(world: &mut Held) -> u32;
     pub fn pw_forget(world: &mut Held, count: u32) -> u32;

@@ -413,7 +413,7 @@ pub enum Side {
     Upper,
 }
 
-/// The box that a ray or a moved box meets first. It is met at the place `num / den` of the way, exactly: at 0 where the way begins, and
+/// Where a ray or a moved box meets a box. It is met at the place `num / den` of the way, exactly: at 0 where the way begins, and
 /// at 1 where it ends, which a ray goes on past.
 #[repr(C)]
 #[derive(Clone, Copy, Debug, PartialEq, Eq, Hash)]
@@ -450,6 +450,14 @@ impl Hit {
             out
         })
     }
+}
+
+/// The square of a distance as the library has it: `high` times 2^64, and `low`.
+#[repr(C)]
+#[derive(Default)]
+pub struct Square {
+    pub low: u64,
+    pub high: u64,
 }
 
 /// What a world is. `exchanges` are those of the endpoint lists since the last frame if it is sweep and prune, and else 0.
@@ -492,6 +500,7 @@ const _: () = {
     use std::mem::size_of;
     assert!(size_of::<Body>() == 24 && size_of::<How>() == 16 && size_of::<Live>() == 40 && size_of::<Told>() == 20);
     assert!(size_of::<RawQuery>() == 32 && size_of::<Ray>() == 28 && size_of::<Cast>() == 40 && size_of::<Near>() == 20);
+    assert!(size_of::<Square>() == 16);
     assert!(size_of::<Hit>() == 32 && size_of::<Info>() == 32 && size_of::<Frame>() == 24 && size_of::<library::Held>() == 16);
 };
 

@@ -2,7 +2,8 @@
 
 use crate::library::{self, Held};
 use crate::values::{
-    told, Body, Cast, Error, Frame, Group, Handle, Hit, How, Info, Live, Masks, Near, Pair, Query, Ray, Stopped, Structure, Told,
+    told, Body, Cast, Error, Frame, Group, Handle, Hit, How, Info, Live, Masks, Near, Pair, Point, Query, Ray, Square, Stopped, Structure,
+    Told,
 };
 use crate::SLOTS;
 
@@ -168,6 +169,32 @@ impl World {
         listed(self.counts.pairs, |from, out| self.pairs(from, out))
     }
 
+    /// Tells how many pairs the frame would have if it ended now, and copies those from number `from` on, in order, as many as there is
+    /// room for. The frame goes on, and what the last one told stays. It searches as [`World::update`] does. `NoMemory`.
+    pub fn pairs_now(&mut self, from: usize, out: &mut [Pair]) -> Result<usize, Error> {
+        let mut count = 0;
+        // SAFETY: the words are those that the last call left; the pointer leads to as many items as the length says.
+        let status = unsafe { library::pw_pairs_now(&mut self.held, from, out.as_mut_ptr(), out.len(), &mut count) };
+        counted(status, count)
+    }
+
+    /// All pairs that the frame would have if it ended now, in a list of their own. `NoMemory` also if there is no memory for it.
+    pub fn all_pairs_now(&mut self) -> Result<Vec<Pair>, Error> {
+        let mut all = Vec::new();
+        // They are mostly few more than those of the last frame, so one search mostly tells them all.
+        let mut room = self.counts.pairs + self.counts.pairs / 8 + 8;
+        loop {
+            all.try_reserve_exact(room - all.len()).map_err(|_| Error::NoMemory)?;
+            all.resize(room, Pair::default());
+            let count = self.pairs_now(0, &mut all)?;
+            if count <= room {
+                all.truncate(count);
+                return Ok(all);
+            }
+            room = count;
+        }
+    }
+
     /// Copies what the last update told from number `from` on: its pairs, and then those that are over. It takes a step for each event
     /// before `from` too.
     pub fn events(&mut self, from: usize, out: &mut [Told]) -> Result<usize, Error> {
@@ -260,6 +287,31 @@ impl World {
         // SAFETY: the words are those that the last call left; `hit` and `count` are values of their own.
         let status = unsafe { library::pw_cast_first(&mut self.held, &cast, &mut hit, &mut count) };
         Ok((counted(status, count)? > 0).then_some(hit))
+    }
+
+    /// Where a ray meets one live box, whatever groups it asks for: `None` if it doesn't meet it. It looks at no other box. `Stale`.
+    pub fn ray_meets(&mut self, ray: Ray, handle: Handle) -> Result<Option<Hit>, Error> {
+        let (mut hit, mut count) = (Hit::NONE, 0);
+        // SAFETY: the words are those that the last call left; `hit` and `count` are values of their own.
+        let status = unsafe { library::pw_ray_meets(&mut self.held, &ray, handle, &mut hit, &mut count) };
+        Ok((counted(status, count)? > 0).then_some(hit))
+    }
+
+    /// The same for a moved box. `Inverted` if its corners are, which is asked first, and `Stale`.
+    pub fn cast_meets(&mut self, cast: Cast, handle: Handle) -> Result<Option<Hit>, Error> {
+        let (mut hit, mut count) = (Hit::NONE, 0);
+        // SAFETY: the words are those that the last call left; `hit` and `count` are values of their own.
+        let status = unsafe { library::pw_cast_meets(&mut self.held, &cast, handle, &mut hit, &mut count) };
+        Ok((counted(status, count)? > 0).then_some(hit))
+    }
+
+    /// The square of the distance of a place from a live box, in raw units squared, exactly: 0 if the box holds it. `Stale`. Its root,
+    /// over 65,536, is the distance in units.
+    pub fn square_to(&mut self, at: Point, handle: Handle) -> Result<u128, Error> {
+        let mut out = Square::default();
+        // SAFETY: the words are those that the last call left; `out` is a value of its own.
+        told(unsafe { library::pw_square_to(&mut self.held, &at, handle, &mut out) })?;
+        Ok(u128::from(out.high) << 64 | u128::from(out.low))
     }
 
     /// The nearest boxes to a place, the nearest one first: tells how many they are, and copies the first of their handles.

@@ -43,6 +43,7 @@ fn lists_without_memory() {
     let cast = Cast { mask: 1, body: Body::default(), by: at };
     let near = Near { mask: 1, want: 2, at };
     assert_eq!(refused(|| world.all_pairs()), Err(Error::NoMemory));
+    assert_eq!(refused(|| world.all_pairs_now()), Err(Error::NoMemory));
     assert_eq!(refused(|| world.all_events()), Err(Error::NoMemory));
     assert_eq!(refused(|| world.all_changes()), Err(Error::NoMemory));
     assert_eq!(refused(|| world.all_hits(Query::Point(at), 1)), Err(Error::NoMemory));

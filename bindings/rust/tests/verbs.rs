@@ -198,6 +198,56 @@ fn first_hits_have_places() {
     }
 }
 
+// Where a way meets a box that isn't the first, or is in no group that is asked for, and how far off it is.
+#[test]
+fn meetings() {
+    for structure in STRUCTURES {
+        let mut world = World::new(structure).unwrap();
+        let far = world.add(cube(50), How::default()).unwrap();
+        let near = world.add(cube(0), How::default()).unwrap();
+        let ray = Ray { mask: 2, from: Point::new(100, 5, 5), direction: Point::new(-80, 0, 0) };
+        let cast = Cast { mask: 0, body: cube(-20), by: Point::new(60, 0, 0) };
+        let hit = world.ray_meets(ray, near).unwrap().unwrap();
+        assert_eq!((hit.handle, hit.place(), hit.num * 8, hit.normal()), (near, 1.125, hit.den * 9, Some([1, 0, 0])));
+        let moved = world.cast_meets(cast, far).unwrap().unwrap();
+        assert_eq!((moved.handle, moved.num, moved.face()), (far, moved.den, Some((0, Side::Lower))));
+        let within = world.ray_meets(Ray { from: Point::new(5, 5, 5), direction: ORIGIN, ..ray }, near).unwrap().unwrap();
+        assert_eq!((within.handle, within.place(), within.face()), (near, 0.0, None));
+        assert_eq!(world.ray_meets(Ray { direction: Point::new(80, 0, 0), ..ray }, near), Ok(None));
+        assert_eq!(world.cast_meets(Cast { by: Point::new(59, 0, 0), ..cast }, far), Ok(None));
+        assert_eq!((world.ray_meets(ray, Handle::NONE), world.cast_meets(cast, Handle::NONE)), (Err(Error::Stale), Err(Error::Stale)));
+        assert_eq!(world.cast_meets(Cast { body: inverted(), ..cast }, Handle::NONE), Err(Error::Inverted));
+
+        assert_eq!((world.square_to(Point::new(13, 14, 10), near), world.square_to(Point::new(55, 5, 5), far)), (Ok(25), Ok(0)));
+        let corner = Point::new(i32::MAX, i32::MAX, 0);
+        world.shift(near, Body::new(corner, corner)).unwrap();
+        let side = u128::from(u32::MAX);
+        assert_eq!(world.square_to(Point::new(i32::MIN, i32::MIN, 0), near), Ok(2 * side * side));
+        assert_eq!(world.square_to(ORIGIN, Handle::NONE), Err(Error::Stale));
+    }
+}
+
+// The pairs of now beside those of the last frame, with room for some, for all, and for far fewer than there are.
+#[test]
+fn pairs_within_a_frame() {
+    for structure in STRUCTURES {
+        let mut world = World::new(structure).unwrap();
+        let [a, b, c] = [0, 5, 30].map(|x| world.add(cube(x), How::default()).unwrap());
+        assert_eq!((world.all_pairs_now(), world.all_pairs()), (Ok(vec![Pair { a, b }]), Ok(vec![])));
+        world.update().unwrap();
+        world.shift(c, cube(8)).unwrap();
+        let mut out = [Pair::default(); 1];
+        assert_eq!((world.pairs_now(1, &mut out), out, world.pairs_now(9, &mut [])), (Ok(3), [Pair { a, b: c }], Ok(3)));
+        assert_eq!(world.all_pairs_now(), Ok(vec![Pair { a, b }, Pair { a, b: c }, Pair { a: b, b: c }]));
+        assert_eq!((world.all_pairs(), world.info().unwrap().frames), (Ok(vec![Pair { a, b }]), 1));
+        for _ in 0..17 {
+            world.add(cube(0), How::default()).unwrap();
+        }
+        let now = world.all_pairs_now();
+        assert_eq!((world.update().unwrap().pairs, world.all_pairs(), world.all_pairs_now()), (190, now.clone(), now));
+    }
+}
+
 #[test]
 fn boxes_cut_to_the_range() {
     let (least, most) = (i32::MIN, i32::MAX);
