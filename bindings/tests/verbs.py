@@ -100,8 +100,17 @@ def long_lists(world):
     assert world.pair_events_into(told, 4948) == world.pair_changes_into(told, 4948) == 2
     assert tuple(told[5:]) == (BEGIN, *pairs[-1].a, *pairs[-1].b, 7, 7, 7, 7, 7)
     assert world.pairs_into(out, 4950) == world.pairs_into(out, 2**80) == 0
+    # What is there now, if the last frame has fewer and if it has as many.
+    world.mark()
+    world.add(raw(0))
+    assert len(world.pairs_now()) == 5050 and world.pairs_now()[:99] == pairs[:99] and world.pairs() == pairs
+    world.back()
+    assert world.pairs_now() == pairs and world.pairs_now_into(out, 4000) == 4950 and tuple(out[:2]) == pairs[4000].a
+    assert world.pairs_now_into(out[:0]) == world.pairs_now_into(out, 2**80) == 4950 and world.frame == (4950, 4950, 4950)
+    for call in (world.pairs_into, world.pairs_now_into):
+        raises(ValueError, call, told, 0)
+    raises(ValueError, world.pairs_now_into, out, -1)
     raises(ValueError, world.pairs_into, out, -1)
-    raises(ValueError, world.pairs_into, told)
     # The frame that a way back brings has more pairs than the last one that ended.
     world.mark()
     world.remove_all(handles)
@@ -109,6 +118,19 @@ def long_lists(world):
     assert world.pairs() == [] and world.frame == (0, 4950, 4950)
     world.back()
     assert world.pairs() == pairs and world.pair_changes() == [Told(OVER, *pair) for pair in pairs]
+
+
+def pairs_within_a_frame(world):
+    a, b, c = (world.add(cube(x)) for x in (0, 1, 9))
+    assert world.pairs_now() == [Pair(a, b)] and world.pairs() == []
+    world.end_frame()
+    world.move(c, cube(2))
+    assert world.pairs_now() == [Pair(a, b), Pair(b, c)] and world.pairs() == [Pair(a, b)] and world.frame == (1, 1, 1)
+    more = [world.add(cube(0)) for _ in range(30)]
+    now = world.pairs_now()
+    assert len(now) == 2 + 30 * 2 + 30 * 29 // 2 and now[1] == Pair(a, more[0]) and world.info().frames == 1
+    world.end_frame()
+    assert world.pairs() == now == world.pairs_now() and len(world.pair_changes()) == len(now) - 1
 
 
 # Changes of one box.
@@ -125,12 +147,17 @@ def live_boxes(world):
     info = world.info()
     assert info == (info.structure, False, 2, 0, 0, info.exchanges) and type(info.structure) is Structure
     world.remove(handle)
-    for call in (world.get, world.remove, lambda gone: world.move(gone, cube(0)), lambda gone: world.mask(gone, 1, 1)):
+    for call in (
+        world.get, world.remove, lambda gone: world.move(gone, cube(0)), lambda gone: world.mask(gone, 1, 1),
+        lambda gone: world.ray_meets((0, 0, 0), (0, 0, 0), gone), lambda gone: world.cast_meets(cube(0), (0, 0, 0), gone),
+        lambda gone: world.square_to((0, 0, 0), gone),
+    ):  # fmt: skip
         refused(Status.STALE, call, handle)
         refused(Status.STALE, call, NO_HANDLE)
     inverted = Box((1, 0, 0), (0, 0, 0))
     refused(Status.INVERTED, world.add, inverted)
     refused(Status.INVERTED, world.move, handle, inverted)
+    refused(Status.INVERTED, world.cast_meets, inverted, (0, 0, 0), handle)
     assert str(raises(Refused, world.remove, handle)) == "stale"
 
 
@@ -141,12 +168,16 @@ def wrong_types(world):
         raises(TypeError, world.add, wrong)
         raises(TypeError, world.move, handle, wrong)
         raises(TypeError, world.cast_hits, wrong, (0, 0, 0))
+        raises(TypeError, world.cast_meets, wrong, (0, 0, 0), handle)
         raises(TypeError, world.add_all, [box, wrong])
         raises(TypeError, world.move_all, [handle], [wrong])
     for wrong in (None, 0, box, tuple(handle), "handle", b"x" * 8, Point(0, 0, 0), Pair(handle, handle)):
         raises(TypeError, world.remove, wrong)
         raises(TypeError, world.get, wrong)
         raises(TypeError, world.mask, wrong, 1, 1)
+        raises(TypeError, world.ray_meets, (0, 0, 0), (1, 0, 0), wrong)
+        raises(TypeError, world.cast_meets, box, (1, 0, 0), wrong)
+        raises(TypeError, world.square_to, (0, 0, 0), wrong)
         raises(TypeError, world.move, wrong, box)
         raises(TypeError, world.remove_all, [handle, wrong])
     raises(TypeError, world.move_all, [box], [handle])
@@ -171,6 +202,9 @@ def wrong_numbers(world):
         raises(kind, world.cast_hits_into, out, raw(0), (1, 0, 0), wrong)
         raises(kind, world.nearest, (0, 0, 0), wrong)
         raises(kind, world.nearest, (0, 0, 0), 1, wrong)
+        raises(kind, world.ray_meets, (0, 0, 0), (1, 0, 0), Handle(wrong, 0))
+        raises(kind, world.cast_meets, raw(0), (1, 0, 0), Handle(0, wrong))
+        raises(kind, world.square_to, (0, 0, 0), Handle(wrong, 0))
         raises(kind, world.remove, Handle(wrong, 0))
         raises(kind, world.remove_all, [Handle(0, wrong)])
         raises(kind, World, wrong)
@@ -184,6 +218,9 @@ def wrong_numbers(world):
         raises(kind, world.ray_handles, place, (1, 0, 0))
         raises(kind, world.cast_hits, raw(0), place)
         raises(kind, world.ray_first, place, (1, 0, 0))
+        raises(kind, world.ray_meets, (0, 0, 0), place, handle)
+        raises(kind, world.cast_meets, raw(0), place, handle)
+        raises(kind, world.square_to, place, handle)
         raises(kind, world.nearest, place)
     for wrong in ((0, 0), (0, 0, 0, 0)):
         raises(ValueError, Box, wrong, (0, 0, 0))
@@ -191,6 +228,7 @@ def wrong_numbers(world):
         raises(ValueError, world.ray_hits, (0, 0, 0), wrong)
         raises(ValueError, world.cast_hits, raw(0), wrong)
         raises(ValueError, world.nearest, wrong)
+        raises(ValueError, world.square_to, wrong, handle)
     assert world.info().boxes == 1 and world.get(handle) == (raw(0), 1, ALL, 0, False)
 
 
@@ -220,6 +258,19 @@ def questions(world):
     assert (within.handle, within.place, within.axis, within.side, within.normal) == (near, 0, None, None, None)
     assert world.ray_first(origin, direction, mask=2) is None and world.cast_first(raw(-20), (9, 0, 0)) is None
     refused(Status.INVERTED, world.cast_first, Box((1, 0, 0), (0, 0, 0)), (0, 0, 0))
+    # Of one box, also of one that isn't met first.
+    assert world.ray_meets((100, 5, 5), (-80, 0, 0), far) == first
+    behind = world.ray_meets((100, 5, 5), (-80, 0, 0), near)
+    assert behind == Hit(near, behind.num, behind.den, 0, UPPER) and behind.num * 8 == behind.den * 9 and behind.place == 1.125
+    assert world.ray_meets((5, 5, 5), (0, 0, 0), near) == within and world.ray_meets((5, 5, 5), (0, 0, 0), far) is None
+    there = world.cast_meets(raw(-20), (60, 0, 0), far)
+    assert there.handle == far and there.num == there.den and there.normal == (-1, 0, 0)
+    assert world.cast_meets(raw(-20), (59, 0, 0), far) is None
+    assert world.square_to((13, 14, 10), near) == 25 and world.square_to(Point(55, 5, 5), far) == 0
+    least, most = Point(*[-(2**31)] * 3), Point(*[2**31 - 1] * 3)
+    alone = world.add(Box(most, most), groups=0)
+    assert world.square_to(least, alone) == 3 * (2**32 - 1) ** 2 and world.ray_meets(least, (1, 1, 1), alone).num > 0
+    world.remove(alone)
     line = Box((0, 0, 0), (50, 0, 0))
     for call, arguments, answer in (
         (world.hits_into, (line,), [far, near]),
@@ -467,6 +518,8 @@ def closed_worlds(world):
         world.pair_changes, lambda: world.pairs_into(bytearray(16)), lambda: world.hits(cube(0)),
         lambda: world.ray_hits((0, 0, 0), (1, 0, 0)), lambda: world.first_hit((0, 0, 0), (1, 0, 0)), lambda: world.cast_hits(cube(0), (0, 0, 0)), lambda: world.nearest((0, 0, 0)),
         lambda: world.ray_first((0, 0, 0), (1, 0, 0)), lambda: world.cast_first(cube(0), (0, 0, 0)),
+        lambda: world.ray_meets((0, 0, 0), (1, 0, 0), handle), lambda: world.cast_meets(cube(0), (0, 0, 0), handle),
+        lambda: world.square_to((0, 0, 0), handle), world.pairs_now, lambda: world.pairs_now_into(bytearray(16)),
         lambda: world.hits_into(bytearray(16), cube(0)), world.mark, world.forget, world.back, world.info,
         lambda: world.at(0), lambda: list(world.boxes()), lambda: world.regroup(handle),
     ):  # fmt: skip
@@ -715,9 +768,9 @@ def types_of_the_library():
         if line.startswith("pw_status pw_"):
             function = getattr(library, line[len("pw_status ") : line.index("(")])
             assert function.argtypes and function.restype is ctypes.c_uint32, line
-    structs = "Point Box New Handle Live Pair Told Counts Query Ray Cast Near Hit Info World".split()
+    structs = "Point Box New Handle Live Pair Told Counts Query Ray Cast Near Hit Square Info World".split()
     sizes = [ctypes.sizeof(getattr(pungwelair._library, f"Raw{name}")) for name in structs]
-    assert sizes == [12, 24, 16, 8, 40, 16, 20, 24, 32, 28, 40, 20, 32, 32, 16] or ctypes.sizeof(ctypes.c_void_p) != 8
+    assert sizes == [12, 24, 16, 8, 40, 16, 20, 24, 32, 28, 40, 20, 32, 16, 32, 16] or ctypes.sizeof(ctypes.c_void_p) != 8
     pungwelair.call("pw_close", held)
     refused(Status.CLOSED, pungwelair.call, "pw_close", held)
 
@@ -790,7 +843,7 @@ def arrays_of_numpy():
 
 
 OVER_EACH_STRUCTURE = (
-    slots_of_frames, handles_of_frames, long_lists, live_boxes, wrong_types, wrong_numbers, questions, batches_of_values,
+    slots_of_frames, handles_of_frames, long_lists, pairs_within_a_frame, live_boxes, wrong_types, wrong_numbers, questions, batches_of_values,
     batches_of_buffers, wrong_buffers, nothing_is_copied, marks, forgotten_marks, boxes_by_slots, regrouped, closed_worlds, ends_of_worlds, threads,
     threads_with_batches, turns, finalizers,
 )  # fmt: skip

@@ -80,6 +80,10 @@ class RawHit(ctypes.Structure):
     _fields_ = [("handle", RawHandle), ("num", c_int64), ("den", c_int64), ("axis", c_uint32), ("side", c_uint32)]
 
 
+class RawSquare(ctypes.Structure):
+    _fields_ = [("low", c_uint64), ("high", c_uint64)]
+
+
 class RawInfo(ctypes.Structure):
     _fields_ = [(name, c_uint32) for name in ("structure", "spent", "boxes", "marks")] + [
         (name, c_uint64) for name in ("frames", "exchanges")  # type: ignore[misc]
@@ -152,6 +156,7 @@ _takes("pw_get", _WORLD, RawHandle, _To(RawLive))
 _takes("pw_at", _WORLD, c_uint32, _HANDLE, _To(RawLive))
 _takes("pw_update", _WORLD, _To(RawCounts))
 _takes("pw_pairs", _WORLD, c_size_t, _To(RawPair), c_size_t, _COUNT)
+_takes("pw_pairs_now", _WORLD, c_size_t, _To(RawPair), c_size_t, _COUNT)
 _takes("pw_events", _WORLD, c_size_t, _To(RawTold), c_size_t, _COUNT)
 _takes("pw_changes", _WORLD, c_size_t, _To(RawTold), c_size_t, _COUNT)
 _takes("pw_hits", _WORLD, _To(RawQuery), *_FOUND)
@@ -159,6 +164,9 @@ _takes("pw_ray_hits", _WORLD, _To(RawRay), *_FOUND)
 _takes("pw_cast_hits", _WORLD, _To(RawCast), *_FOUND)
 _takes("pw_ray_first", _WORLD, _To(RawRay), _To(RawHit), _COUNT)
 _takes("pw_cast_first", _WORLD, _To(RawCast), _To(RawHit), _COUNT)
+_takes("pw_ray_meets", _WORLD, _To(RawRay), RawHandle, _To(RawHit), _COUNT)
+_takes("pw_cast_meets", _WORLD, _To(RawCast), RawHandle, _To(RawHit), _COUNT)
+_takes("pw_square_to", _WORLD, _To(RawPoint), RawHandle, _To(RawSquare))
 _takes("pw_nearest", _WORLD, _To(RawNear), *_FOUND)
 _takes("pw_mark", _WORLD)
 _takes("pw_forget", _WORLD, c_uint32)
@@ -196,11 +204,12 @@ class Workspace:
 
     def __init__(self) -> None:
         self.box, self.handle, self.live, self.hit, self.info = RawBox(), RawHandle(), RawLive(), RawHit(), RawInfo()
-        self.count, self.number = c_size_t(), c_int32()
+        self.count, self.number, self.square = c_size_t(), c_int32(), RawSquare()
         # Room for the answer to any question, and for what is told of most frames.
         self.found = bytearray(SLOTS * ctypes.sizeof(RawHandle))
         self.box_at, self.handle_at, self.live_at, self.info_at = map(ctypes.byref, (self.box, self.handle, self.live, self.info))
         self.hit_at, self.count_at, self.number_at = map(ctypes.byref, (self.hit, self.count, self.number))
+        self.square_at = ctypes.byref(self.square)
         self.found_at = ctypes.byref(ctypes.c_char.from_buffer(self.found))
 
 
@@ -219,3 +228,4 @@ def workspace() -> Workspace:
 BOX, HANDLE, PAIR, TOLD = (struct.Struct(form) for form in ("=6i", "=2I", "=4I", "=5I"))
 NEW, LIVE, HIT, INFO = (struct.Struct(form) for form in ("=4I", "=6i4I", "=2I2q2I", "=4I2Q"))
 QUERY, RAY, CAST, NEAR, DOUBLES = (struct.Struct(form) for form in ("=2I6i", "=I6i", "=I9i", "=2I3i", "=3d"))
+POINT, SQUARE = struct.Struct("=3i"), struct.Struct("=2Q")

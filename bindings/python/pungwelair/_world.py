@@ -10,8 +10,8 @@ from typing import TYPE_CHECKING, Any, Callable, Iterable, Iterator, List, NoRet
 
 from ._buffers import BOXES, EVENTS, HANDLES, PAIRS, Boxes, Handles, Kind, Rows, new_rows, packed_handle, room_of, rows_of
 from ._library import (
-    ALL, BOX, CAST, HANDLE, HIT, INFO, LIVE, MOST, NEAR, NEW, NONE, ONE, PAIR, QUERY, RAY, SLOTS, TOLD, RawCast, RawCounts, RawGroup,
-    RawHandle, RawMasks, RawNear, RawNew, RawQuery, RawRay, RawWorld, Workspace, kept, library, unchecked, workspace,
+    ALL, BOX, CAST, HANDLE, HIT, INFO, LIVE, MOST, NEAR, NEW, NONE, ONE, PAIR, POINT, QUERY, RAY, SLOTS, SQUARE, TOLD, RawCast, RawCounts,
+    RawGroup, RawHandle, RawMasks, RawNear, RawNew, RawQuery, RawRay, RawWorld, Workspace, kept, library, unchecked, workspace,
 )  # fmt: skip
 from ._values import (
     BEGIN, LOWER, OVER, STAY, TREE, UPPER, Box, Event, Frame, Handle, Hit, Info, Live, Pair, Point, Question, Ray, Refused, Segment, Side,
@@ -37,6 +37,7 @@ _pw_mask, _pw_regroup = map(unchecked, ("pw_mask", "pw_regroup"))
 _pw_update, _pw_pairs, _pw_events, _pw_changes = map(unchecked, ("pw_update", "pw_pairs", "pw_events", "pw_changes"))
 _pw_hits, _pw_ray_hits, _pw_cast_hits, _pw_nearest = map(unchecked, ("pw_hits", "pw_ray_hits", "pw_cast_hits", "pw_nearest"))
 _pw_ray_first, _pw_cast_first = map(unchecked, ("pw_ray_first", "pw_cast_first"))
+_pw_ray_meets, _pw_cast_meets, _pw_square_to = map(unchecked, ("pw_ray_meets", "pw_cast_meets", "pw_square_to"))
 
 
 def _from(start: int) -> int:
@@ -300,6 +301,20 @@ class World:
         """The pairs of the last frame that ended, in order of their slots. After `back` they are those before the mark."""
         return self._read(_pw_pairs, library.pw_pairs, PAIRS, self._counts.pairs, _pairs)
 
+    def pairs_now(self) -> List[Pair]:
+        """The pairs that the frame would have if it ended now, in order of their slots. NO_MEMORY.
+
+        The frame goes on, and `pairs`, `pair_events` and `pair_changes` tell what they told. It searches as `end_frame` does.
+        """
+        # They are mostly few more than those of the last frame. They may become more between two calls, too.
+        room = self._counts.pairs + self._counts.pairs // 8 + 8
+        while True:
+            memory, rows = new_rows(PAIRS, room)
+            count = _checked(*self._copied(library.pw_pairs_now, 0, rows))
+            if count <= room:
+                return _pairs(memory[: count * PAIRS.size])
+            room = count
+
     def pair_events(self) -> List[Told]:
         """What became of each pair in the last frame that ended: each of its pairs, and then those that are over."""
         return self._read(_pw_events, library.pw_events, EVENTS, self._counts.events, _told)
@@ -353,6 +368,10 @@ class World:
         """Writes the pairs from number `start` on, as many as there is room for, and tells how many those are."""
         return _checked(*self._copied(library.pw_pairs, _from(start), room_of(PAIRS, out)))
 
+    def pairs_now_into(self, out: Buffer, start: int = 0) -> int:
+        """Writes those of `pairs_now` from number `start` on, as many as there is room for, and tells how many all of them are."""
+        return _checked(*self._copied(library.pw_pairs_now, _from(start), room_of(PAIRS, out)))
+
     def pair_events_into(self, out: Buffer, start: int = 0) -> int:
         """Writes the events from number `start` on, as many as there is room for, and tells how many those are."""
         return _checked(*self._copied(library.pw_events, _from(start), room_of(EVENTS, out)))
@@ -395,15 +414,40 @@ class World:
         """The same for a box that is moved by a displacement. INVERTED, NO_MEMORY."""
         return self._first(_pw_cast_first, _cast(box, by, mask))
 
-    def _first(self, asks: Any, question: bytes) -> Optional[Hit]:
+    def ray_meets(self, origin: Iterable[int], direction: Iterable[int], handle: Handle) -> Optional[Hit]:
+        """Where a ray meets one live box, and by which side, or None if it doesn't meet it. STALE.
+
+        The box may be in any group. With `ray_handles` it tells where each box is met.
+        """
+        return self._first(_pw_ray_meets, _ray(origin, direction, ALL), RawHandle.from_buffer_copy(packed_handle(handle)))
+
+    def cast_meets(self, box: Box, by: Iterable[int], handle: Handle) -> Optional[Hit]:
+        """The same for a box that is moved by a displacement. INVERTED, which is asked first, STALE."""
+        return self._first(_pw_cast_meets, _cast(box, by, ALL), RawHandle.from_buffer_copy(packed_handle(handle)))
+
+    def _first(self, asks: Any, *question: Any) -> Optional[Hit]:
         work = workspace()
         with self._lock:
-            status = asks(self._world, question, work.hit_at, work.count_at)
-        first = _hit(HIT.unpack_from(work.hit)) if not status and work.count.value else None
+            status = asks(self._world, *question, work.hit_at, work.count_at)
+        hit = _hit(HIT.unpack_from(work.hit)) if not status and work.count.value else None
         kept.append(work)
         if status:
             raise Refused(status)
-        return first
+        return hit
+
+    def square_to(self, at: Iterable[int], handle: Handle) -> int:
+        """The square of the distance of a place from a live box, in raw units squared, exactly: 0 if the box holds it. STALE.
+
+        Its root, over 65,536, is the distance in units.
+        """
+        place, name, work = _point(at), RawHandle.from_buffer_copy(packed_handle(handle)), workspace()
+        with self._lock:
+            status = _pw_square_to(self._world, place, name, work.square_at)
+        low, high = SQUARE.unpack_from(work.square)
+        kept.append(work)
+        if status:
+            raise Refused(status)
+        return high << 64 | low
 
     def first_hit(self, origin: Iterable[int], direction: Iterable[int], mask: int = ALL) -> Optional[Handle]:
         """The box that a ray meets first, or None if it meets no box. NO_MEMORY."""
@@ -560,6 +604,15 @@ def _cast(box: Box, by: Iterable[int], mask: int) -> bytes:
     except struct.error:
         refuse_words(mask=mask)
         refuse_places(*box, x, y, z)
+        raise
+
+
+def _point(at: Iterable[int]) -> bytes:
+    x, y, z = at
+    try:
+        return POINT.pack(x, y, z)
+    except struct.error:
+        refuse_places(x, y, z)
         raise
 
 
