@@ -16,7 +16,7 @@ static size_t handle_count;
 static pw_world world = PW_WORLD_INIT;
 
 /* How many answers had something in them. */
-static long pairs_seen, over_seen, hits_seen, firsts_seen;
+static long pairs_seen, over_seen, hits_seen, firsts_seen, meetings_seen, squares_seen, others_seen;
 
 /* Random numbers: splitmix64. */
 static uint64_t seed;
@@ -184,11 +184,35 @@ static void expect_changes(size_t from, size_t room) {
     EXPECT(are_copied(changes, room, changed + from, left, sizeof *changes));
 }
 
-/* All changes are read, with room for one more, and then some, from any number on. */
+/* The pairs that the last update ended with. */
+static void expect_last_pairs(void) {
+    static pw_pair last[MOST_PAIRS];
+    size_t copied = 99;
+    memset(last, FILL, sizeof last);
+    EXPECT(pw_pairs(&world, 0, last, MOST_PAIRS, &copied) == PW_OK && copied == now.last_count);
+    EXPECT(are_copied(last, MOST_PAIRS, now.last, now.last_count, sizeof *last));
+}
+
+/* The pairs of now, from any number on, with any room, past the end too. The last frame's pairs and changes stay. */
+static void try_pairs_now(void) {
+    static pw_pair wanted[MOST_PAIRS], pairs[MOST_PAIRS];
+    size_t all = pairs_of_model(wanted), room = below(3) ? below(40) : MOST_PAIRS, from = below(3) ? 0 : below(40), count = 99;
+    memset(pairs, FILL, room * sizeof *pairs);
+    EXPECT(pw_pairs_now(&world, from, pairs, room, &count) == PW_OK && count == all);
+    EXPECT(are_copied(pairs, room, wanted + from, from < all ? all - from : 0, sizeof *pairs));
+    expect_last_pairs();
+    expect_changes(0, changed_count + 1);
+    others_seen += all != now.last_count || memcmp(wanted, now.last, all * sizeof *wanted);
+}
+
+/* The pairs of now are asked for just before and just after, sometimes: what the structure finds for one it doesn't find again for the
+ * other. All changes are read, with room for one more, and then some, from any number on. */
 static void try_update(void) {
     pw_counts counts = {99, 99, 99};
+    if (below(2)) try_pairs_now();
     pw_status status = pw_update(&world, &counts);
     end_frame_of_model();
+    if (below(2)) try_pairs_now();
     EXPECT(status == PW_OK && counts.pairs == now.last_count && counts.events == told_count && counts.changes == changed_count);
     expect_changes(0, changed_count + 1);
     size_t from = below((uint32_t)changed_count + 2), room = below((uint32_t)changed_count + 2);
@@ -254,8 +278,9 @@ static void try_hits(void) {
     expect_hits(status, out, room, count, hits, model_hits(&q, false, hits));
 }
 
-/* The first of the boxes that are met, its place and its side. If none is, what was to be told is as before. */
-static void expect_first(pw_status status, const pw_hit *out, size_t count, const struct question *q, const struct hit *hits, size_t wanted) {
+/* The first of the boxes that are to be met, its place and its side. If none is, what was to be told is as before. */
+static void expect_place(pw_status status, const pw_hit *out, size_t count, const struct question *q, const struct hit *hits,
+                         size_t wanted) {
     uint32_t axis, side;
     EXPECT(status == PW_OK && count == (wanted > 0));
     if (wanted == 0) {
@@ -265,7 +290,44 @@ static void expect_first(pw_status status, const pw_hit *out, size_t count, cons
     find_side(q, &now.live[hits->slot].body, hits, &axis, &side);
     EXPECT(same_handle(out->handle, handle_of(hits->slot)) && out->axis == axis && out->side == side);
     EXPECT(out->num >= 0 && out->den >= 1 && (wide)out->num * hits->parts == hits->number * out->den);
-    firsts_seen++;
+}
+
+/* Where a way meets one box: asked as a ray or as a cast, whichever is given. */
+static pw_status meet(const pw_ray *ray, const pw_cast *cast, pw_handle handle, pw_hit *out, size_t *count) {
+    memset(out, FILL, sizeof *out);
+    *count = 99;
+    return ray ? pw_ray_meets(&world, ray, handle, out, count) : pw_cast_meets(&world, cast, handle, out, count);
+}
+
+/* Whether one hit comes no later on the way than another. */
+static bool is_before(const pw_hit *a, const pw_hit *b) { return (wide)a->num * b->den <= (wide)b->num * a->den; }
+
+/* Whether two hits are one, whose fractions may be written in two ways. */
+static bool same_hit(const pw_hit *a, const pw_hit *b) {
+    return same_handle(a->handle, b->handle) && is_before(a, b) && is_before(b, a) && a->axis == b->axis && a->side == b->side;
+}
+
+/* Each box of all hits, one by one: its place and its side are those of the model, the first is told as it was told alone, and none comes
+ * before the one that is told before it. Some other box, whatever its groups are, is met or not as the model says. */
+static void expect_meetings(const pw_ray *ray, const pw_cast *cast, const struct question *q, const pw_hit *first,
+                            const struct hit *hits, size_t wanted) {
+    pw_hit out, before = {{0, 0}, 0, 1, 0, 0};
+    size_t count;
+    for (size_t k = 0; k < wanted; k++) {
+        pw_status status = meet(ray, cast, handle_of(hits[k].slot), &out, &count);
+        expect_place(status, &out, count, q, &hits[k], 1);
+        EXPECT(is_before(&before, &out) && (k > 0 || same_hit(&out, first)));
+        before = out;
+        meetings_seen++;
+    }
+    pw_handle which = some_handle();
+    pw_status status = meet(ray, cast, which, &out, &count);
+    if (is_stale(which)) {
+        EXPECT(status == PW_STALE && count == 0 && is_filled(&out, sizeof out));
+        return;
+    }
+    struct hit hit = {0, 1, which.slot};
+    expect_place(status, &out, count, q, &hit, meets(q, &now.live[which.slot].body, &hit));
 }
 
 static void try_ray_hits(void) {
@@ -283,7 +345,9 @@ static void try_ray_hits(void) {
     pw_hit first;
     memset(&first, FILL, sizeof first);
     status = pw_ray_first(&world, &ray, &first, &count);
-    expect_first(status, &first, count, &q, hits, wanted);
+    expect_place(status, &first, count, &q, hits, wanted);
+    expect_meetings(&ray, NULL, &q, &first, hits, wanted);
+    firsts_seen += wanted > 0;
 }
 
 static void try_cast_hits(void) {
@@ -303,11 +367,33 @@ static void try_cast_hits(void) {
     if (is_inverted(&cast.body)) {
         EXPECT(status == PW_INVERTED && count == 0 && is_filled(out, sizeof out));
         EXPECT(first_status == PW_INVERTED && first_count == 0 && is_filled(&first, sizeof first));
+        EXPECT(meet(NULL, &cast, some_handle(), &first, &count) == PW_INVERTED && count == 0 && is_filled(&first, sizeof first));
         return;
     }
     size_t wanted = model_hits(&q, true, hits);
     expect_hits(status, out, room, count, hits, wanted);
-    expect_first(first_status, &first, first_count, &q, hits, wanted);
+    expect_place(first_status, &first, first_count, &q, hits, wanted);
+    expect_meetings(NULL, &cast, &q, &first, hits, wanted);
+    firsts_seen += wanted > 0;
+}
+
+static wide square_of(const pw_square *square) { return ((wide)square->high << 64) + square->low; }
+
+/* The squares of the nearest boxes rise, and are those of the model, as that of any other box is. */
+static void expect_squares(const pw_point *at, const struct hit *hits, size_t wanted) {
+    pw_square out, before = {0, 0};
+    for (size_t k = 0; k < wanted; k++) {
+        memset(&out, FILL, sizeof out);
+        EXPECT(pw_square_to(&world, at, handle_of(hits[k].slot), &out) == PW_OK);
+        EXPECT(square_of(&out) == hits[k].number && square_of(&before) <= square_of(&out));
+        before = out;
+        squares_seen++;
+    }
+    pw_handle which = some_handle();
+    memset(&out, FILL, sizeof out);
+    pw_status status = pw_square_to(&world, at, which, &out);
+    if (is_stale(which)) EXPECT(status == PW_STALE && is_filled(&out, sizeof out));
+    else EXPECT(status == PW_OK && square_of(&out) == square_of_distance(&now.live[which.slot].body, at));
 }
 
 static void try_nearest(void) {
@@ -317,7 +403,9 @@ static void try_nearest(void) {
     size_t room = below(2) ? MOST : below(5), count = 99;
     memset(out, FILL, sizeof out);
     pw_status status = pw_nearest(&world, &near_to, out, room, &count);
-    expect_hits(status, out, room, count, hits, model_nearest(&near_to, hits));
+    size_t wanted = model_nearest(&near_to, hits);
+    expect_hits(status, out, room, count, hits, wanted);
+    expect_squares(&near_to.at, hits, wanted);
 }
 
 static uint64_t exchanges(void) {
@@ -374,7 +462,7 @@ static void try_some_call(uint32_t structure) {
     case 6: case 7: try_remove(); break;
     case 8: below(2) ? try_get() : try_at(); break;
     case 9: case 10: try_update(); break;
-    case 11: try_lists(); break;
+    case 11: below(2) ? try_lists() : try_pairs_now(); break;
     case 12: case 13: try_hits(); break;
     case 14: try_ray_hits(); break;
     case 15: try_cast_hits(); break;
@@ -396,6 +484,8 @@ int main(int count, char **words) {
         EXPECT(pw_close(&world) == PW_OK);
     }
     printf("random_calls: %ld pairs, %ld over, %ld hits, %ld first hits\n", pairs_seen, over_seen, hits_seen, firsts_seen);
+    printf("random_calls: %ld meetings, %ld squares, %ld times other pairs within a frame\n", meetings_seen, squares_seen, others_seen);
     EXPECT(pairs_seen > 0 && over_seen > 0 && hits_seen > 0 && firsts_seen > 0);
+    EXPECT(meetings_seen > 0 && squares_seen > 0 && others_seen > 0);
     return tested("random_calls");
 }

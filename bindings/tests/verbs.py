@@ -259,10 +259,12 @@ def questions(world):
     assert world.ray_first(origin, direction, mask=2) is None and world.cast_first(raw(-20), (9, 0, 0)) is None
     refused(Status.INVERTED, world.cast_first, Box((1, 0, 0), (0, 0, 0)), (0, 0, 0))
     # Of one box, also of one that isn't met first.
-    assert world.ray_meets((100, 5, 5), (-80, 0, 0), far) == first
+    same = world.ray_meets((100, 5, 5), (-80, 0, 0), far)
+    assert same[0] == far and same.place == 0.5 and same[3:] == first[3:] and same.side is UPPER
     behind = world.ray_meets((100, 5, 5), (-80, 0, 0), near)
     assert behind == Hit(near, behind.num, behind.den, 0, UPPER) and behind.num * 8 == behind.den * 9 and behind.place == 1.125
-    assert world.ray_meets((5, 5, 5), (0, 0, 0), near) == within and world.ray_meets((5, 5, 5), (0, 0, 0), far) is None
+    inside = world.ray_meets((5, 5, 5), (0, 0, 0), near)
+    assert (inside.handle, inside.num, inside.normal) == (near, 0, None) and world.ray_meets((5, 5, 5), (0, 0, 0), far) is None
     there = world.cast_meets(raw(-20), (60, 0, 0), far)
     assert there.handle == far and there.num == there.den and there.normal == (-1, 0, 0)
     assert world.cast_meets(raw(-20), (59, 0, 0), far) is None

@@ -70,9 +70,10 @@ static void closed_world(void) {
     pw_told events[ROOM];
     pw_live live[1];
     pw_hit hit[1];
+    pw_square square[1];
     pw_query query = {PW_POINT, ~0u, origin, origin};
     pw_ray ray = {~0u, origin, origin};
-    pw_cast cast = {~0u, boxes[0], origin};
+    pw_cast cast = {~0u, boxes[0], origin}, inverted = {~0u, inverted_on(0), origin};
     pw_near near_to = {~0u, 1, origin};
     pw_counts counts = {99, 99, 99};
     pw_world_info info[1];
@@ -92,6 +93,8 @@ static void closed_world(void) {
     EXPECT(pw_at(&world, 0, out, live) == PW_CLOSED && is_filled(out, sizeof out) && is_filled(live, sizeof live));
     EXPECT(pw_update(&world, &counts) == PW_CLOSED && counts.pairs == 0 && counts.events == 0 && counts.changes == 0);
     EMPTY(pw_pairs(&world, 0, pairs, ROOM, &count), PW_CLOSED, count, pairs);
+    EMPTY(pw_pairs_now(&world, 0, pairs, ROOM, &count), PW_CLOSED, count, pairs);
+    EMPTY(pw_pairs_now(&world, 0, pairs, 0, &count), PW_CLOSED, count, pairs);
     EMPTY(pw_events(&world, 0, events, ROOM, &count), PW_CLOSED, count, events);
     EMPTY(pw_changes(&world, 0, events, ROOM, &count), PW_CLOSED, count, events);
     EMPTY(pw_hits(&world, &query, out, ROOM, &count), PW_CLOSED, count, out);
@@ -101,6 +104,11 @@ static void closed_world(void) {
     EMPTY(pw_ray_first(&world, &ray, hit, &count), PW_CLOSED, count, hit);
     EMPTY(pw_cast_first(&world, &cast, hit, &count), PW_CLOSED, count, hit);
     EMPTY(pw_first_hit(&world, &ray, out, &count), PW_CLOSED, count, out);
+    EMPTY(pw_ray_meets(&world, &ray, none, hit, &count), PW_CLOSED, count, hit);
+    EMPTY(pw_cast_meets(&world, &cast, none, hit, &count), PW_CLOSED, count, hit);
+    EMPTY(pw_cast_meets(&world, &inverted, none, hit, &count), PW_CLOSED, count, hit);
+    memset(square, FILL, sizeof square);
+    EXPECT(pw_square_to(&world, &origin, none, square) == PW_CLOSED && is_filled(square, sizeof square));
     EXPECT(pw_mark(&world) == PW_CLOSED && pw_forget(&world, 0) == PW_CLOSED && pw_back(&world) == PW_CLOSED);
     memset(info, FILL, sizeof info);
     EXPECT(pw_info(&world, info) == PW_CLOSED && is_filled(info, sizeof info));
@@ -142,6 +150,26 @@ static void wrong_adds(void) {
     EXPECT(pw_remove(&world, out, 1, &done) == PW_OK && done == 1);
 }
 
+/* Where a way meets no live box, and how far off none is. */
+static void no_meetings(pw_handle stale) {
+    pw_ray ray = {~0u, origin, {1, 1, 1}};
+    pw_cast cast = {~0u, boxes[0], {1, 1, 1}};
+    pw_hit hit[1];
+    pw_square square[1];
+    size_t count;
+    STAYS(EMPTY(pw_ray_meets(&world, &ray, stale, hit, &count), PW_STALE, count, hit));
+    STAYS(EMPTY(pw_cast_meets(&world, &cast, stale, hit, &count), PW_STALE, count, hit));
+    memset(square, FILL, sizeof square);
+    REFUSED(pw_square_to(&world, &origin, stale, square), PW_STALE);
+    EXPECT(is_filled(square, sizeof square));
+    /* A moved box that is none is refused first, of a live box too. */
+    for (int axis = 0; axis < 3; axis++) {
+        cast.body = inverted_on(axis);
+        STAYS(EMPTY(pw_cast_meets(&world, &cast, stale, hit, &count), PW_INVERTED, count, hit));
+        STAYS(EMPTY(pw_cast_meets(&world, &cast, handles[0], hit, &count), PW_INVERTED, count, hit));
+    }
+}
+
 static void wrong_moves(void) {
     pw_handle stale[5] = {{0, 1}, {BOXES, 0}, {PW_SLOTS, 0}, PW_NO_HANDLE, {2, 0xffffffffu}};
     pw_box inverted = inverted_on(2), to[2] = {boxes[1], boxes[0]};
@@ -161,6 +189,7 @@ static void wrong_moves(void) {
         REFUSED(pw_regroup(&world, stale[k], group), PW_STALE);
         REFUSED(pw_get(&world, stale[k], &live), PW_STALE);
         EXPECT(is_filled(&live, sizeof live));
+        no_meetings(stale[k]);
         done = 99;
         REFUSED(pw_remove(&world, &stale[k], 1, &done), PW_STALE);
         EXPECT(done == 0);
@@ -217,6 +246,30 @@ static void room_for_lists(void) {
     memset(events, FILL, sizeof events);
     EXPECT(pw_changes(&world, 0, events, ROOM, &copied) == PW_OK && copied == 1);
     EXPECT(events[0].event == PW_BEGIN && events[0].pair.b.slot == 1 && is_filled(events + 1, sizeof events - sizeof *events));
+}
+
+/* The pairs of now, of which the count is all of them, whatever the start and the room are. What the last frame told stays. */
+static void room_for_pairs_now(void) {
+    const size_t past[3] = {3, 4, SIZE_MAX};
+    pw_pair pairs[ROOM];
+    size_t count, done;
+    EXPECT(pw_move(&world, &handles[2], 1, boxes, 1, &done) == PW_OK);
+    for (int k = 0; k < 3; k++) {
+        memset(pairs, FILL, sizeof pairs);
+        STAYS(EXPECT(pw_pairs_now(&world, past[k], pairs, ROOM, &count) == PW_OK && count == 3 && is_filled(pairs, sizeof pairs)));
+    }
+    for (size_t from = 0; from < 3; from++)
+        for (size_t room = 0; room < ROOM; room++) {
+            size_t copied = room < 3 - from ? room : 3 - from;
+            memset(pairs, FILL, sizeof pairs);
+            STAYS(EXPECT(pw_pairs_now(&world, from, pairs, room, &count) == PW_OK && count == 3));
+            for (size_t k = 0; k < copied; k++)
+                EXPECT(pairs[k].a.slot == (from + k) / 2 && pairs[k].b.slot == 1 + (from + k + 1) / 2 && pairs[k].b.generation == 0);
+            EXPECT(is_filled(pairs + copied, sizeof pairs - copied * sizeof *pairs));
+        }
+    EXPECT(pw_pairs(&world, 0, pairs, ROOM, &count) == PW_OK && count == 1);
+    EXPECT(pw_move(&world, &handles[2], 1, &boxes[2], 1, &done) == PW_OK);
+    STAYS(EXPECT(pw_pairs_now(&world, 0, pairs, ROOM, &count) == PW_OK && count == 1));
 }
 
 /* A pair that stays is an event and no change: in a frame that searches, since a box came and went, and in one that doesn't. */
@@ -307,6 +360,42 @@ static void first_hits(void) {
     EMPTY(pw_first_hit(&world, &beside, first, &count), PW_OK, count, first);
 }
 
+/* One box is asked of: also one that isn't met first, and one of no group that is asked for. */
+static void meetings(void) {
+    pw_ray ray = {~0u, {-5, 1, 1}, {1, 0, 0}}, back = {0, {60, 5, 5}, {-80, 0, 0}}, within = {0, {55, 55, 55}, {0, 0, 0}};
+    pw_cast cast = {0, {{-20, 2, 2}, {-10, 4, 4}}, {40, 0, 0}}, ends_short = {~0u, {{-20, 2, 2}, {-10, 4, 4}}, {18, 0, 0}};
+    pw_point least = {INT32_MIN, INT32_MIN, INT32_MIN}, within_0 = {9, 4, 0}, beside = {-3, 13, 9};
+    pw_square square[1];
+    pw_hit hit[1];
+    size_t count;
+    STAYS(EXPECT(pw_ray_meets(&world, &ray, handles[0], hit, &count) == PW_OK && count == 1 && is_hit(hit, 0, 5, 0, PW_LOWER)));
+    STAYS(EXPECT(pw_ray_meets(&world, &ray, handles[1], hit, &count) == PW_OK && count == 1 && is_hit(hit, 1, 14, 0, PW_LOWER)));
+    EXPECT(pw_ray_meets(&world, &back, handles[0], hit, &count) == PW_OK && count == 1 && is_hit(hit, 0, 51.0 / 80, 0, PW_UPPER));
+    EXPECT(pw_ray_meets(&world, &within, handles[2], hit, &count) == PW_OK && count == 1 && is_hit(hit, 2, 0, PW_NO_AXIS, 0));
+    STAYS(EXPECT(pw_cast_meets(&world, &cast, handles[1], hit, &count) == PW_OK && count == 1 && is_hit(hit, 1, 19.0 / 40, 0, PW_LOWER)));
+    STAYS(EMPTY(pw_ray_meets(&world, &ray, handles[2], hit, &count), PW_OK, count, hit));
+    STAYS(EMPTY(pw_cast_meets(&world, &ends_short, handles[1], hit, &count), PW_OK, count, hit));
+    EXPECT(pw_cast_meets(&world, &ends_short, handles[0], hit, &count) == PW_OK && count == 1 && is_hit(hit, 0, 10.0 / 18, 0, PW_LOWER));
+    STAYS(EXPECT(pw_square_to(&world, &within_0, handles[0], square) == PW_OK && square->low == 0 && square->high == 0));
+    EXPECT(pw_square_to(&world, &beside, handles[0], square) == PW_OK && square->low == 25 && square->high == 0);
+    /* Three times (2^31 + 50)^2 takes more than 63 bits, and no more than 64. */
+    EXPECT(pw_square_to(&world, &least, handles[2], square) == PW_OK && square->low == 13835058699527265612u && square->high == 0);
+    EXPECT(pw_squared(square) > 3221225622 && pw_squared(square) < 3221225623);
+}
+
+/* The greatest square that there is takes two bits of the second word. */
+static void farthest(void) {
+    const int32_t least = INT32_MIN, most = INT32_MAX;
+    pw_point from = {least, least, least};
+    pw_box corner = {{most, most, most}, {most, most, most}};
+    pw_square square[1];
+    size_t done;
+    EXPECT(pw_move(&world, &handles[2], 1, &corner, 1, &done) == PW_OK);
+    EXPECT(pw_square_to(&world, &from, handles[2], square) == PW_OK && square->high == 2 && square->low == 0xfffffffa00000003u);
+    EXPECT(pw_squared(square) == 12884901882);
+    EXPECT(pw_move(&world, &handles[2], 1, &boxes[2], 1, &done) == PW_OK);
+}
+
 /* A box with no group is live, and no question finds it. */
 static void no_group(void) {
     pw_masks nothing = {0, ~0u}, as_before = pw_seen_by_all().masks;
@@ -319,6 +408,8 @@ static void no_group(void) {
     EMPTY(pw_ray_first(&world, &ray, hit, &count), PW_OK, count, hit);
     EMPTY(pw_ray_hits(&world, &ray, out, ROOM, &count), PW_OK, count, out);
     EXPECT(pw_nearest(&world, &near_to, out, ROOM, &count) == PW_OK && count == 2 && out[0].slot == 1);
+    /* It is found by its handle alone. */
+    EXPECT(pw_ray_meets(&world, &ray, handles[2], hit, &count) == PW_OK && count == 1 && is_hit(hit, 2, 50, 2, PW_LOWER));
     EXPECT(pw_mask(&world, handles[2], as_before) == PW_OK);
     EXPECT(pw_ray_first(&world, &ray, hit, &count) == PW_OK && count == 1 && is_hit(hit, 2, 50, 2, PW_LOWER));
 }
@@ -502,10 +593,13 @@ int main(void) {
         wrong_moves();
         removed_twice();
         room_for_lists();
+        room_for_pairs_now();
         pair_that_stays();
         wrong_questions();
         room_for_hits();
         first_hits();
+        meetings();
+        farthest();
         no_group();
         questions_at_the_ends();
         slots_with_and_without_boxes();
