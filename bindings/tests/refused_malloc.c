@@ -102,6 +102,31 @@ static pw_box box_of(int32_t k, int32_t shift) {
     return (pw_box){{x, y, z}, {x + 100 + k % 3, y + 90 + k % 5 * 5, z + 120}};
 }
 
+/* Where ways meet the first box that lives, and how far off it is: no memory is asked for. A ray that ends at its lower corner comes in
+ * there, and so does the corner if it is moved. */
+static void meet(void) {
+    pw_handle handle;
+    pw_live live;
+    uint32_t slot = 0;
+    while (pw_at(&world, slot, &handle, &live) == PW_STALE && slot < PW_SLOTS) slot++;
+    if (slot == PW_SLOTS) return;
+    pw_point lo = live.body.lo, outside = {lo.x - 40, lo.y, lo.z};
+    pw_ray ray = {0, outside, {40, 0, 0}}, away = {0, outside, {-40, 0, 0}};
+    pw_cast cast = {0, {outside, outside}, {80, 0, 0}};
+    pw_hit hits[2], none;
+    pw_square square;
+    size_t count;
+    NEEDS_NONE(pw_ray_meets(&world, &ray, handle, &hits[0], &count));
+    EXPECT(count == 1 && hits[0].num == hits[0].den && hits[0].axis == 0 && hits[0].side == PW_LOWER);
+    NEEDS_NONE(pw_cast_meets(&world, &cast, handle, &hits[1], &count));
+    EXPECT(count == 1 && hits[1].num * 2 == hits[1].den && hits[1].axis == 0 && hits[1].side == PW_LOWER);
+    memset(&none, FILL, sizeof none);
+    NEEDS_NONE(pw_ray_meets(&world, &away, handle, &none, &count));
+    EXPECT(count == 0 && is_filled(&none, sizeof none));
+    NEEDS_NONE(pw_square_to(&world, &outside, handle, &square));
+    EXPECT(square.low == 1600 && square.high == 0);
+}
+
 /* A spent world refuses each change and question, and tells that it is spent. It is closed, and another one takes its boxes. */
 static void leave_spent_world(void) {
     pw_box body = box_of(0, 0);
@@ -127,11 +152,13 @@ static void leave_spent_world(void) {
     EXPECT(pw_nearest(&world, &near_to, &handle, 1, &count) == PW_NO_MEMORY && count == 0);
     EXPECT(pw_ray_first(&world, &ray, &hit, &count) == PW_NO_MEMORY && count == 0);
     EXPECT(pw_cast_first(&world, &cast, &hit, &count) == PW_NO_MEMORY && count == 0);
+    EXPECT(pw_pairs_now(&world, 0, pairs, ROOM, &count) == PW_NO_MEMORY && count == 0);
     EXPECT(pw_mark(&world) == PW_NO_MEMORY && pw_forget(&world, 0) == PW_NO_MEMORY && pw_back(&world) == PW_NO_MEMORY);
     /* What it had can be read still. */
     EXPECT(pw_pairs(&world, 0, pairs, ROOM, &count) == PW_OK);
     EXPECT(pw_events(&world, 0, events, ROOM, &count) == PW_OK);
     expect_same_changes();
+    meet();
     EXPECT(pw_close(&world) == PW_OK && blocks == 0);
     EXPECT(pw_open(&world, PW_PLAIN) == PW_OK);
     EXPECT(pw_add(&world, &body, 1, &how, &handle, 1, &count) == PW_OK && count == 1);
@@ -231,6 +258,26 @@ static void back(void) {
     if (!is_spent) expect_same_changes();
 }
 
+/* The pairs of now, with room for fewer. If memory is refused the room is as it was, and the last frame's lists stay either way. */
+static void ask_pairs(void) {
+    static pw_pair last[ROOM], again[ROOM], now[ROOM];
+    size_t had, has, count;
+    pw_status status;
+    NEEDS_NONE(pw_pairs(&world, 0, last, ROOM, &had));
+    memset(now, FILL, sizeof now);
+    TELLS(status, pw_pairs_now(&world, 3, now, ROOM, &count));
+    if (status == PW_NO_MEMORY) {
+        EXPECT(count == 0 && is_filled(now, sizeof now));
+        status = pw_pairs_now(&world, 3, now, ROOM, &count);
+    }
+    EXPECT(status == PW_OK && count > 3 && count < ROOM && is_filled(now + count - 3, (ROOM - count) * sizeof *now));
+    answered(&count, sizeof count);
+    answered(now, (count - 3) * sizeof *now);
+    NEEDS_NONE(pw_pairs(&world, 0, again, ROOM, &has));
+    EXPECT(has == had && !memcmp(last, again, had * sizeof *last));
+    expect_same_changes();
+}
+
 static void update(void) {
     pw_counts counts;
     pw_status status;
@@ -312,8 +359,11 @@ static void add_behind_mark(void) { add(BOXES, MORE, 10); }
 static void empty(void) { remove_some(0, BOXES); }
 
 /* The way back leads over what came and went behind both marks, so the handles of `fill` name its boxes again. */
-static void (*const steps[])(void) = {fill, update, ask, mark, move_half, update, mask_one, mark, forget, move_behind_mark, mask_behind_mark, regroup_behind_mark, update,
-                                      mark, remove_behind_mark, add_behind_mark, update, ask, back, ask, back, update, see, ask, empty, update};
+static void (*const steps[])(void) = {
+    fill, ask_pairs, update, ask_pairs, ask, meet, mark, move_half, ask_pairs, update, mask_one, mark, forget, move_behind_mark,
+    mask_behind_mark, regroup_behind_mark, update, mark, remove_behind_mark, add_behind_mark, ask_pairs, update, ask, back, ask_pairs, ask,
+    back, update, see, ask, meet, empty, update
+};
 enum { STEPS = sizeof steps / sizeof *steps };
 
 /* One run, with one request refused or none. */
