@@ -235,11 +235,11 @@ typedef struct pw_near {
     pw_point at;
 } pw_near;
 
-/* Where a ray or a moved box meets a box. It is met at the place `num / den` of the way, exactly: at 0 where the way begins, and
- * at 1 where it ends, which a ray goes on past. `num` is at least 0 and `den` at least 1. `axis` is 0, 1 or 2 and `side` PW_LOWER or
- * PW_UPPER: the box is entered there by its side that the way comes from. If it comes to several sides at one place it is the one of
- * the lowest axis. A way that begins on a side and goes in there has that side. If it begins in the box and comes in by no side, `axis`
- * is PW_NO_AXIS and `side` 0. */
+/* Where a ray or a moved box meets a box: at the place `num / den` of the way, exactly. That is 0 where the way begins, and 1 where it
+ * ends, which a ray goes on past. The fraction need not be in lowest terms. `num` is at least 0 and `den` at least 1. `axis` is 0, 1 or 2
+ * and `side` PW_LOWER or PW_UPPER: the box is entered there by its side that the way comes from. If it comes to several sides at one
+ * place it is the one of the lowest axis. A way that begins on a side and goes in there has that side. If it begins in the box and comes
+ * in by no side, `axis` is PW_NO_AXIS and `side` 0. */
 typedef struct pw_hit {
     pw_handle handle;
     int64_t num, den;

@@ -202,7 +202,7 @@ class Live(NamedTuple):
 class Hit(NamedTuple):
     """Where a ray or a moved box meets a box.
 
-    It is met at the place `num / den` of the way, exactly: at 0 where the way begins, and at 1 where it ends, which a ray goes on past.
+    The box is met at the place `num / den` of the way, exactly: at 0 where it begins, and at 1 where it ends, which a ray goes on past.
     `axis` (0 to 2) and `side` are those of the side by which it is entered, of the lowest axis if there are several. They are None if
     the way begins in the box and comes in by no side.
     """

@@ -413,8 +413,8 @@ pub enum Side {
     Upper,
 }
 
-/// Where a ray or a moved box meets a box. It is met at the place `num / den` of the way, exactly: at 0 where the way begins, and
-/// at 1 where it ends, which a ray goes on past.
+/// Where a ray or a moved box meets a box: at the place `num / den` of the way, exactly. That is 0 where the way begins, and 1 where it
+/// ends, which a ray goes on past.
 #[repr(C)]
 #[derive(Clone, Copy, Debug, PartialEq, Eq, Hash)]
 pub struct Hit {
