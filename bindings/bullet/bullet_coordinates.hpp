@@ -72,9 +72,12 @@ public:
     }
     static bool is_cut(const Way& way) { return way.parts == 0 || way.enter > 0 || way.leave < 1; }
 
-    pw_cast cast(const Way& way, int part, const btVector3& low, const btVector3& high) const {
-        double enter = way.enter + (way.leave - way.enter) * part / way.parts;
-        double leave = way.enter + (way.leave - way.enter) * (part + 1) / way.parts;
+    // Where on the way a part begins.
+    static double enters(const Way& way, int part) { return way.enter + (way.leave - way.enter) * part / way.parts; }
+
+    // A part of the way, or what lies before `end` of it.
+    pw_cast cast(const Way& way, int part, const btVector3& low, const btVector3& high, double end = 1) const {
+        double enter = enters(way, part), leave = std::max(enter, std::min(enters(way, part + 1), end));
         int32_t lo[3], hi[3], by[3];
         for (int axis = 0; axis < 3; axis++) {
             double first = std::nearbyint((way.start[axis] + way.by[axis] * enter) * unit);
@@ -143,6 +146,21 @@ inline bool is_reached(const btVector3& from, const btVector3& low, const btVect
     }
     // A direction without a part on an axis has a huge inverse, by which a touch would be a far one.
     return enter <= double(ray.m_lambda_max) * 1.0001 + 0.001 || enter > 1e9;
+}
+
+// How much of the way from `from` to `to` its callback leaves a ray, with more room for rounding than `is_reached` has. It is 1, for all
+// of it, also if the callback's direction isn't that of the way.
+inline double part_that_is_left(const btVector3& from, const btVector3& to, const btBroadphaseRayCallback& ray) {
+    double reach = double(ray.m_lambda_max) * 1.0002 + 0.002, left = 0;
+    bool is_long = false;
+    for (int axis = 0; axis < 3; axis++) {
+        double by = double(to[axis]) - from[axis], length = by * double(ray.m_rayDirectionInverse[axis]);
+        if (by == 0) continue;
+        if (!(length > 0)) return 1;
+        left = std::max(left, reach / length);
+        is_long = true;
+    }
+    return is_long ? std::min(left, 1.0) : 1;
 }
 
 }  // namespace pungwelair

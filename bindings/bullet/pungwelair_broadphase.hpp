@@ -122,23 +122,39 @@ public:
     }
 
     // The box that Bullet sweeps, or a point, moved from `from` to `to`: a cast in raw units, some raw units wider than all that is
-    // rounded on the way. The callback is called in the order in which boxes are met, and may shorten the ray by `m_lambda_max`.
+    // rounded on the way. The callback is called in the order in which boxes are met, and may shorten the ray by `m_lambda_max`. Mostly it
+    // does so at the first box. So the library is asked for that one alone, and then for what is left of the way.
     void rayTest(const btVector3& from, const btVector3& to, btBroadphaseRayCallback& callback, const btVector3& low,
                  const btVector3& high) override {
         // A long way is cast by parts, and a box may be met by two of them.
         std::unordered_set<int> called;
         BulletCoordinates::Way way = coordinates.way(from, to, low, high);
+        // The callback may make proxies, and the library is asked again behind it.
+        const int newest = last_id;
+        bool is_heard = false;
         auto each = [&](Proxy& proxy) {
-            if (!may_meet(from, to, low, high, proxy) || !is_reached(from, low, high, proxy, callback)) return;
+            if (proxy.m_uniqueId > newest || !may_meet(from, to, low, high, proxy) || !is_reached(from, low, high, proxy, callback)) return;
             if (way.parts > 1 && !called.insert(proxy.m_uniqueId).second) return;
+            is_heard = true;
             callback.process(&proxy);
         };
         bool is_in_casts = way.is_whole && (at_rim == 0 || !BulletCoordinates::is_cut(way));
         if (flush() != Status::ok || !is_in_casts) return ask_all(each);
-        for (int part = 0; part < way.parts; part++) {
-            pw_cast cast = coordinates.cast(way, part, low, high);
-            ask([&](std::vector<pw_handle>& found) { return world.cast_hits(cast, found); }, each);
+        const btScalar whole = callback.m_lambda_max;
+        auto left = [&] { return callback.m_lambda_max < whole ? part_that_is_left(from, to, callback) : 1; };
+        for (int part = 0; part < way.parts && coordinates.enters(way, part) <= left(); part++) {
+            auto cast = [&] { return coordinates.cast(way, part, low, high, left()); };
+            int first = 0;
+            if (rays_end_early) {
+                auto hit = world.try_cast_first(cast());
+                if (hit && !*hit) continue;
+                if (hit) first = call_for((**hit).handle, each);
+            }
+            ask([&](std::vector<pw_handle>& found) { return world.cast_hits(cast(), found); }, [&](Proxy& proxy) {
+                if (proxy.m_uniqueId != first) each(proxy);
+            });
         }
+        if (is_heard) rays_end_early = callback.m_lambda_max < whole;
     }
 
     void aabbTest(const btVector3& low, const btVector3& high, btBroadphaseAabbCallback& callback) override {
@@ -199,6 +215,7 @@ private:
     bool is_changed = true;      // since the last update
     bool is_stale = false;       // the cache may have pairs that an earlier world told
     bool is_refiltered = false;  // the cache may have pairs that its filter refuses now
+    bool rays_end_early = true;  // the last callback shortened its ray. Bullet's own don't, and asking for the first alone costs them
 
     void refuse(Status status, void* object = nullptr) {
         if (options.refused) options.refused(status, object);
@@ -410,16 +427,31 @@ private:
         cache->processAllOverlappingPairs(&dropped, dispatcher);
     }
 
+    // While callbacks run, which may ask in rooms of their own and open no world anew.
+    struct Deeper {
+        std::size_t& depth;
+        explicit Deeper(std::size_t& depth) : depth(depth) { depth++; }
+        ~Deeper() { depth--; }
+    };
+
+    // Calls for the proxy of a handle, and tells its number, which none has after it.
+    template <class Each>
+    int call_for(pw_handle handle, Each&& each) {
+        Deeper deeper(depth);
+        Proxy* proxy = proxy_of(handle);
+        if (!proxy) return 0;
+        int id = proxy->m_uniqueId;
+        each(*proxy);
+        return id;
+    }
+
     // Asks into a room of this depth, and calls for each proxy found that is still there when its turn comes. For want of memory it calls
     // for all, so whom it calls for is tested there.
     template <class Question, class Each>
     void ask(Question&& question, Each&& each) {
-        struct Deeper {
-            std::size_t& depth;
-            ~Deeper() { depth--; }
-        } deeper{depth};
-        std::size_t room = depth++;
-        if (rooms.size() <= room) rooms.emplace_back(PW_SLOTS);
+        std::size_t room = depth;
+        Deeper deeper(depth);
+        while (rooms.size() <= room) rooms.emplace_back(PW_SLOTS);
         Count count = question(rooms[room]);
         if (count.status != Status::ok) return ask_all(each);
         for (std::size_t k = 0; k < count.count; k++)

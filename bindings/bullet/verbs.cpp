@@ -101,6 +101,15 @@ double meets_at(const btVector3& from, const btVector3& to, const btVector3& low
     return enter <= leave ? double(enter) : 2;
 }
 
+// Of boxes that are called for in order each may be met before the one behind it, with what casts are wider.
+void expect_order(const Ray& ray, const btVector3& from, const btVector3& to, const btVector3& low, const btVector3& high, double wider,
+                  const char* name, int number) {
+    for (std::size_t n = 1; n < ray.met.size(); n++) {
+        double before = meets_at(from, to, low, high, ray.met[n - 1], wider), behind = meets_at(from, to, low, high, ray.met[n], -wider);
+        expect(before <= behind + 1e-9, name, "boxes are called for in the order in which they are met", number);
+    }
+}
+
 // Rays of one kind, in a world of one kind.
 struct RayCase {
     const char* name;
@@ -160,7 +169,7 @@ void cast(const RayCase& c, Structure structure) {
     if (c.is_scaled) options.scale = 0.01, options.origin = btVector3(40000, 0, 0), away = btVector3(41000, 0, 0);
     BulletBroadphase ours(structure, options);
     Boxes boxes(ours);
-    Crowd crowd;
+    Crowd crowd, cuts;
     for (int k = 0; k < 200; k++) {
         btVector3 low = crowd.place(c.room) + away;
         boxes.add(low, low + crowd.place(c.size));
@@ -185,6 +194,9 @@ void cast(const RayCase& c, Structure structure) {
         ours.rayTest(from, to, ray, low, high);
         std::set<const btBroadphaseProxy*> called(ray.met.begin(), ray.met.end());
         expect(called.size() == ray.met.size(), c.name, "a box is called for once", k);
+        // Not if all boxes are tested: from very far, with a box that is swept and has no way in the range, or if some stand at its rim.
+        bool is_in_order = from.length() < 1e9f && c.swept < 30000 && !c.has_plane && c.room + c.size < 32000;
+        if (is_in_order) expect_order(ray, from, to, low, high, wider, c.name, k);
         btBroadphaseProxy* nearest = nullptr;
         double least = 2;
         for (auto* proxy : boxes.proxies) {
@@ -205,6 +217,17 @@ void cast(const RayCase& c, Structure structure) {
             double at = meets_at(from, to, low, high, short_ray.met[n], wider);
             expect(at * length <= short_ray.left[n] * 1.001 + 0.01, c.name, "a ray that is shortened isn't called beyond its end", k);
         }
+        // The callback shortens the ray at the first box, to somewhere behind it.
+        Ray cut_ray(from, to);
+        double first_at = nearest ? least : 0, cut_at = length * (first_at + (1 - first_at) * double(cuts.part(1)));
+        cut_ray.then = [&](Ray& it, const btBroadphaseProxy*) { it.m_lambda_max = std::min(it.m_lambda_max, btScalar(cut_at)); };
+        ours.rayTest(from, to, cut_ray, low, high);
+        std::set<const btBroadphaseProxy*> left(cut_ray.met.begin(), cut_ray.met.end());
+        expect(left.size() == cut_ray.met.size(), c.name, "a box is called for once by a ray that is cut", k);
+        if (is_in_order) expect_order(cut_ray, from, to, low, high, wider, c.name, k);
+        for (auto* proxy : ray.met)
+            if (meets_at(from, to, low, high, proxy) * length < cut_at * 0.999 - 0.01)
+                expect(left.count(proxy) == 1, c.name, "no box before the end of a ray that is cut is lost", k);
         bool is_found = !nearest || std::count(short_ray.met.begin(), short_ray.met.end(), nearest) == 1 ||
                         least * length > short_ray.m_lambda_max * 0.999 - 0.01;
         expect(is_found, c.name, "the first that is met is called for, however the ray is shortened", k);
@@ -268,15 +291,26 @@ void within(Structure structure) {
     broadphase.aabbTest(low, high, outer);
     expect(outer.ids == std::multiset<int>{1, 2, 3, 4, 5, 6}, name, "the first question finds all");
 
-    // The first that is called for destroys the next two, and another takes a slot of theirs.
+    // A ray that ends earlier, so that the next one asks for the first box alone.
+    {
+        Ray early(from, to);
+        early.then = [](Ray& it, const btBroadphaseProxy*) { it.m_lambda_max = btScalar(17.5); };
+        broadphase.rayTest(from, to, early, point, point);
+        expect(early.met.size() == 5, name, "a ray of half the length doesn't meet the last box");
+    }
+
+    // The first that is called for destroys the next two, and others come, one of them into the way, which take their slots.
     Ray ray(from, to);
     ray.then = [&](Ray& it, const btBroadphaseProxy*) {
         if (it.met.size() > 1) return;
         for (int k = 0; k < 2; k++) broadphase.destroyProxy(boxes.proxies[1], nullptr), boxes.proxies.erase(boxes.proxies.begin() + 1);
         boxes.add(btVector3(60, 60, 60), btVector3(61, 61, 61));
+        boxes.add(btVector3(4, -1, -1), btVector3(5, 1, 1));
     };
     broadphase.rayTest(from, to, ray, point, point);
     expect(ray.met.size() == 4, name, "none that is gone or came since is called for");
+    broadphase.destroyProxy(boxes.proxies.back(), nullptr);
+    boxes.proxies.pop_back();
     // As over the whole list, which a ray of this length takes.
     Ray far_ray(btVector3(-1e12f, 0, 0), to);
     far_ray.then = [&](Ray& it, const btBroadphaseProxy* proxy) {
@@ -287,6 +321,39 @@ void within(Structure structure) {
     };
     broadphase.rayTest(btVector3(-1e12f, 0, 0), to, far_ray, point, point);
     expect(far_ray.met.size() >= 3 && boxes.proxies.size() == 4, name, "a box that goes costs no other its call");
+}
+
+// A row of boxes one behind the other, and rays that end at the first. The callback hears of few, and of the one that dbvt finds nearest.
+void wall(Structure structure) {
+    const char* name = "a wall of 500 boxes";
+    BulletBroadphase ours(structure);
+    btDbvtBroadphase theirs;
+    Boxes boxes(ours), others(theirs);
+    for (int k = 0; k < 500; k++) {
+        btVector3 low(btScalar(k * 2), -50, -50), high(btScalar(k * 2 + 1), 50, 50);
+        boxes.add(low, high), others.add(low, high);
+    }
+    const btVector3 ways[][2] = {{btVector3(-9, 0, 0), btVector3(1200, 0, 0)}, {btVector3(1200, 3, 1), btVector3(-9, 0, 0)},
+                                 {btVector3(-9, -40, 7), btVector3(1200, 40, 9)}, {btVector3(501.5f, 0, 0), btVector3(-2000, 1, 2)},
+                                 {btVector3(400.5f, 0, 0), btVector3(900, 0, 3)}, {btVector3(-90000, 0, 0), btVector3(90000, 0, 0)}};
+    for (const auto& way : ways) {
+        auto closest = [&](btBroadphaseInterface& asked, const std::vector<btBroadphaseProxy*>& proxies, std::size_t& calls) {
+            Ray ray(way[0], way[1]);
+            const btBroadphaseProxy* nearest = nullptr;
+            double length = (way[1] - way[0]).length(), least = 2;
+            ray.then = [&](Ray& it, const btBroadphaseProxy* proxy) {
+                double at = meets_at(way[0], way[1], point, point, proxy);
+                if (at < least) least = at, nearest = proxy, it.m_lambda_max = btScalar(at * length);
+            };
+            asked.rayTest(way[0], way[1], ray, point, point);
+            calls = ray.met.size();
+            return std::find(proxies.begin(), proxies.end(), nearest) - proxies.begin();
+        };
+        std::size_t calls, calls_there;
+        auto hit = closest(ours, boxes.proxies, calls), hit_there = closest(theirs, others.proxies, calls_there);
+        expect(hit == hit_there && hit < 500, name, "the nearest is that of dbvt", int(hit));
+        expect(calls <= 6 && calls_there > 100, name, "few are called for", int(calls));
+    }
 }
 
 // Boxes far out: by origin and scale they have the pairs that meet and no other; at the rim no pair is lost.
@@ -458,6 +525,7 @@ int main() {
         for (const RayCase& c : ray_cases) cast(c, structure);
         regions(structure);
         within(structure);
+        wall(structure);
         far_out(structure);
         wrong_boxes(structure);
     }
