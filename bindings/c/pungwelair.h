@@ -44,7 +44,7 @@ extern "C" {
 /* The version, for #if and as a text. The shared library's soname has the major number: for a program that is linked already,
  * another major number is another library. */
 #define PW_VERSION_MAJOR 0
-#define PW_VERSION_MINOR 3
+#define PW_VERSION_MINOR 4
 #define PW_VERSION_PATCH 0
 #define PW_VERSION_QUOTED(major, minor, patch) #major "." #minor "." #patch
 #define PW_VERSION_OF(major, minor, patch) PW_VERSION_QUOTED(major, minor, patch)
