@@ -1,9 +1,9 @@
 -- Masks of boxes that pass a test, and the places of their bits.
-use Rattle.std.proofs.Common.{◌≡◌, ℕ, zero, suc, ◌+◌, ◌*◌, ◌/◌, ◌%◌, ◌^◌, ◌<◌, ◌≤◌, ◌==◌, ℤ, Bool, true, false, cond, List, [], ◌∷◌, ◌++◌, length}
+use Rattle.std.proofs.Common.{◌≡◌, ℕ, zero, suc, ◌+◌, ◌-◌, ◌*◌, ◌/◌, ◌%◌, ◌^◌, ◌<◌, ◌≤◌, ◌==◌, ℤ, Bool, true, false, cond, List, [], ◌∷◌, ◌++◌, length}
 use Rattle.std.proofs.Common.{map, filter, take, drop, All, w32, of_z, refl, ap, sym, ◌∙◌, arith, lit<, pow-suc}
 use Rattle.std.proofs.Common.{length-take, length-drop}
 use Rattle.std.specs.Simd.Lanes.{zip2, mask_l, top}
-use Rattle.std.proofs.lemmas.List.{drop-drop, length-map, take_all}
+use Rattle.std.proofs.lemmas.List.{append_assoc, append_cancel_right, drop-drop, length-map, take_all}
 use Rattle.std.proofs.lemmas.List.Elements.{All-nil, All-cons, All-weaker}
 use Rattle.std.proofs.lemmas.Simd.{mask_l-lt, mask_l-mod}
 use Rattle.std.proofs.Math.Nat.{pow-le-pow_right}
@@ -11,7 +11,7 @@ use mir.Val.{bool_byte}
 use Rattle.fixed_box.specs.Bounds.{Bounds, meets}
 use Rattle.lane_boxes.specs.declared.span.Span.{Span}
 use Rattle.lane_boxes.specs.Bits.{set_places}
-use Rattle.lane_boxes.specs.Places.{placed, places, next_eight}
+use Rattle.lane_boxes.specs.Places.{IsScanned, placed, places, next_eight}
 use Rattle.lane_boxes.specs.Spans.{boxes_of, crosses, lane, x_of, y_of, z_of}
 use Rattle.lane_boxes.proofs.BoxLists.{next_meet}
 use Rattle.lane_boxes.proofs.Crossing.{both, from_lanes, lane_and, and_lanes, tops}
@@ -172,3 +172,20 @@ module _ (test : Bounds → Bool) where
       (λ k (s : k < at + length (take 8 (drop at boxes))). omega (arith, length-take 8 (drop at boxes), length-drop at boxes))
       (places test at (take 8 (drop at boxes)))
       (places_within at (take 8 (drop at boxes))))
+
+  -- what a scan appended, where that and the places from an end on are all
+  pub scanned : (from to end : ℕ) (boxes : List Bounds) (old new : List ℕ) → from ≤ end → to ≤ end → end < to + 8
+      → new ++ places test end (drop end boxes) ≡ old ++ places test from (drop from boxes) → IsScanned test from to boxes old new
+  scanned from to end boxes old new after reached near whole =
+      let n : from + (end - from) ≡ end = omega arith in
+      let first = places test from (take (end - from) (drop from boxes)) in
+      let rest : places test (from + (end - from)) (drop (end - from) (drop from boxes)) ≡ places test end (drop end boxes) =
+      ap (places test (from + (end - from))) (drop-drop (end - from) from boxes ∙ ap (λ k. drop k boxes) n) ∙ ap (λ k. places test k (drop end boxes)) n in
+      record {
+        end = end;
+        reached = reached;
+        near = near;
+        found = append_cancel_right new (old ++ first) (places test end (drop end boxes))
+            (whole ∙ ap (λ l. old ++ l) (places_split (end - from) from (drop from boxes) ∙ ap (λ l. first ++ l) rest)
+            ∙ sym (append_assoc old first (places test end (drop end boxes))));
+      }

@@ -3,7 +3,7 @@
 ghost use Rattle.std.specs.Prelude.{◌≡◌, ◌≢◌, ℕ, ◌+◌, ◌-◌, ◌<◌, ◌≤◌, ◌^◌, [], ◌∷◌, ◌++◌, OnOk, OnErr, length, take, drop, vec_len};
 ghost use Rattle.std.specs.Prelude.{insert, remove, swap_remove, slice_set, slice_index_or};
 ghost use Rattle.fixed_box.specs.Bounds.{Bounds, meets, holds};
-ghost use Rattle.lane_boxes.specs.Places.{places, next_eight};
+ghost use Rattle.lane_boxes.specs.Places.{IsScanned, places, next_eight};
 
 use crate::LANES;
 use crate::axis_columns::AxisColumns;
@@ -207,8 +207,25 @@ impl Columns {
         ensures ok { OnOk result (out.new.items ≡ out.old.items ++ places (meets body.now) from (drop from self.now.boxes)) }
         ensures err { OnErr result (out.new.items ≡ out.old.items) }
     {
+        self.scan_between(from, self.len(), body, out)
+    }
+
+    /// The same from a place on and below another, by whole eights: up to seven later ones may be among them.
+    pub fn scan_between(
+        &self,
+        from: usize,
+        to: usize,
+        body: &FBox,
+        out: &mut Vec<u32>,
+    ) -> Result<(), NoMemory>
+        requires few { length self.now.boxes < 2 ^ 32 }
+        requires within { from ≤ to }
+        requires end { to ≤ length self.now.boxes }
+        ensures ok { OnOk result (IsScanned (meets body.now) from to self.now.boxes out.old.items out.new.items) }
+        ensures err { OnErr result (out.new.items ≡ out.old.items) }
+    {
         let before = out.len();
-        let scanned = self.push_overlaps(from, body, out);
+        let scanned = self.push_overlaps(from, to, body, out);
         if scanned.is_err() {
             out.truncate(before);
         }
@@ -253,38 +270,55 @@ impl Columns {
         mask
     }
 
-    // The first place, by eights from one on, whose next eight boxes have one that overlaps, with their mask. It is the
-    // loop of a scan, and keeps all it compares with in registers.
-    fn next_mask(&self, from: usize, body: &FBox) -> (usize, u8)
-        requires { from ≤ length self.now.boxes }
+    // The first place, by eights from one on and below an end, whose next eight boxes have one that overlaps, with their mask; or one
+    // that isn't below the end. It is the loop of a scan, and keeps all it compares with in registers.
+    fn next_mask(&self, from: usize, to: usize, body: &FBox) -> (usize, u8)
+        requires within { from ≤ to }
+        requires end { to ≤ length self.now.boxes }
         ensures later { from ≤ result.0 }
+        ensures near { result.0 < to + 8 }
         ensures bound { result.0 ≤ length self.now.boxes }
-        ensures mask { result.1 ≡ next_eight (meets body.now) result.0 self.now.boxes }
+        ensures mask { result.0 < to → result.1 ≡ next_eight (meets body.now) result.0 self.now.boxes }
         ensures passed { places (meets body.now) from (drop from self.now.boxes) ≡ places (meets body.now) result.0 (drop result.0 self.now.boxes) }
     {
-        let len = self.len();
+        // before it there are eight boxes more
+        let last = to.min(self.len().saturating_sub(LANES - 1));
         let mut at = from;
-        'eights: while len - at >= LANES {
+        'eights: while at < last {
             let mask = self.full_mask(at, body);
             if mask != 0 {
                 return (at, mask);
             }
             at += LANES;
         }
-        (at, self.tail_mask(at, body))
+        if at < to {
+            (at, self.tail_mask(at, body))
+        } else {
+            (at, 0)
+        }
     }
 
-    // Appends the places from one on whose boxes overlap one. What was there stays, after an `Err` too.
-    fn push_overlaps(&self, from: usize, body: &FBox, out: &mut Vec<u32>) -> Result<(), NoMemory>
+    // Appends the places from one on and below another whose boxes overlap one, and maybe up to seven later ones. What was there
+    // stays, after an `Err` too.
+    fn push_overlaps(
+        &self,
+        from: usize,
+        to: usize,
+        body: &FBox,
+        out: &mut Vec<u32>,
+    ) -> Result<(), NoMemory>
         requires few { length self.now.boxes < 2 ^ 32 }
-        requires within { from ≤ length self.now.boxes }
-        ensures ok { OnOk result (out.new.items ≡ out.old.items ++ places (meets body.now) from (drop from self.now.boxes)) }
+        requires within { from ≤ to }
+        requires end { to ≤ length self.now.boxes }
+        ensures ok { OnOk result (IsScanned (meets body.now) from to self.now.boxes out.old.items out.new.items) }
         ensures kept { take (vec_len out.old) out.new.items ≡ out.old.items }
     {
-        let len = self.len();
         let mut at = from;
-        'hits: while at < len {
-            let (block, mask) = self.next_mask(at, body);
+        'hits: while at < to {
+            let (block, mask) = self.next_mask(at, to, body);
+            if block >= to {
+                return Ok(());
+            }
             push_places(mask, block, out)?;
             at = block + LANES;
         }

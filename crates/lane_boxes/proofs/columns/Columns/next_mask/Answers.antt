@@ -10,6 +10,7 @@ eights-preserved c =
     let none = sym c.full_mask-mask.ensures ∙ empty in
     record {
       later = omega arith;
-      within = omega (arith, c.len-len.ensures);
+      within = omega (arith, c.len.ensures);
+      near = omega arith;
       passed = c.eights.invariant.passed ∙ sym (empty_mask (meets c.args.body.now) c.eights.at c.args.self.now.boxes none);
     }
