@@ -3,3 +3,4 @@ mod KeptLemmas
 mod ListedLemmas
 mod RingLemmas
 mod RowLemmas
+mod TurnedRings

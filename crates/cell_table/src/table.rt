@@ -150,7 +150,8 @@ impl CellTable {
         ensures starts { AreStarts starts.new (take result slots.new) }
         ensures slots { Lists self.now (record { starts = starts.new; slots = take result slots.new }) }
     {
-        put_rings(&self.next, starts, slots)
+        // a slot that comes is linked in front, so backward they stand in the order in which they came
+        put_rings(&self.prev, starts, slots)
     }
 
     /// Appends the slots whose keys have a level, rising, by a walk over all slots. After `NoMemory` `out` is as before.
