@@ -1,15 +1,16 @@
 -- Columns of boxes through changes: lists whose last element takes another's place, and numbers that differ in a list.
 use Rattle.std.proofs.Common.{◌≡◌, ◌≢◌, ℕ, zero, suc, ◌+◌, ◌-◌, ◌<◌, ◌≤◌, Bool, true, false, cond, ◌||◌, ◌==◌, map, List, [], ◌∷◌, ◌++◌, length}
-use Rattle.std.proofs.Common.{get_or, set, refl, sym, ap, ◌∙◌, arith, inl, inr}
+use Rattle.std.proofs.Common.{get_or, set, take, drop, slice_index, length-take, length-drop, refl, sym, ap, ◌∙◌, arith, inl, inr}
 use Rattle.std.specs.List.{IsDistinct, AllByRecursion, list_any, swap_remove, filter}
-use Rattle.std.proofs.lemmas.List.{get_or-set_same, get_or-set_other, length-set, length-take-le, get_or-take}
+use Rattle.std.proofs.lemmas.List.{get_or-set_same, get_or-set_other, length-set, length-take-le, get_or-take, get_or-drop}
 use Rattle.std.proofs.lemmas.Map.Steps.{length-le_from_distinct_below}
 use Rattle.std.proofs.lemmas.Bool.{or_cases, false≢true}
 use Rattle.std.proofs.lemmas.Bool.Decides.{eqb_tells, nat_tests}
 use Rattle.fixed_box.specs.Bounds.{Bounds}
-use Rattle.lane_boxes.specs.Places.{placed, places}
+use Rattle.lane_boxes.specs.Places.{IsScanned, placed, places}
 use Rattle.broad_index.specs.Members.{has_slot}
-use Rattle.grid_boxes.specs.Leveled.{SlotColumns, blank, no_columns, columns_at}
+use Rattle.grid_cells.specs.AppendLaws.{put_behind}
+use Rattle.grid_boxes.specs.Leveled.{HasScanned, Listed, blank}
 use lib.Dec.{eqb}
 
 module _ {X : Type 0} where
@@ -73,24 +74,6 @@ few f n s xs sl below at other =
     within zero l = sl
     within (suc i) l = below i (omega arith)
 
--- ---- columns in a list
-pub all_columns : (Q : SlotColumns → Type 0) → Q no_columns → (levels : List SlotColumns) (columns : SlotColumns) → ((level : ℕ)
-    → Q (columns_at levels level)) → Q columns
-    → (level : ℕ) → Q (columns_at (levels ++ columns ∷ []) level)
-all_columns Q none [] columns h q zero = q
-all_columns Q none [] columns h q (suc k) = none
-all_columns Q none (r ∷ rs) columns h q zero = h 0
-all_columns Q none (r ∷ rs) columns h q (suc k) = all_columns Q none rs columns (λ l. h (suc l)) q k
-
-pub low_columns : (Q : SlotColumns → Type 0) (levels : List SlotColumns) (columns : SlotColumns) → ((level : ℕ) → level < length levels
-    → Q (columns_at levels level))
-    → Q columns
-    → (level : ℕ) → level < length levels + 1 → Q (columns_at (levels ++ columns ∷ []) level)
-low_columns Q [] columns h q zero lt = q
-low_columns Q [] columns h q (suc k) lt = absurd (omega arith)
-low_columns Q (r ∷ rs) columns h q zero lt = h 0 (omega arith)
-low_columns Q (r ∷ rs) columns h q (suc k) lt = low_columns Q rs columns (λ l i. h (suc l) (omega arith)) q k (omega arith)
-
 -- ---- places of boxes that pass a test
 pub place_in : (test : Bounds → Bool) (from k : ℕ) (boxes : List Bounds) → k < length boxes → test (get_or boxes k blank) ≡ true
     → has_slot (places test from boxes) (from + k) ≡ true
@@ -127,3 +110,27 @@ image_in f (y ∷ ys) x h = elim (or_cases (x == y) (has_slot ys x) h) as (λ _.
     or_true : (b : Bool) → (b || true) ≡ true
     or_true true = refl
     or_true false = refl
+
+-- What a scan found, with the slots in the stead of the places.
+pub found : (listed : Listed) (test : Bounds → Bool) (from to : ℕ) (old scanned new : List ℕ) → to ≤ length listed.boxes
+    → IsScanned test from to listed.boxes old scanned
+    → new ≡ take (length old) scanned ++ map (slice_index listed.slots) (drop (length old) scanned)
+    → HasScanned listed test from to old new
+found listed test from to old scanned new bound is put =
+    let at = places test from (take (is.end - from) (drop from listed.boxes)) in
+    record {
+      slots = map (slice_index listed.slots) at;
+      appended = put ∙ put_behind (slice_index listed.slots) old scanned at (length old) refl is.found;
+      has = λ place after before passes.
+          let k = place - from in
+          let sum : from + k ≡ place = omega arith in
+          let r = is.reached in
+          let body : get_or (take (is.end - from) (drop from listed.boxes)) k blank ≡ get_or listed.boxes place blank =
+          get_or-take (is.end - from) (drop from listed.boxes) k blank (omega arith)
+          ∙ get_or-drop from listed.boxes k blank
+          ∙ ap (λ n. get_or listed.boxes n blank) sum in
+          let there : has_slot at place ≡ true = ap (has_slot at) (sym sum)
+          ∙ place_in test from k (take (is.end - from) (drop from listed.boxes))
+          (omega (arith, length-take (is.end - from) (drop from listed.boxes), length-drop from listed.boxes)) (ap test body ∙ passes) in
+          image_in (slice_index listed.slots) at place there;
+    }

@@ -3,6 +3,6 @@ mod ColumnLemmas
 mod CopyLemmas
 mod GridLemmas
 mod HullLemmas
-mod LeveledLemmas
 mod MapLemmas
+mod PoolLemmas
 mod StandingLemmas

@@ -9,11 +9,12 @@ mod bucket_boxes;
 mod floor;
 mod grid_boxes;
 mod hull;
-mod level_columns;
+mod level_pool;
 mod leveled_boxes;
 mod merged_cells;
 mod row_lens;
 mod slot_box;
+mod slot_columns;
 mod standing_cells;
 
 pub use box_copies::{BoxCopies, PACKED};

@@ -1,6 +1,6 @@
 -- What is left to put and what was put make the whole.
 use Rattle.std.proofs.Common.{◌≡◌, ◌≤◌, ◌-◌, ◌++◌, length, take, drop, map, slice_index}
-use Rattle.grid_boxes.proofs.level_columns.put_slots.Given as goal
+use Rattle.grid_boxes.proofs.slot_columns.put_slots.Given as goal
 
 abbrev pub invariant-items : goal.invariant-items
 invariant-items l = record {

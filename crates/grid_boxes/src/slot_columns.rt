@@ -1,45 +1,44 @@
-//! The boxes of one level in columns for vector lanes, beside their slots.
+//! Boxes in columns for vector lanes, beside their slots.
 
-ghost use Rattle.std.specs.Prelude.{◌≡◌, ◌+◌, ◌-◌, ◌<◌, ◌≤◌, ◌^◌, [], ◌∷◌, ◌++◌, IfOk, OnOk, OnErr};
+ghost use Rattle.std.specs.Prelude.{◌≡◌, ◌+◌, ◌<◌, ◌≤◌, ◌^◌, [], ◌∷◌, ◌++◌, IfOk, OnOk, OnErr};
 ghost use Rattle.std.specs.Prelude.{drop, length, map, slice_index, slice_set, swap_remove, take, vec_len};
 ghost use Rattle.fixed_box.specs.Bounds.{meets};
-ghost use Rattle.lane_boxes.specs.Places.{places};
-ghost use Rattle.grid_boxes.specs.Leveled.{blank};
+ghost use Rattle.grid_boxes.specs.Leveled.{HasScanned, blank};
 
 use fixed_box::{FBox, NoMemory, SLOTS};
 use lane_boxes::Columns;
 use std::alloc::Global;
 use std::marker::Model;
 
-/// The boxes of a level in columns, in any order, and at the same places their slots.
+/// Boxes in columns, in any order, and at the same places their slots, with room for one under each slot.
 #[derive(Drop)]
-pub(crate) struct LevelColumns {
+pub(crate) struct SlotColumns {
     columns: Columns,
     slots: Vec<u32>,
 }
 
-impl Model for LevelColumns {
+impl Model for SlotColumns {
     ghost use Rattle.std.specs.Prelude.{◌≤◌, vec_capacity};
     ghost use Rattle.fixed_box.specs.declared.TheConstants.{SLOTS};
-    ghost use Rattle.grid_boxes.specs.Leveled.{SlotColumns};
+    ghost use Rattle.grid_boxes.specs.Leveled.{Listed};
 
-    ghost Value = { SlotColumns };
+    ghost Value = { Listed };
 
     ghost view = { λ r. record { slots = r.slots.items; boxes = r.columns.boxes; spare = r.columns.spare } };
 
     ghost invariant = { λ r. SLOTS ≤ vec_capacity r.slots };
 }
 
-impl LevelColumns {
+impl SlotColumns {
     /// No box, and room for one under each slot.
-    pub(crate) fn new(alloc: Global) -> Result<LevelColumns, NoMemory>
+    pub(crate) fn new(alloc: Global) -> Result<SlotColumns, NoMemory>
         ensures slots { IfOk result (λ columns. columns.slots ≡ []) }
         ensures boxes { IfOk result (λ columns. columns.boxes ≡ []) }
         ensures room { IfOk result (λ columns. SLOTS ≤ columns.spare) }
     {
         let mut columns = Columns::new(alloc);
         columns.reserve(SLOTS as usize)?;
-        Ok(LevelColumns {
+        Ok(SlotColumns {
             columns,
             slots: Vec::with_capacity(alloc, SLOTS as usize)?,
         })
@@ -50,6 +49,14 @@ impl LevelColumns {
         ensures { result ≡ length self.now.slots }
     {
         self.slots.len()
+    }
+
+    /// The slot at a place.
+    pub(crate) fn slot_at(&self, place: usize) -> u32
+        requires { place < length self.now.slots }
+        ensures { result ≡ slice_index self.now.slots place }
+    {
+        self.slots[place]
     }
 
     /// Appends a box and its slot, where there is room.
@@ -65,7 +72,7 @@ impl LevelColumns {
     }
 
     /// Gives the slot at a place another box.
-    pub(crate) fn set(&mut self, place: usize, body: FBox)
+    pub(crate) fn set_body(&mut self, place: usize, body: FBox)
         requires { place < length self.old.boxes }
         ensures slots { self.new.slots ≡ self.old.slots }
         ensures boxes { self.new.boxes ≡ slice_set self.old.boxes place body }
@@ -74,30 +81,48 @@ impl LevelColumns {
         self.columns.set(place, body);
     }
 
-    /// Takes the box at a place out, puts the last one there, and answers its slot.
-    pub(crate) fn swap_out(&mut self, place: usize) -> u32
+    /// Puts a box and its slot at a place, in the stead of those there.
+    pub(crate) fn set(&mut self, place: usize, slot: u32, body: FBox)
         requires slot { place < length self.old.slots }
         requires body { place < length self.old.boxes }
-        ensures moved { result ≡ slice_index self.old.slots (length self.old.slots - 1) }
+        ensures slots { self.new.slots ≡ slice_set self.old.slots place slot }
+        ensures boxes { self.new.boxes ≡ slice_set self.old.boxes place body }
+        ensures spare { self.new.spare ≡ self.old.spare }
+    {
+        self.columns.set(place, body);
+        self.slots[place] = slot;
+    }
+
+    /// Takes the box at a place out, and puts the last one there.
+    pub(crate) fn swap_out(&mut self, place: usize)
+        requires slot { place < length self.old.slots }
+        requires body { place < length self.old.boxes }
         ensures slots { self.new.slots ≡ swap_remove self.old.slots place 0 }
         ensures boxes { self.new.boxes ≡ swap_remove self.old.boxes place blank }
         ensures spare { self.new.spare ≡ self.old.spare + 1 }
     {
-        let moved = self.slots[self.slots.len() - 1];
         self.columns.swap_out(place);
         self.slots.swap_remove(place);
-        moved
     }
 
-    /// Appends the slots whose boxes meet a region. After an `Err` `out` is as before.
-    pub(crate) fn push_meeting(&self, region: &FBox, out: &mut Vec<u32>) -> Result<(), NoMemory>
-        requires { length self.now.boxes < 2 ^ 32 }
-        ensures ok { OnOk result (out.new.items ≡ out.old.items ++ map (slice_index self.now.slots) (places (meets region.now) 0 self.now.boxes)) }
+    /// Appends the slots from one place on and below another whose boxes meet a region, and maybe some later ones. After an `Err`
+    /// `out` is as before.
+    pub(crate) fn push_meeting(
+        &self,
+        from: usize,
+        to: usize,
+        region: &FBox,
+        out: &mut Vec<u32>,
+    ) -> Result<(), NoMemory>
+        requires few { length self.now.boxes < 2 ^ 32 }
+        requires within { from ≤ to }
+        requires end { to ≤ length self.now.boxes }
+        ensures ok { OnOk result (HasScanned self.now (meets region.now) from to out.old.items out.new.items) }
         ensures err { OnErr result (out.new.items ≡ out.old.items) }
     {
         let before = out.len();
         // the places first, and then the slots in their stead
-        self.columns.scan(region, out)?;
+        self.columns.scan_between(from, to, region, out)?;
         put_slots(&self.slots, before, out);
         Ok(())
     }
