@@ -1,10 +1,10 @@
-//! The nearest boxes to a point over an index, with ties and squares.
+//! The nearest boxes to a point and to a box over an index, with ties and squares.
 
 ghost use Rattle.std.specs.FinMap as map;
 
 use broad_index::{BroadPhase, PlainIndex};
 use fixed_box::{FBox, Point, space_law};
-use near_boxes::{Bodies, Near, nearest, square};
+use near_boxes::{Bodies, Near, nearest, spot, square, square_apart};
 use std::test::Fail;
 
 // Raw units.
@@ -60,7 +60,7 @@ fn the_nearest_come_by_square_and_then_by_slot(rt: HostRuntime) -> Result<(), Fa
     index.add(0, bodies.first)?;
     index.add(1, bodies.second)?;
     index.add(2, bodies.third)?;
-    let middle = at(ONE / 2, ONE / 2, ONE / 2);
+    let middle = spot(&at(ONE / 2, ONE / 2, ONE / 2));
     let all = [
         Near { slot: 0, square: 0 },
         Near {
@@ -94,6 +94,25 @@ fn squares_may_have_more_than_64_bits(rt: HostRuntime) -> Result<(), Fail> {
     ] {
         let body = FBox::new(corner, corner).ok_or("a box")?;
         assert_eq!(rt; square(&lowest, &body), wanted);
+        assert_eq!(rt; square_apart(&body, &spot(&lowest)), wanted);
+    }
+    Ok(())
+}
+
+// Two crates that begin three units apart have a gap of two, whichever is asked about, and those that touch have none.
+#[test]
+fn gaps_are_measured_between_the_sides_that_face(rt: HostRuntime) -> Result<(), Fail> {
+    let first = crate_from(0).ok_or("a box")?;
+    for (x, wanted) in [
+        (0, 0),
+        (ONE, 0),
+        (-ONE, 0),
+        (3 * ONE, 1u128 << 34),
+        (-3 * ONE, 1u128 << 34),
+    ] {
+        let other = crate_from(x).ok_or("a box")?;
+        assert_eq!(rt; square_apart(&first, &other), wanted);
+        assert_eq!(rt; square_apart(&other, &first), wanted);
     }
     Ok(())
 }

@@ -9,9 +9,8 @@ use Rattle.std.specs.Cmp.{first_so, second_so}
 use Rattle.std.specs.FinMap.{FinMap, entries, get}
 use Rattle.std.proofs.lemmas.Bool.{eq-eqb, eqb-true, cases_Bool, false≢true, true≢false, ltb-true}
 use Rattle.std.proofs.lemmas.Bool.Decides.{nat_tests}
-use Rattle.fixed_box.specs.Bounds.{Bounds, meets}
+use Rattle.fixed_box.specs.Bounds.{Bounds, meets, fattened}
 use Rattle.fixed_box.specs.Space.{space}
-use Rattle.fixed_box.specs.declared.point.Point.{Point}
 use Rattle.slot_lists.specs.RisingLaws.{Tells, one_rising, filtered_rise}
 use Rattle.slot_lists.specs.Present.{present}
 use Rattle.broad_index.specs.Found.{found}
@@ -20,8 +19,8 @@ use Rattle.broad_index.specs.declared.query.Query.{Query}
 use Rattle.broad_index.specs.declared.query.Query.TheVariants.{Region}
 use Rattle.near_boxes.specs.declared.near.Near.{Near}
 use Rattle.near_boxes.specs.Bodies.{AreInSpace, AreAmong}
-use Rattle.near_boxes.specs.Nearest.{square, seen_from}
-use Rattle.near_boxes.specs.Within.{is_within, all_within, within_of, within, spot, cube, Reaches}
+use Rattle.near_boxes.specs.Nearest.{square_apart, seen_about}
+use Rattle.near_boxes.specs.Within.{is_within, all_within, within_of, within, Reaches}
 use Rattle.broad_index.specs.MapEntries.{Looked, looked_in, slots_up, has_slots}
 use Rattle.near_boxes.proofs.Reached.{near_meets, all_near}
 use Rattle.fixed_box.proofs.Bools.{and_false}
@@ -77,19 +76,19 @@ filtered f (x ∷ xs) = left_out f x xs (filter (λ k. is_some (f k)) xs) (filte
 
 -- ---- slots within a distance
 
-module _ (at : Point) (most : ℕ) where
+module _ (to : Bounds) (most : ℕ) where
   kept : (b : Bool) (n : Near) (xs ys : List Near) → xs ≡ ys → cons_option (cond b (Some n) None) xs ≡ cond b (n ∷ ys) ys
   kept true n xs ys e = ap (λ l. n ∷ l) e
   kept false n xs ys e = e
 
   filter_looked : (look : ℕ → Option Bounds) (es : List (ℕ × Bounds)) → Looked look es
-      → filter_map (λ k. within_of at most k (look k)) (map (λ e. e.0) es) ≡ filter (is_within most) (map (seen_from at) es)
+      → filter_map (λ k. within_of to most k (look k)) (map (λ e. e.0) es) ≡ filter (is_within most) (map (seen_about to) es)
   filter_looked look [] l = refl
   filter_looked look (e ∷ es) l =
-      ap (λ o. cons_option (within_of at most e.0 o) (filter_map (λ k. within_of at most k (look k)) (map (λ e. e.0) es))) l.0
-      ∙ kept (nat_le (square at e.1) most) (seen_from at e) _ _ (filter_looked look es l.1)
+      ap (λ o. cons_option (within_of to most e.0 o) (filter_map (λ k. within_of to most k (look k)) (map (λ e. e.0) es))) l.0
+      ∙ kept (nat_le (square_apart to e.1) most) (seen_about to e) _ _ (filter_looked look es l.1)
 
-  pub there : (k : ℕ) (o : Option Bounds) → is_some (within_of at most k o) ≡ true → is_some o ≡ true
+  pub there : (k : ℕ) (o : Option Bounds) → is_some (within_of to most k o) ≡ true → is_some o ≡ true
   there k None h = h
   there k (Some b) h = refl
 
@@ -102,33 +101,33 @@ module _ (at : Point) (most : ℕ) where
 
   module _ (bodies : FinMap nat_cmp Bounds) where
     -- Slots in order, among which are all whose boxes are within the distance, give these.
-    pub gathered : (slots : List ℕ) → slots_rise slots ≡ true → ((k : ℕ) → is_some (within bodies at most k) ≡ true → has_slot slots k ≡ true)
-        → filter_map (within bodies at most) slots ≡ all_within bodies at most
+    pub gathered : (slots : List ℕ) → slots_rise slots ≡ true → ((k : ℕ) → is_some (within bodies to most k) ≡ true → has_slot slots k ≡ true)
+        → filter_map (within bodies to most) slots ≡ all_within bodies to most
     gathered slots up have =
-        filtered (within bodies at most) slots
-        ∙ ap (filter_map (within bodies at most))
-        (same_passing (λ k. is_some (within bodies at most k)) slots (present bodies) up (slots_up bodies) have
+        filtered (within bodies to most) slots
+        ∙ ap (filter_map (within bodies to most))
+        (same_passing (λ k. is_some (within bodies to most k)) slots (present bodies) up (slots_up bodies) have
         (λ k h. has_slots bodies k (there k (get bodies k) h)))
-        ∙ sym (filtered (within bodies at most) (present bodies)) ∙ filter_looked (get bodies) (entries bodies) (looked_in bodies)
+        ∙ sym (filtered (within bodies to most) (present bodies)) ∙ filter_looked (get bodies) (entries bodies) (looked_in bodies)
 
-    -- The slots that an index finds by a cube are such.
-    covered : (index : FinMap nat_cmp Bounds) (half : ℕ) → meets space (spot at) ≡ true → AreInSpace bodies → AreAmong bodies index → Reaches half most
-        → (k : ℕ) → is_some (within bodies at most k) ≡ true → is_found index (Region (cube at half)) k ≡ true
-    covered index half here in_space among reaches k = by_box (get bodies k) refl
+    -- The slots that an index finds by the fattened box are such.
+    covered : (index : FinMap nat_cmp Bounds) (margin : ℕ) → meets space to ≡ true → AreInSpace bodies → AreAmong bodies index → Reaches margin most
+        → (k : ℕ) → is_some (within bodies to most k) ≡ true → is_found index (Region (fattened to margin)) k ≡ true
+    covered index margin here in_space among reaches k = by_box (get bodies k) refl
       where
-        by_box : (o : Option Bounds) → get bodies k ≡ o → is_some (within_of at most k o) ≡ true → meets_query (Region (cube at half)) (get index k) ≡ true
+        by_box : (o : Option Bounds) → get bodies k ≡ o → is_some (within_of to most k o) ≡ true → meets_query (Region (fattened to margin)) (get index k) ≡ true
         by_box None e h = absurd (false≢true h)
         by_box (Some b) e h =
-            let le : square at b ≤ most = near_le (square at b) (some_if (nat_le (square at b) most) (record { slot = k; square = square at b }) h) in
-            ap (meets_query (Region (cube at half))) (among k b e) ∙ near_meets at here b (in_space k b e) half most reaches le
+            let le : square_apart to b ≤ most = near_le (square_apart to b) (some_if (nat_le (square_apart to b) most) (record { slot = k; square = square_apart to b }) h) in
+            ap (meets_query (Region (fattened to margin))) (among k b e) ∙ near_meets to here b (in_space k b e) margin most reaches le
 
-    -- So what is kept of a cube's slots are the boxes within the distance.
-    pub gathered_by : (index : FinMap nat_cmp Bounds) (half : ℕ) → meets space (spot at) ≡ true → AreInSpace bodies → AreAmong bodies index → Reaches half most
+    -- So what is kept of its slots are the boxes within the distance.
+    pub gathered_by : (index : FinMap nat_cmp Bounds) (margin : ℕ) → meets space to ≡ true → AreInSpace bodies → AreAmong bodies index → Reaches margin most
         → ((query : Query) → slots_rise (found index query) ≡ true) → ((query : Query) (k : ℕ) → has_slot (found index query) k ≡ is_found index query k)
-        → filter_map (within bodies at most) (found index (Region (cube at half))) ≡ all_within bodies at most
-    gathered_by index half here in_space among reaches rising members =
-        gathered (found index (Region (cube at half))) (rising (Region (cube at half)))
-        (λ k h. members (Region (cube at half)) k ∙ covered index half here in_space among reaches k h)
+        → filter_map (within bodies to most) (found index (Region (fattened to margin))) ≡ all_within bodies to most
+    gathered_by index margin here in_space among reaches rising members =
+        gathered (found index (Region (fattened to margin))) (rising (Region (fattened to margin)))
+        (λ k h. members (Region (fattened to margin)) k ∙ covered index margin here in_space among reaches k h)
 
 -- where all pass
 pub all_pass : {X : Type 0} (p : X → Bool) (xs : List X) → list_all p xs ≡ true → filter p xs ≡ xs
@@ -136,16 +135,16 @@ all_pass p [] h = refl
 all_pass p (x ∷ xs) h = ap (λ b. cond b (x ∷ filter p xs) (filter p xs)) (first_so _ _ h) ∙ ap (λ l. x ∷ l) (all_pass p xs (second_so _ _ h))
 
 -- Where no limit is set all boxes in space are within it.
-pub all_gathered : (at : Point) (bodies : FinMap nat_cmp Bounds) → meets space (spot at) ≡ true → AreInSpace bodies
-    → all_within bodies at 340282366920938463463374607431768211455 ≡ map (seen_from at) (entries bodies)
-all_gathered at bodies here in_space =
-    all_pass (is_within 340282366920938463463374607431768211455) (map (seen_from at) (entries bodies)) (each (entries bodies) (looked_in bodies))
+pub all_gathered : (to : Bounds) (bodies : FinMap nat_cmp Bounds) → meets space to ≡ true → AreInSpace bodies
+    → all_within bodies to 340282366920938463463374607431768211455 ≡ map (seen_about to) (entries bodies)
+all_gathered to bodies here in_space =
+    all_pass (is_within 340282366920938463463374607431768211455) (map (seen_about to) (entries bodies)) (each (entries bodies) (looked_in bodies))
   where
     le_near : (a most : ℕ) → a ≤ most → nat_le a most ≡ true
     le_near a most h = grind (arith, nat_tests)
 
     each : (es : List (ℕ × Bounds)) → Looked (get bodies) es
-        → list_all (is_within 340282366920938463463374607431768211455) (map (seen_from at) es) ≡ true
+        → list_all (is_within 340282366920938463463374607431768211455) (map (seen_about to) es) ≡ true
     each [] l = refl
     each (e ∷ es) l =
-        both_true (le_near (square at e.1) 340282366920938463463374607431768211455 (all_near at here e.1 (in_space e.0 e.1 l.0))) (each es l.1)
+        both_true (le_near (square_apart to e.1) 340282366920938463463374607431768211455 (all_near to here e.1 (in_space e.0 e.1 l.0))) (each es l.1)

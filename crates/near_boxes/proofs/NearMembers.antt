@@ -13,13 +13,12 @@ use Rattle.std.proofs.lemmas.List.{length-take, get_or-take, get_or_default, get
 use Rattle.std.proofs.lemmas.List.Elements.{All-contains, All-from_recursion}
 use Rattle.std.proofs.lemmas.List.Sorted.{sorted_far, ranks_by, sum_by-IsPermutation}
 use Rattle.std.proofs.lemmas.List.Sums.{sum_by-cons, sum_by_more_le, get_or-le-sum_by}
-use Rattle.fixed_box.specs.declared.point.Point.{Point}
 use Rattle.fixed_box.specs.Bounds.{Bounds}
 use Rattle.slot_lists.specs.Rising.{rises_by}
 use Rattle.broad_index.specs.NearRises.{slot_lt}
 use Rattle.ordered_lists.specs.Ordered.{ordered_by}
 use Rattle.near_boxes.specs.declared.near.Near.{Near}
-use Rattle.near_boxes.specs.Nearest.{near_cmp, seen_from, IsSeen, Precedes}
+use Rattle.near_boxes.specs.Nearest.{near_cmp, seen_about, IsSeenAbout, Precedes}
 use Rattle.broad_index.specs.MapEntries.{Looked, looked_in, entry_in, entries_up}
 use Rattle.near_boxes.specs.NearOrder.{near_total, tied}
 use Rattle.fixed_box.proofs.Numbers.{eq_le}
@@ -65,26 +64,26 @@ bit true = omega arith
 bit false = omega arith
 
 -- whether a slot is seen in a list, as a number: nowhere among higher ones, and at most once where slots rise
-none_higher : (at : Point) (k x : ℕ) (es : List (ℕ × Bounds)) → k ≤ x → list_all (λ e. nat_lt x e.0) es ≡ true → sum_by (has k) (map (seen_from at) es) ≡ 0
-none_higher at k x [] le h = refl
-none_higher at k x (e ∷ es) le h =
-    let no : has k (seen_from at e) ≡ 0 = ap (λ b. cond b 1 0) (differ k x e.0 le (first_so (nat_lt x e.0) (list_all (λ e. nat_lt x e.0) es) h)) in
-    let rest : sum_by (has k) (map (seen_from at) es) ≡ 0 = none_higher at k x es le (second_so (nat_lt x e.0) (list_all (λ e. nat_lt x e.0) es) h) in
-    let sum = sum_by-cons (has k) (seen_from at e) (map (seen_from at) es) in omega (arith, no, rest, sum)
+none_higher : (to : Bounds) (k x : ℕ) (es : List (ℕ × Bounds)) → k ≤ x → list_all (λ e. nat_lt x e.0) es ≡ true → sum_by (has k) (map (seen_about to) es) ≡ 0
+none_higher to k x [] le h = refl
+none_higher to k x (e ∷ es) le h =
+    let no : has k (seen_about to e) ≡ 0 = ap (λ b. cond b 1 0) (differ k x e.0 le (first_so (nat_lt x e.0) (list_all (λ e. nat_lt x e.0) es) h)) in
+    let rest : sum_by (has k) (map (seen_about to) es) ≡ 0 = none_higher to k x es le (second_so (nat_lt x e.0) (list_all (λ e. nat_lt x e.0) es) h) in
+    let sum = sum_by-cons (has k) (seen_about to e) (map (seen_about to) es) in omega (arith, no, rest, sum)
 
-once : (at : Point) (k : ℕ) (es : List (ℕ × Bounds)) → rises_by slot_lt es ≡ true → sum_by (has k) (map (seen_from at) es) ≤ 1
-once at k [] h = omega arith
-once at k (e ∷ es) h =
-    let sum = sum_by-cons (has k) (seen_from at e) (map (seen_from at) es) in
-    elim (cases_Bool (k == e.0)) as (λ _. sum_by (has k) (map (seen_from at) (e ∷ es)) ≤ 1) [
+once : (to : Bounds) (k : ℕ) (es : List (ℕ × Bounds)) → rises_by slot_lt es ≡ true → sum_by (has k) (map (seen_about to) es) ≤ 1
+once to k [] h = omega arith
+once to k (e ∷ es) h =
+    let sum = sum_by-cons (has k) (seen_about to e) (map (seen_about to) es) in
+    elim (cases_Bool (k == e.0)) as (λ _. sum_by (has k) (map (seen_about to) (e ∷ es)) ≤ 1) [
       | inl t ↦
-          let rest : sum_by (has k) (map (seen_from at) es) ≡ 0 =
-          none_higher at k e.0 es (eq_le k e.0 (eqb-true k e.0 t)) (first_so (list_all (slot_lt e) es) (rises_by slot_lt es) h)
+          let rest : sum_by (has k) (map (seen_about to) es) ≡ 0 =
+          none_higher to k e.0 es (eq_le k e.0 (eqb-true k e.0 t)) (first_so (list_all (slot_lt e) es) (rises_by slot_lt es) h)
           in
-          let here : has k (seen_from at e) ≤ 1 = bit (k == e.0) in omega (arith, here, rest, sum)
+          let here : has k (seen_about to e) ≤ 1 = bit (k == e.0) in omega (arith, here, rest, sum)
       | inr f ↦
-          let rest : sum_by (has k) (map (seen_from at) es) ≤ 1 = once at k es (second_so (list_all (slot_lt e) es) (rises_by slot_lt es) h) in
-          let no : has k (seen_from at e) ≡ 0 = ap (λ b. cond b 1 0) f in omega (arith, no, rest, sum)
+          let rest : sum_by (has k) (map (seen_about to) es) ≤ 1 = once to k es (second_so (list_all (slot_lt e) es) (rises_by slot_lt es) h) in
+          let no : has k (seen_about to e) ≡ 0 = ap (λ b. cond b 1 0) f in omega (arith, no, rest, sum)
     ]
 
 -- two places of a list add up to at most its sum
@@ -97,27 +96,27 @@ two_places f xs i j d lt in_list =
 
 -- ---- the whole list, before it is cut
 
-module _ (bodies : FinMap nat_cmp Bounds) (at : Point) where
+module _ (bodies : FinMap nat_cmp Bounds) (to : Bounds) where
   abbrev all : List Near
-  all = map (seen_from at) (entries bodies)
+  all = map (seen_about to) (entries bodies)
 
   abbrev ordered : List Near
   ordered = ordered_by near_cmp all
 
-  all_seen : (es : List (ℕ × Bounds)) → Looked (get bodies) es → AllByRecursion (IsSeen bodies at) (map (seen_from at) es)
+  all_seen : (es : List (ℕ × Bounds)) → Looked (get bodies) es → AllByRecursion (IsSeenAbout bodies to) (map (seen_about to) es)
   all_seen [] l = tt
   all_seen (e ∷ es) l = ((e.1, (l.0, refl)), all_seen es l.1)
 
-  pub seen : (near : Near) → Contains all near → IsSeen bodies at near
-  seen near h = All-contains (IsSeen bodies at) all near (All-from_recursion (IsSeen bodies at) all (all_seen (entries bodies) (looked_in bodies))) h
+  pub seen : (near : Near) → Contains all near → IsSeenAbout bodies to near
+  seen near h = All-contains (IsSeenAbout bodies to) all near (All-from_recursion (IsSeenAbout bodies to) all (all_seen (entries bodies) (looked_in bodies))) h
 
-  pub seen_in : (near : Near) → IsSeen bodies at near → Contains all near
+  pub seen_in : (near : Near) → IsSeenAbout bodies to near → Contains all near
   seen_in near s =
       let c = entry_in bodies near.slot s.0 s.1.0 in
-      let is : seen_from at (near.slot, s.0) ≡ near = λ i. record { slot = near.slot; square = sym s.1.1 i } in (
+      let is : seen_about to (near.slot, s.0) ≡ near = λ i. record { slot = near.slot; square = sym s.1.1 i } in (
         c.0,
-        (let n = length-map (entries bodies) (seen_from at) in let l = c.1 in omega (arith, n, l)),
-        get_or-map (seen_from at) (entries bodies) c.0 (near.slot, s.0) near c.1 ∙ ap (seen_from at) c.2 ∙ is,
+        (let n = length-map (entries bodies) (seen_about to) in let l = c.1 in omega (arith, n, l)),
+        get_or-map (seen_about to) (entries bodies) c.0 (near.slot, s.0) near c.1 ∙ ap (seen_about to) c.2 ∙ is,
       )
 
   module _ (moved : IsPermutation all ordered) (sorted : IsSorted near_cmp ordered) where
@@ -128,7 +127,7 @@ module _ (bodies : FinMap nat_cmp Bounds) (at : Point) where
         let left : has k (get_or ordered i d) ≡ 1 = ap (has k) same ∙ right in
         let both = two_places (has k) ordered i j d lt in_list in
         let sums : sum_by (has k) ordered ≡ sum_by (has k) all = sum_by-IsPermutation (has k) all ordered moved in
-        let one : sum_by (has k) all ≤ 1 = once at k (entries bodies) (entries_up bodies) in
+        let one : sum_by (has k) all ≤ 1 = once to k (entries bodies) (entries_up bodies) in
         omega (arith, right, left, both, sums, one)
 
     pub rising : (i j : ℕ) (d : Near) → i < j → j < length ordered → Precedes (get_or ordered i d) (get_or ordered j d)

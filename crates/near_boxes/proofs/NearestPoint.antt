@@ -8,7 +8,7 @@ use Rattle.std.proofs.lemmas.Bool.{and_parts, and_from}
 use Rattle.fixed_box.specs.declared.point.Point.{Point}
 use Rattle.fixed_box.specs.Bounds.{Bounds, holds, encloses}
 use Rattle.fixed_box.specs.Point.{is_at_most}
-use Rattle.near_boxes.specs.Nearest.{above, gap, squared, square, square_between}
+use Rattle.near_boxes.specs.Nearest.{above, gap, gap_between, squared, square, square_apart, square_between}
 
 -- ---- on one axis
 
@@ -98,22 +98,49 @@ lower_side out lo at h = grind (arith, ints)
 upper_side : (out hi at : ℤ) → int_le hi out ≡ true → above out at ≤ above hi at
 upper_side out hi at h = grind (arith, ints)
 
-hull_gap : (low high lo hi at : ℤ) → int_le low lo ≡ true → int_le hi high ≡ true → gap low high at ≤ gap lo hi at
-hull_gap low high lo hi at h g =
-    wider (above at low) (above at lo) (above high at) (above hi at) (lower_side low lo at h) (upper_side high hi at g)
-  where
-    wider : (a b c d : ℕ) → a ≤ b → c ≤ d → max a c ≤ max b d
-    wider a b c d p q = omega arith
+wider : (a b c d : ℕ) → a ≤ b → c ≤ d → max a c ≤ max b d
+wider a b c d p q = omega arith
 
-pub hull_square : (at : Point) (h b : Bounds) → encloses h b ≡ true → square at h ≤ square at b
-hull_square at h b e =
+hull_gap : (from to low high lo hi : ℤ) → int_le low lo ≡ true → int_le hi high ≡ true → gap_between from to low high ≤ gap_between from to lo hi
+hull_gap from to low high lo hi h g =
+    wider (above to low) (above to lo) (above high from) (above hi from) (lower_side low lo to h) (upper_side high hi from g)
+
+pub hull_square : (to h b : Bounds) → encloses h b ≡ true → square_apart to h ≤ square_apart to b
+hull_square to h b e =
     let parts = and_parts (is_at_most h.lo b.lo) (is_at_most b.hi h.hi) e in
     let low = in_order h.lo b.lo parts.0 in
     let high = in_order b.hi h.hi parts.1 in
-    let x = hull_gap h.lo.x h.hi.x b.lo.x b.hi.x at.x low.x high.x in
-    let y = hull_gap h.lo.y h.hi.y b.lo.y b.hi.y at.y low.y high.y in
-    let z = hull_gap h.lo.z h.hi.z b.lo.z b.hi.z at.z low.z high.z in
-    sum_le (squared (gap h.lo.x h.hi.x at.x)) (squared (gap h.lo.y h.hi.y at.y)) (squared (gap h.lo.z h.hi.z at.z))
-    (squared (gap b.lo.x b.hi.x at.x)) (squared (gap b.lo.y b.hi.y at.y)) (squared (gap b.lo.z b.hi.z at.z))
-    (square_le (gap h.lo.x h.hi.x at.x) (gap b.lo.x b.hi.x at.x) x) (square_le (gap h.lo.y h.hi.y at.y) (gap b.lo.y b.hi.y at.y) y)
-    (square_le (gap h.lo.z h.hi.z at.z) (gap b.lo.z b.hi.z at.z) z)
+    sum_le _ _ _ _ _ _ (square_le _ _ (hull_gap to.lo.x to.hi.x h.lo.x h.hi.x b.lo.x b.hi.x low.x high.x))
+    (square_le _ _ (hull_gap to.lo.y to.hi.y h.lo.y h.hi.y b.lo.y b.hi.y low.y high.y))
+    (square_le _ _ (hull_gap to.lo.z to.hi.z h.lo.z h.hi.z b.lo.z b.hi.z low.z high.z))
+
+-- ---- two boxes are as far apart as the nearest of the one's points lies from the other
+
+point_gap : (from to lo hi at : ℤ) → int_le from at ≡ true → int_le at to ≡ true → gap_between from to lo hi ≤ gap lo hi at
+point_gap from to lo hi at h g = wider (above to lo) (above at lo) (above hi from) (above hi at) (upper_side to at lo g) (lower_side from at hi h)
+
+-- No two points are nearer.
+pub apart_least : (a b : Bounds) (p q : Point) → holds a p ≡ true → holds b q ≡ true → square_apart a b ≤ square_between p q
+apart_least a b p q in_a in_b =
+    let parts = and_parts (is_at_most a.lo p) (is_at_most p a.hi) in_a in
+    let low = in_order a.lo p parts.0 in
+    let high = in_order p a.hi parts.1 in
+    let near : square_apart a b ≤ square p b =
+    sum_le _ _ _ _ _ _ (square_le _ _ (point_gap a.lo.x a.hi.x b.lo.x b.hi.x p.x low.x high.x))
+    (square_le _ _ (point_gap a.lo.y a.hi.y b.lo.y b.hi.y p.y low.y high.y)) (square_le _ _ (point_gap a.lo.z a.hi.z b.lo.z b.hi.z p.z low.z high.z))
+    in
+    at_most_all _ _ _ near (square_least p q b in_b)
+  where
+    at_most_all : (l m n : ℕ) → l ≤ m → m ≤ n → l ≤ n
+    at_most_all l m n f g = omega arith
+
+apart_gap : (from to lo hi : ℤ) → int_le from to ≡ true → int_le lo hi ≡ true → gap_between from to lo hi ≡ gap lo hi (moved_in from to lo)
+apart_gap from to lo hi h g = grind (arith, ints)
+
+-- Two are as near: the first box's point that is nearest to the other's lower corner, and the other's that is nearest to that.
+pub apart_is : (a b : Bounds) → is_at_most a.lo a.hi ≡ true → is_at_most b.lo b.hi ≡ true → square_apart a b ≡ square (nearest_point b.lo a) b
+apart_is a b h g =
+    let o = in_order a.lo a.hi h in
+    let w = in_order b.lo b.hi g in
+    three _ _ _ _ _ _ (apart_gap a.lo.x a.hi.x b.lo.x b.hi.x o.x w.x) (apart_gap a.lo.y a.hi.y b.lo.y b.hi.y o.y w.y)
+    (apart_gap a.lo.z a.hi.z b.lo.z b.hi.z o.z w.z)

@@ -13,14 +13,13 @@ use Rattle.std.proofs.lemmas.Cmp.{eq_by_cmp_equiv}
 use Rattle.std.proofs.lemmas.List.{length-map, take_min}
 use Rattle.std.proofs.lemmas.List.Sorted.{Contains-permutation, IsPermutation-sym, length_permutation}
 use Rattle.std.proofs.lemmas.Map.Views.{Contains-from_any, list_any-from_Contains, any-filter_same}
-use Rattle.fixed_box.specs.declared.point.Point.{Point}
 use Rattle.fixed_box.specs.Bounds.{Bounds}
 use Rattle.slot_lists.specs.Rising.{rises_by}
 use Rattle.slot_lists.specs.RisingLaws.{Tells, one_rising, filtered_rise}
 use Rattle.ordered_lists.specs.Ordered.{ordered_by}
 use Rattle.ordered_lists.specs.Ascending.{equal_is}
 use Rattle.near_boxes.specs.declared.near.Near.{Near}
-use Rattle.near_boxes.specs.Nearest.{near_cmp, seen_from, IsSeen, Precedes, AreNearest}
+use Rattle.near_boxes.specs.Nearest.{near_cmp, seen_about, IsSeenAbout, Precedes, AreNearestAbout}
 use Rattle.near_boxes.specs.NearOrder.{near_total, tied}
 use Rattle.near_boxes.proofs.NearMembers.{precedes, rising, seen, seen_in}
 
@@ -98,14 +97,14 @@ front_of p (y ∷ ys) up closed =
           is ∙ sym (ap (λ l. take (length l) (y ∷ ys)) is)
     ]
 
-module _ (bodies : FinMap nat_cmp Bounds) (at : Point) where
+module _ (bodies : FinMap nat_cmp Bounds) (to : Bounds) where
   abbrev all : List Near
-  all = map (seen_from at) (entries bodies)
+  all = map (seen_about to) (entries bodies)
 
   abbrev ordered : List Near
   ordered = ordered_by near_cmp all
 
-  module _ (moved : IsPermutation all ordered) (sorted : IsSorted near_cmp ordered) (want : ℕ) (nears : List Near) (a : AreNearest bodies at want nears) where
+  module _ (moved : IsPermutation all ordered) (sorted : IsSorted near_cmp ordered) (want : ℕ) (nears : List Near) (a : AreNearestAbout bodies to want nears) where
     abbrev is_in : Near → Bool
     is_in n = list_any (same n) nears
 
@@ -118,13 +117,13 @@ module _ (bodies : FinMap nat_cmp Bounds) (at : Point) where
     in_ordered : (n : Near) → is_in n ≡ true → list_any (same n) ordered ≡ true
     in_ordered n h =
         list_any-from_Contains (eq_by_cmp_equiv near_total) n ordered
-        (Contains-permutation all ordered n moved (seen_in bodies at n (a.seen n (in_list n h))))
+        (Contains-permutation all ordered n moved (seen_in bodies to n (a.seen n (in_list n h))))
 
     closed : (m n : Near) → Contains ordered m → Contains ordered n → lt m n ≡ true → is_in n ≡ true → is_in m ≡ true
     closed m n c d less h = elim (cases_Bool (is_in m)) as (λ _. is_in m ≡ true) [
       | inl t ↦ t
       | inr f ↦
-          let known : IsSeen bodies at m = seen bodies at m (Contains-permutation ordered all m (IsPermutation-sym all ordered moved) c) in
+          let known : IsSeenAbout bodies to m = seen bodies to m (Contains-permutation ordered all m (IsPermutation-sym all ordered moved) c) in
           let out : Contains nears m → ⊥ = λ here. true≢false (sym (listed m here) ∙ f) in
           absurd (one_way m n (precedes m n less) (a.left_out n m (in_list n h) known out))
     ]
@@ -140,10 +139,10 @@ module _ (bodies : FinMap nat_cmp Bounds) (at : Point) where
 
     pub one_nearest : nears ≡ take want ordered
     one_nearest =
-        let up : rises_by lt ordered ≡ true = rises_at ordered (rising bodies at moved sorted) in
+        let up : rises_by lt ordered ≡ true = rises_at ordered (rising bodies to moved sorted) in
         let is : nears ≡ filter is_in ordered =
         one_rising same lt tells nears (filter is_in ordered) (rises_at nears a.rising) (filtered_rise lt is_in ordered up) members in
         let size : len bodies ≡ length ordered =
-        len-entries bodies ∙ sym (length-map (entries bodies) (seen_from at)) ∙ sym (length_permutation all ordered moved) in
+        len-entries bodies ∙ sym (length-map (entries bodies) (seen_about to)) ∙ sym (length_permutation all ordered moved) in
         let count : length (filter is_in ordered) ≡ min want (length ordered) = sym (ap length is) ∙ a.count ∙ ap (min want) size in
         is ∙ front_of is_in ordered up closed ∙ ap (λ k. take k ordered) count ∙ take_min want ordered

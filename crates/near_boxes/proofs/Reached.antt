@@ -1,28 +1,27 @@
--- A box at most as far from a point as the half side of a cube around it meets the cube.
+-- A box at most as far from another as that is fattened meets it.
 use Rattle.std.proofs.Common.{◌≡◌, ℕ, ◌+◌, ◌*◌, ◌≤◌, max, true, ◌&&◌, arith, inl, inr, sym, subst}
 use Rattle.std.proofs.Math.Nat.{mul-le-mul_left}
 use Rattle.std.proofs.lemmas.Int.{ints}
 use Rattle.std.proofs.lemmas.Bool.{and_parts, and_from, cases_lt}
 use Rattle.std.specs.Prelude.{ℤ, pos, negsuc, ◌+ℤ◌, ◌≤ℤ◌, int_le}
-use Rattle.fixed_box.specs.Bounds.{Bounds, meets}
-use Rattle.fixed_box.specs.declared.point.Point.{Point}
+use Rattle.fixed_box.specs.Bounds.{Bounds, meets, fattened}
 use Rattle.fixed_box.specs.Point.{is_at_most, lowered, raised}
 use Rattle.fixed_box.specs.Space.{space}
-use Rattle.near_boxes.specs.Nearest.{above, gap, squared, square}
-use Rattle.near_boxes.specs.Within.{spot, cube, Reaches}
+use Rattle.near_boxes.specs.Nearest.{above, gap_between, squared, square_apart}
+use Rattle.near_boxes.specs.Within.{Reaches}
 use Rattle.fixed_box.proofs.Numbers.{at_least, at_most}
 
--- how an interval that lies in space stands to a coordinate that does
-record IsPlaced (lo hi at : ℤ) : Type 0 where
-  low : negsuc 2147483647 ≤ℤ at
-  high : at ≤ℤ pos 2147483647
+-- two intervals that lie in space
+record ArePlaced (from to lo hi : ℤ) : Type 0 where
+  low : negsuc 2147483647 ≤ℤ to
+  high : from ≤ℤ pos 2147483647
   begins : lo ≤ℤ pos 2147483647
   ends : negsuc 2147483647 ≤ℤ hi
 
-record ArePlaced (at : Point) (b : Bounds) : Type 0 where
-  x : IsPlaced b.lo.x b.hi.x at.x
-  y : IsPlaced b.lo.y b.hi.y at.y
-  z : IsPlaced b.lo.z b.hi.z at.z
+record AreBoxesPlaced (a b : Bounds) : Type 0 where
+  x : ArePlaced a.lo.x a.hi.x b.lo.x b.hi.x
+  y : ArePlaced a.lo.y a.hi.y b.lo.y b.hi.y
+  z : ArePlaced a.lo.z a.hi.z b.lo.z b.hi.z
 
 record Ends (b : Bounds) : Type 0 where
   hx : negsuc 2147483647 ≤ℤ b.hi.x
@@ -48,9 +47,9 @@ ends b h =
       lz = at_most b.lo.z high.1;
     }
 
-placed : (at : Point) (b : Bounds) → meets space (spot at) ≡ true → meets space b ≡ true → ArePlaced at b
-placed at b here h =
-    let p = ends (spot at) here in
+placed : (a b : Bounds) → meets space a ≡ true → meets space b ≡ true → AreBoxesPlaced a b
+placed a b here h =
+    let p = ends a here in
     let e = ends b h in
     record {
       x = record { low = p.hx; high = p.lx; begins = e.lx; ends = e.hx };
@@ -86,68 +85,80 @@ parts_le x y z most h = (omega arith, omega arith, omega arith)
 max_parts : (m n h : ℕ) → max m n ≤ h → (m ≤ h) × (n ≤ h)
 max_parts m n h le = (omega arith, omega arith)
 
-module _ (lo hi at : ℤ) (p : IsPlaced lo hi at) (half : ℕ) where
-  -- the interval meets that of a cube that comes as near
+module _ (from to lo hi : ℤ) (p : ArePlaced from to lo hi) (margin : ℕ) where
+  -- the interval meets one that is widened to come as near
   record IsMet : Type 0 where
-    low : int_le (lowered at half) hi ≡ true
-    high : int_le lo (raised at half) ≡ true
+    low : int_le (lowered from margin) hi ≡ true
+    high : int_le lo (raised to margin) ≡ true
 
-  near_met : gap lo hi at ≤ half → IsMet
+  near_met : gap_between from to lo hi ≤ margin → IsMet
   near_met le =
-      let g = max_parts (above at lo) (above hi at) half le in
+      let g = max_parts (above to lo) (above hi from) margin le in
       record {
-        low = lowered_le at hi half p.high p.ends (within_reach hi at half g.1);
-        high = le_raised at lo half p.low p.begins (within_reach at lo half g.0);
+        low = lowered_le from hi margin p.high p.ends (within_reach hi from margin g.1);
+        high = le_raised to lo margin p.low p.begins (within_reach to lo margin g.0);
       }
 
-  far_met : half ≡ 4294967295 → IsMet
+  far_met : margin ≡ 4294967295 → IsMet
   far_met e = record {
-    low = lowered_le at hi half p.high p.ends (subst (λ h. at ≤ℤ (hi +ℤ pos h)) (sym e) (all_reach hi at p.ends p.high));
-    high = le_raised at lo half p.low p.begins (subst (λ h. lo ≤ℤ (at +ℤ pos h)) (sym e) (all_reach at lo p.low p.begins));
+    low = lowered_le from hi margin p.high p.ends (subst (λ h. from ≤ℤ (hi +ℤ pos h)) (sym e) (all_reach hi from p.ends p.high));
+    high = le_raised to lo margin p.low p.begins (subst (λ h. lo ≤ℤ (to +ℤ pos h)) (sym e) (all_reach to lo p.low p.begins));
   }
 
-  near_enough : (most : ℕ) → Reaches half most → squared (gap lo hi at) ≤ most → IsMet
+  near_enough : (most : ℕ) → Reaches margin most → squared (gap_between from to lo hi) ≤ most → IsMet
   near_enough most r le = elim r as (λ _. IsMet) [
-    | inl h ↦ let g : gap lo hi at * gap lo hi at ≤ half * half = (let k = le in let l = h in omega arith) in near_met (root_le (gap lo hi at) half g)
+    | inl h ↦
+        let g : gap_between from to lo hi * gap_between from to lo hi ≤ margin * margin = (let k = le in let l = h in omega arith) in
+        near_met (root_le (gap_between from to lo hi) margin g)
     | inr e ↦ far_met e
   ]
 
 small_above : (low high : ℤ) → negsuc 2147483647 ≤ℤ low → high ≤ℤ pos 2147483647 → above low high ≤ 4294967295
 small_above low high a b = grind (arith, ints)
 
-small_gap : (lo hi at : ℤ) → IsPlaced lo hi at → gap lo hi at ≤ 4294967295
-small_gap lo hi at p =
-    let a = small_above at lo p.low p.begins in
-    let b = small_above hi at p.ends p.high in
-    most_of (above at lo) (above hi at) a b
+small_gap : (from to lo hi : ℤ) → ArePlaced from to lo hi → gap_between from to lo hi ≤ 4294967295
+small_gap from to lo hi p =
+    let a = small_above to lo p.low p.begins in
+    let b = small_above hi from p.ends p.high in
+    most_of (above to lo) (above hi from) a b
   where
     most_of : (m n : ℕ) → m ≤ 4294967295 → n ≤ 4294967295 → max m n ≤ 4294967295
     most_of m n a b = omega arith
 
-small_square : (lo hi at : ℤ) → IsPlaced lo hi at → squared (gap lo hi at) ≤ 18446744065119617025
-small_square lo hi at p = square_le (gap lo hi at) 4294967295 (small_gap lo hi at p)
+small_square : (from to lo hi : ℤ) → ArePlaced from to lo hi → squared (gap_between from to lo hi) ≤ 18446744065119617025
+small_square from to lo hi p = square_le (gap_between from to lo hi) 4294967295 (small_gap from to lo hi p)
 
-module _ (at : Point) (here : meets space (spot at) ≡ true) (b : Bounds) (h : meets space b ≡ true) where
-  -- A box so near meets the cube.
-  pub near_meets : (half most : ℕ) → Reaches half most → square at b ≤ most → meets (cube at half) b ≡ true
-  near_meets half most r le =
-      let p = placed at b here h in
-      let s = parts_le (squared (gap b.lo.x b.hi.x at.x)) (squared (gap b.lo.y b.hi.y at.y)) (squared (gap b.lo.z b.hi.z at.z)) most le in
-      let x = near_enough b.lo.x b.hi.x at.x p.x half most r s.0 in
-      let y = near_enough b.lo.y b.hi.y at.y p.y half most r s.1 in
-      let z = near_enough b.lo.z b.hi.z at.z p.z half most r s.2 in
-      and_from (is_at_most (cube at half).lo b.hi) (is_at_most b.lo (cube at half).hi)
-      (and_from (int_le (cube at half).lo.x b.hi.x && int_le (cube at half).lo.y b.hi.y) (int_le (cube at half).lo.z b.hi.z)
-      (and_from (int_le (cube at half).lo.x b.hi.x) (int_le (cube at half).lo.y b.hi.y) x.low y.low) z.low)
-      (and_from (int_le b.lo.x (cube at half).hi.x && int_le b.lo.y (cube at half).hi.y) (int_le b.lo.z (cube at half).hi.z)
-      (and_from (int_le b.lo.x (cube at half).hi.x) (int_le b.lo.y (cube at half).hi.y) x.high y.high) z.high)
+module _ (to : Bounds) (here : meets space to ≡ true) (b : Bounds) (h : meets space b ≡ true) where
+  abbrev x_gap : ℕ
+  x_gap = gap_between to.lo.x to.hi.x b.lo.x b.hi.x
+
+  abbrev y_gap : ℕ
+  y_gap = gap_between to.lo.y to.hi.y b.lo.y b.hi.y
+
+  abbrev z_gap : ℕ
+  z_gap = gap_between to.lo.z to.hi.z b.lo.z b.hi.z
+
+  -- A box so near meets the fattened one.
+  pub near_meets : (margin most : ℕ) → Reaches margin most → square_apart to b ≤ most → meets (fattened to margin) b ≡ true
+  near_meets margin most r le =
+      let p = placed to b here h in
+      let fat = fattened to margin in
+      let s = parts_le (squared x_gap) (squared y_gap) (squared z_gap) most le in
+      let x = near_enough to.lo.x to.hi.x b.lo.x b.hi.x p.x margin most r s.0 in
+      let y = near_enough to.lo.y to.hi.y b.lo.y b.hi.y p.y margin most r s.1 in
+      let z = near_enough to.lo.z to.hi.z b.lo.z b.hi.z p.z margin most r s.2 in
+      and_from (is_at_most fat.lo b.hi) (is_at_most b.lo fat.hi)
+      (and_from (int_le fat.lo.x b.hi.x && int_le fat.lo.y b.hi.y) (int_le fat.lo.z b.hi.z)
+      (and_from (int_le fat.lo.x b.hi.x) (int_le fat.lo.y b.hi.y) x.low y.low) z.low)
+      (and_from (int_le b.lo.x fat.hi.x && int_le b.lo.y fat.hi.y) (int_le b.lo.z fat.hi.z)
+      (and_from (int_le b.lo.x fat.hi.x) (int_le b.lo.y fat.hi.y) x.high y.high) z.high)
 
   -- No box in space is farther than that.
-  pub all_near : square at b ≤ 340282366920938463463374607431768211455
+  pub all_near : square_apart to b ≤ 340282366920938463463374607431768211455
   all_near =
-      let p = placed at b here h in
-      sum_le (squared (gap b.lo.x b.hi.x at.x)) (squared (gap b.lo.y b.hi.y at.y)) (squared (gap b.lo.z b.hi.z at.z))
-      (small_square b.lo.x b.hi.x at.x p.x) (small_square b.lo.y b.hi.y at.y p.y) (small_square b.lo.z b.hi.z at.z p.z)
+      let p = placed to b here h in
+      sum_le (squared x_gap) (squared y_gap) (squared z_gap) (small_square to.lo.x to.hi.x b.lo.x b.hi.x p.x)
+      (small_square to.lo.y to.hi.y b.lo.y b.hi.y p.y) (small_square to.lo.z to.hi.z b.lo.z b.hi.z p.z)
     where
       sum_le : (x y z : ℕ) → x ≤ 18446744065119617025 → y ≤ 18446744065119617025 → z ≤ 18446744065119617025
           → (x + y) + z ≤ 340282366920938463463374607431768211455

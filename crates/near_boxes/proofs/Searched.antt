@@ -1,30 +1,26 @@
 -- A search for the nearest: each box that is shown takes its place, and what is farther than all that it has changes nothing.
-use Rattle.std.proofs.Common.{◌≡◌, ℕ, zero, suc, ◌+◌, ◌<◌, ◌≤◌, Bool, true, false, cond, not, nat_lt, List, [], ◌∷◌, ◌++◌, map, take, drop, length}
-use Rattle.std.proofs.Common.{get_or, append-nil, append_assoc, length-append, refl, sym, ap, subst, ◌∙◌, arith, inl, inr, IsTrue}
+use Rattle.std.proofs.Common.{◌≡◌, ℕ, zero, suc, ◌<◌, ◌≤◌, true, false, cond, ◌&&◌, ◌||◌, nat_lt, ◌-◌, List, [], ◌∷◌, ◌++◌, map, take, drop, length}
+use Rattle.std.proofs.Common.{get_or, append-nil, length-append, refl, sym, ap, subst, ◌∙◌, arith, inl, inr}
 use Rattle.std.specs.Prelude.{insert, Option, None, Some, is_some, nat_le}
 use Rattle.std.specs.List.{filter, filter_map, cons_option, list_all, AllByRecursion, All, Contains}
-use Rattle.std.specs.List.Sorted.{IsPermutation}
 use Rattle.std.specs.Ordering.{nat_cmp, is_lt}
-use Rattle.std.specs.Cmp.{first_so, second_so}
 use Rattle.std.specs.FinMap.{FinMap, contains_key, entries, get}
-use Rattle.std.proofs.lemmas.List.{take-append-drop, length-take, map-append}
+use Rattle.std.proofs.lemmas.List.{take-append-drop, map-append}
 use Rattle.std.proofs.lemmas.Bool.{cases_Bool, true≢false, false≢true}
 use Rattle.std.proofs.lemmas.Bool.Decides.{nat_tests}
-use Rattle.std.proofs.lemmas.Int.{ints}
-use Rattle.std.proofs.lemmas.List.Elements.{filter-append, recursion_from_All, All-from_recursion, All-contains_itself, Contains-append_left, Contains-append_right}
+use Rattle.std.proofs.lemmas.List.Elements.{filter-append, recursion_from_All, All-contains_itself, Contains-append_left, Contains-append_right}
 use Rattle.std.proofs.lemmas.List.Sorted.{IsPermutation-sym, IsPermutation-to_front}
-use Rattle.fixed_box.specs.declared.point.Point.{Point}
 use Rattle.fixed_box.specs.Bounds.{Bounds, meets, encloses}
 use Rattle.fixed_box.specs.Space.{space}
 use Rattle.ordered_lists.specs.Ordered.{placed, ordered_by}
-use Rattle.ordered_lists.specs.OrderedLaws.{filter_ordered, length_ordered}
+use Rattle.ordered_lists.specs.Ascending.{Ascends, chain}
+use Rattle.ordered_lists.specs.OrderedLaws.{filter_ordered, length_ordered, ordered_ascends}
 use Rattle.ordered_lists.specs.SortedLists.{only_members}
 use Rattle.ordered_lists.specs.FrontLaws.{cut_front}
 use Rattle.near_boxes.specs.declared.near.Near.{Near}
-use Rattle.near_boxes.specs.Nearest.{near_cmp, seen_from, square}
+use Rattle.near_boxes.specs.Nearest.{near_cmp, seen_about, square_apart, nearest_about}
 use Rattle.near_boxes.specs.Bodies.{AreInSpace, AreAmong}
-use Rattle.near_boxes.specs.Nearest.{nearest}
-use Rattle.near_boxes.specs.Within.{within, within_of, spot}
+use Rattle.near_boxes.specs.Within.{within, within_of}
 use Rattle.near_boxes.specs.NearOrder.{near_total, ties_one, no_farther}
 use Rattle.slot_lists.specs.Present.{present}
 use Rattle.broad_index.specs.Members.{has_slot}
@@ -32,27 +28,75 @@ use Rattle.broad_index.specs.MapEntries.{Looked, looked_in, slots_up, has_slots}
 use Rattle.near_boxes.proofs.Reached.{all_near}
 use Rattle.near_boxes.proofs.Gathered.{all_pass, gathered, there, all_gathered}
 use Rattle.near_boxes.proofs.NearestPoint.{hull_square}
-use Rattle.near_boxes.specs.Search.{is_asked, is_nearer, seen_of, LieInSpace, HasNearest}
+use Rattle.near_boxes.specs.Search.{is_asked, is_nearer, is_last_nearer, seen_of, LieInSpace, HasNearest}
 
 -- ---- the place of one among those in order
 
-pub later : (x : Near) (xs : List Near) (k : ℕ) (d : Near) → k < length xs → is_lt (near_cmp (get_or xs k d) x) ≡ true
-    → take k xs ++ placed near_cmp x (drop k xs) ≡ take (suc k) xs ++ placed near_cmp x (drop (suc k) xs)
-later x [] k d l h = absurd (omega arith)
-later x (y ∷ ys) zero d l h = ap (λ b. cond b (y ∷ placed near_cmp x ys) (x ∷ y ∷ ys)) h
-later x (y ∷ ys) (suc k) d l h = ap (λ zs. y ∷ zs) (later x ys k d (omega arith) h)
+pub whole : (x : Near) (xs : List Near) → placed near_cmp x xs ≡ placed near_cmp x (take (length xs) xs) ++ drop (length xs) xs
+whole x xs =
+    ap (placed near_cmp x) (sym (all_taken xs)) ∙ sym (append-nil (placed near_cmp x (take (length xs) xs)))
+    ∙ ap (λ l. placed near_cmp x (take (length xs) xs) ++ l) (sym (none_left xs))
+  where
+    all_taken : (ys : List Near) → take (length ys) ys ≡ ys
+    all_taken [] = refl
+    all_taken (y ∷ ys) = ap (λ zs. y ∷ zs) (all_taken ys)
 
-pub here : (x : Near) (xs : List Near) (k : ℕ) (d : Near) → k < length xs → is_lt (near_cmp (get_or xs k d) x) ≡ false
-    → take k xs ++ placed near_cmp x (drop k xs) ≡ insert xs k x
-here x [] k d l h = absurd (omega arith)
-here x (y ∷ ys) zero d l h = ap (λ b. cond b (y ∷ placed near_cmp x ys) (x ∷ y ∷ ys)) h
-here x (y ∷ ys) (suc k) d l h = ap (λ zs. y ∷ zs) (here x ys k d (omega arith) h)
+    none_left : (ys : List Near) → drop (length ys) ys ≡ []
+    none_left [] = refl
+    none_left (y ∷ ys) = none_left ys
 
-pub at_end : (x : Near) (xs : List Near) (k : ℕ) → length xs ≤ k → k ≤ length xs → take k xs ++ placed near_cmp x (drop k xs) ≡ insert xs k x
-at_end x [] zero l h = refl
-at_end x [] (suc k) l h = absurd (omega arith)
-at_end x (y ∷ ys) zero l h = absurd (omega arith)
-at_end x (y ∷ ys) (suc k) l h = ap (λ zs. y ∷ zs) (at_end x ys k (omega arith) (omega arith))
+earlier : (x : Near) (xs : List Near) (k : ℕ) (d : Near) → k < length xs → is_lt (near_cmp (get_or xs k d) x) ≡ false
+    → placed near_cmp x (take (suc k) xs) ++ drop (suc k) xs ≡ placed near_cmp x (take k xs) ++ drop k xs
+earlier x [] k d l h = absurd (omega arith)
+earlier x (y ∷ ys) zero d l h = ap (λ b. cond b (y ∷ x ∷ []) (x ∷ y ∷ []) ++ ys) h
+earlier x (y ∷ ys) (suc k) d l h =
+    elim (is_lt (near_cmp y x)) as
+    (λ b. cond b (y ∷ placed near_cmp x (take (suc k) ys)) (x ∷ y ∷ take (suc k) ys) ++ drop (suc k) ys
+    ≡ cond b (y ∷ placed near_cmp x (take k ys)) (x ∷ y ∷ take k ys) ++ drop k ys) [
+      | true ↦ ap (λ zs. y ∷ zs) (earlier x ys k d (omega arith) h)
+      | false ↦ ap (λ zs. x ∷ y ∷ zs) (take-append-drop (suc k) ys ∙ sym (take-append-drop k ys))
+    ]
+
+pub earlier_at : (x : Near) (xs : List Near) (at : ℕ) (d : Near) → 0 < at → at ≤ length xs → is_lt (near_cmp (get_or xs (at - 1) d) x) ≡ false
+    → placed near_cmp x xs ≡ placed near_cmp x (take at xs) ++ drop at xs → placed near_cmp x xs ≡ placed near_cmp x (take (at - 1) xs) ++ drop (at - 1) xs
+earlier_at x xs zero d some l h is = absurd (omega arith)
+earlier_at x xs (suc k) d some l h is =
+    let down : suc k - 1 ≡ k = omega arith in
+    is ∙ subst (λ j. placed near_cmp x (take (suc k) xs) ++ drop (suc k) xs ≡ placed near_cmp x (take j xs) ++ drop j xs) (sym down)
+    (earlier x xs k d (omega arith) (subst (λ j. is_lt (near_cmp (get_or xs j d) x) ≡ false) down h))
+
+pub at_front : (x : Near) (xs : List Near) → placed near_cmp x (take 0 xs) ++ drop 0 xs ≡ insert xs 0 x
+at_front x [] = refl
+at_front x (y ∷ ys) = refl
+
+-- those before one that comes before it do so too
+before : (x d y : Near) (ys : List Near) (j : ℕ) → j < length (y ∷ ys) → Ascends near_cmp (y ∷ ys) → is_lt (near_cmp (get_or (y ∷ ys) j d) x) ≡ true
+    → (is_lt (near_cmp y x) ≡ true) × (placed near_cmp x (take (suc j) (y ∷ ys)) ++ drop (suc j) (y ∷ ys) ≡ insert (y ∷ ys) (suc j) x)
+before x d y ys zero l up h = (h, ap (λ b. cond b (y ∷ x ∷ []) (x ∷ y ∷ []) ++ ys) h ∙ ap (λ zs. y ∷ zs) (at_front x ys))
+before x d y [] (suc j) l up h = absurd (omega arith)
+before x d y (z ∷ zs) (suc j) l up h =
+    let rest = before x d z zs j (omega arith) up.1 h in
+    let first : is_lt (near_cmp y x) ≡ true =
+    elim (cases_Bool (is_lt (near_cmp y x))) as (λ _. is_lt (near_cmp y x) ≡ true) [
+      | inl t ↦ t
+      | inr f ↦ absurd (true≢false (sym rest.0 ∙ chain near_cmp near_total x y z f up.0.0))
+    ] in (
+      first,
+      ap (λ b. cond b (y ∷ placed near_cmp x (take (suc j) (z ∷ zs))) (x ∷ y ∷ take (suc j) (z ∷ zs)) ++ drop (suc j) (z ∷ zs)) first
+          ∙ ap (λ l. y ∷ l) rest.1,
+    )
+
+in_place : (x : Near) (xs : List Near) (k : ℕ) (d : Near) → k < length xs → Ascends near_cmp xs → is_lt (near_cmp (get_or xs k d) x) ≡ true
+    → placed near_cmp x (take (suc k) xs) ++ drop (suc k) xs ≡ insert xs (suc k) x
+in_place x [] k d l up h = absurd (omega arith)
+in_place x (y ∷ ys) k d l up h = (before x d y ys k l up h).1
+
+pub in_place_at : (x : Near) (xs : List Near) (at : ℕ) (d : Near) → 0 < at → at ≤ length xs → is_lt (near_cmp (get_or xs (at - 1) d) x) ≡ true
+    → placed near_cmp x xs ≡ placed near_cmp x (take at xs) ++ drop at xs → Ascends near_cmp xs → placed near_cmp x xs ≡ insert xs at x
+in_place_at x xs zero d some l h is up = absurd (omega arith)
+in_place_at x xs (suc k) d some l h is up =
+    let down : suc k - 1 ≡ k = omega arith in
+    is ∙ in_place x xs k d (omega arith) up (subst (λ j. is_lt (near_cmp (get_or xs j d) x) ≡ true) down h)
 
 -- the first so many after one takes its place are those of the first so many before
 take_take : (m n : ℕ) (xs : List Near) → m ≤ n → take m xs ≡ take m (take n xs)
@@ -77,16 +121,16 @@ take_placed (suc w) x (y ∷ ys) =
 
 -- ---- boxes that are shown
 
-module _ (bodies : FinMap nat_cmp Bounds) (at : Point) where
-  seen_more : (seen more : List (ℕ × Bounds)) → seen_of bodies at (seen ++ more) ≡ seen_of bodies at seen ++ seen_of bodies at more
+module _ (bodies : FinMap nat_cmp Bounds) (to : Bounds) where
+  seen_more : (seen more : List (ℕ × Bounds)) → seen_of bodies to (seen ++ more) ≡ seen_of bodies to seen ++ seen_of bodies to more
   seen_more seen more =
-      ap (filter (is_asked bodies)) (map-append (seen_from at) seen more) ∙ filter-append (is_asked bodies) (map (seen_from at) seen) (map (seen_from at) more)
+      ap (filter (is_asked bodies)) (map-append (seen_about to) seen more) ∙ filter-append (is_asked bodies) (map (seen_about to) seen) (map (seen_about to) more)
 
   -- none of those that aren't asked for
-  none_asked : (es : List (ℕ × Bounds)) → AllByRecursion (λ e. contains_key bodies e.0 ≡ false) es → seen_of bodies at es ≡ []
+  none_asked : (es : List (ℕ × Bounds)) → AllByRecursion (λ e. contains_key bodies e.0 ≡ false) es → seen_of bodies to es ≡ []
   none_asked [] h = refl
   none_asked (e ∷ es) h =
-      ap (λ b. cond b (seen_from at e ∷ seen_of bodies at es) (seen_of bodies at es)) h.0 ∙ none_asked es h.1
+      ap (λ b. cond b (seen_about to e ∷ seen_of bodies to es) (seen_of bodies to es)) h.0 ∙ none_asked es h.1
 
   -- what isn't in space isn't asked for
   out_of_space : (all more : List (ℕ × Bounds)) → LieInSpace bodies all → AllByRecursion (λ e. Contains all e × (meets space e.1 ≡ false)) more
@@ -110,27 +154,27 @@ module _ (bodies : FinMap nat_cmp Bounds) (at : Point) where
   lifted seen more (e ∷ es) h = (Contains-append_right seen more e h.0, lifted seen more es h.1)
 
   module _ (want : ℕ) (nears : List Near) where
-    pub missed : (seen more : List (ℕ × Bounds)) → HasNearest bodies at want nears seen → All (λ e. meets space e.1 ≡ false) more
-        → HasNearest bodies at want nears (seen ++ more)
+    pub missed : (seen more : List (ℕ × Bounds)) → HasNearest bodies to want nears seen → All (λ e. meets space e.1 ≡ false) more
+        → HasNearest bodies to want nears (seen ++ more)
     missed seen more has out in_space =
         let members : AllByRecursion (Contains (seen ++ more)) more = lifted seen more more (recursion_from_All (Contains more) more (All-contains_itself more)) in
-        let none : seen_of bodies at more ≡ [] =
+        let none : seen_of bodies to more ≡ [] =
         none_asked more (out_of_space (seen ++ more) more in_space
         (with_members (λ e. meets space e.1 ≡ false) (seen ++ more) more members (recursion_from_All (λ e. meets space e.1 ≡ false) more out))) in
         has (λ e c a. in_space e (Contains-append_left seen more e c) a)
         ∙ ap (λ l. take want (ordered_by near_cmp l))
-        (sym (append-nil (seen_of bodies at seen)) ∙ ap (λ l. seen_of bodies at seen ++ l) (sym none) ∙ sym (seen_more seen more))
+        (sym (append-nil (seen_of bodies to seen)) ∙ ap (λ l. seen_of bodies to seen ++ l) (sym none) ∙ sym (seen_more seen more))
 
-    far_off : (hull : Bounds) (than : ℕ) → than ≡ square at hull → (es : List (ℕ × Bounds)) → AllByRecursion (λ e. encloses hull e.1 ≡ true) es
-        → filter (is_nearer than) (seen_of bodies at es) ≡ []
+    far_off : (hull : Bounds) (than : ℕ) → than ≡ square_apart to hull → (es : List (ℕ × Bounds)) → AllByRecursion (λ e. encloses hull e.1 ≡ true) es
+        → filter (is_nearer than) (seen_of bodies to es) ≡ []
     far_off hull than is [] h = refl
     far_off hull than is (e ∷ es) h =
         let rest = far_off hull than is es h.1 in
-        let le : square at hull ≤ square at e.1 = hull_square at hull e.1 h.0 in
-        let out : is_nearer than (seen_from at e) ≡ false = not_below (square at e.1) than (omega arith) in
+        let le : square_apart to hull ≤ square_apart to e.1 = hull_square to hull e.1 h.0 in
+        let out : is_nearer than (seen_about to e) ≡ false = not_below (square_apart to e.1) than (omega arith) in
         elim (contains_key bodies e.0) as
-        (λ b. filter (is_nearer than) (cond b (seen_from at e ∷ seen_of bodies at es) (seen_of bodies at es)) ≡ []) [
-          | true ↦ ap (λ b. cond b (seen_from at e ∷ filter (is_nearer than) (seen_of bodies at es)) (filter (is_nearer than) (seen_of bodies at es))) out ∙ rest
+        (λ b. filter (is_nearer than) (cond b (seen_about to e ∷ seen_of bodies to es) (seen_of bodies to es)) ≡ []) [
+          | true ↦ ap (λ b. cond b (seen_about to e ∷ filter (is_nearer than) (seen_of bodies to es)) (filter (is_nearer than) (seen_of bodies to es))) out ∙ rest
           | false ↦ rest
         ]
       where
@@ -143,18 +187,54 @@ module _ (bodies : FinMap nat_cmp Bounds) (at : Point) where
         still : (a b than : ℕ) → a ≤ b → nat_lt b than ≡ true → nat_lt a than ≡ true
         still a b than le h = grind (arith, nat_tests)
 
-    pub passed : (hull : Bounds) (than : ℕ) → than ≡ square at hull → want ≤ length nears → list_all (is_nearer than) nears ≡ true
-        → (seen more : List (ℕ × Bounds)) → HasNearest bodies at want nears seen → All (λ e. encloses hull e.1 ≡ true) more
-        → HasNearest bodies at want nears (seen ++ more)
-    passed hull than is full nearer seen more has far in_space =
+    take_all : (P : Near → Type 0) (k : ℕ) (zs : List Near) → AllByRecursion P zs → AllByRecursion P (take k zs)
+    take_all P zero zs h = tt
+    take_all P (suc k) [] h = tt
+    take_all P (suc k) (z ∷ zs) h = (h.0, take_all P k zs h.1)
+
+    take_ascends : (k : ℕ) (zs : List Near) → Ascends near_cmp zs → Ascends near_cmp (take k zs)
+    take_ascends zero zs up = tt
+    take_ascends (suc k) [] up = tt
+    take_ascends (suc k) (z ∷ zs) up = (take_all (λ w. is_lt (near_cmp w z) ≡ false) k zs up.0, take_ascends k zs up.1)
+
+    rising_front : (known : List Near) → nears ≡ take want (ordered_by near_cmp known) → Ascends near_cmp nears
+    rising_front known is =
+        subst (Ascends near_cmp) (sym is) (take_ascends want (ordered_by near_cmp known) (ordered_ascends near_cmp near_total known))
+
+    -- Where members rise and the last is nearer, all are.
+    each_nearer : (than : ℕ) (d n : Near) (ns : List Near) → Ascends near_cmp (n ∷ ns) → is_nearer than (get_or (n ∷ ns) (length ns) d) ≡ true
+        → (is_nearer than n ≡ true) × (list_all (is_nearer than) (n ∷ ns) ≡ true)
+    each_nearer than d n [] up h = (h, ap (λ b. b && true) h)
+    each_nearer than d n (m ∷ ms) up h =
+        let rest = each_nearer than d m ms up.1 h in
+        let first : is_nearer than n ≡ true = nearer_bound than n m up.0.0 rest.0 in
+        (first, ap (λ b. b && list_all (is_nearer than) (m ∷ ms)) first ∙ rest.1)
+
+    all_nearer : (than : ℕ) (ns : List Near) → Ascends near_cmp ns → is_last_nearer than ns ≡ true → list_all (is_nearer than) ns ≡ true
+    all_nearer than [] up h = refl
+    all_nearer than (n ∷ ns) up h =
+        let none : Near = record { slot = 0; square = 0 } in
+        let at : length (n ∷ ns) - 1 ≡ length ns = omega arith in
+        let last : is_nearer than (get_or (n ∷ ns) (length (n ∷ ns) - 1) none) ≡ true =
+        subst (λ b. (b || is_nearer than (get_or (n ∷ ns) (length (n ∷ ns) - 1) none)) ≡ true) (some (length ns)) h in
+        (each_nearer than none n ns up (subst (λ k. is_nearer than (get_or (n ∷ ns) k none) ≡ true) at last)).1
+      where
+        some : (k : ℕ) → nat_le (suc k) 0 ≡ false
+        some k = grind (arith, nat_tests)
+
+    pub passed : (hull : Bounds) (than : ℕ) → than ≡ square_apart to hull → want ≤ length nears → is_last_nearer than nears ≡ true
+        → (seen more : List (ℕ × Bounds)) → HasNearest bodies to want nears seen → All (λ e. encloses hull e.1 ≡ true) more
+        → HasNearest bodies to want nears (seen ++ more)
+    passed hull than is full last seen more has far in_space =
         let p = is_nearer than in
-        let known = seen_of bodies at seen in
-        let others = seen_of bodies at more in
+        let known = seen_of bodies to seen in
+        let others = seen_of bodies to more in
         let nears_are : nears ≡ take want (ordered_by near_cmp known) = has (λ e c a. in_space e (Contains-append_left seen more e c) a) in
         let none : filter p others ≡ [] = far_off hull than is more (recursion_from_All (λ e. encloses hull e.1 ≡ true) more far) in
         let both : filter p (known ++ others) ≡ filter p known =
         filter-append p known others ∙ ap (λ l. filter p known ++ l) none ∙ append-nil (filter p known) in
         let order = ordered_by near_cmp known in
+        let nearer : list_all p nears ≡ true = all_nearer than nears (rising_front known nears_are) last in
         let split : filter p order ≡ nears ++ filter p (drop want order) =
         sym (ap (filter p) (take-append-drop want order)) ∙ filter-append p (take want order) (drop want order)
         ∙ ap (λ l. filter p l ++ filter p (drop want order)) (sym nears_are) ∙ ap (λ l. l ++ filter p (drop want order)) (all_pass p nears nearer) in
@@ -169,21 +249,22 @@ module _ (bodies : FinMap nat_cmp Bounds) (at : Point) where
         ∙ sym (cut_front near_cmp near_total p (nearer_bound than) want (known ++ others) enough_both)
         ∙ ap (λ l. take want (ordered_by near_cmp l)) (sym (seen_more seen more))
 
-    pub not_asked : (e : ℕ × Bounds) → contains_key bodies e.0 ≡ false → (seen : List (ℕ × Bounds)) → HasNearest bodies at want nears seen
-        → HasNearest bodies at want nears (seen ++ e ∷ [])
+    pub not_asked : (e : ℕ × Bounds) → contains_key bodies e.0 ≡ false → (seen : List (ℕ × Bounds)) → HasNearest bodies to want nears seen
+        → HasNearest bodies to want nears (seen ++ e ∷ [])
     not_asked e out seen has in_space =
         has (λ f c a. in_space f (Contains-append_left seen (e ∷ []) f c) a)
         ∙ ap (λ l. take want (ordered_by near_cmp l))
-        (sym (append-nil (seen_of bodies at seen)) ∙ ap (λ l. seen_of bodies at seen ++ l) (sym (none_asked (e ∷ []) (out, tt))) ∙ sym (seen_more seen (e ∷ [])))
+        (sym (append-nil (seen_of bodies to seen)) ∙ ap (λ l. seen_of bodies to seen ++ l) (sym (none_asked (e ∷ []) (out, tt))) ∙ sym (seen_more seen (e ∷ [])))
 
-    pub took_place : (now : List Near) (e : ℕ × Bounds) → contains_key bodies e.0 ≡ true → now ≡ take want (placed near_cmp (seen_from at e) nears)
-        → (seen : List (ℕ × Bounds)) → HasNearest bodies at want nears seen → HasNearest bodies at want now (seen ++ e ∷ [])
+    pub took_place : (now : List Near) (e : ℕ × Bounds) → contains_key bodies e.0 ≡ true → (Ascends near_cmp nears → now ≡ take want (placed near_cmp (seen_about to e) nears))
+        → (seen : List (ℕ × Bounds)) → HasNearest bodies to want nears seen → HasNearest bodies to want now (seen ++ e ∷ [])
     took_place now e asked is seen has in_space =
-        let near = seen_from at e in
-        let known = seen_of bodies at seen in
-        let one : seen_of bodies at (e ∷ []) ≡ near ∷ [] = ap (λ b. cond b (near ∷ []) []) asked in
-        is
-        ∙ ap (λ l. take want (placed near_cmp near l)) (has (λ f c a. in_space f (Contains-append_left seen (e ∷ []) f c) a))
+        let near = seen_about to e in
+        let known = seen_of bodies to seen in
+        let one : seen_of bodies to (e ∷ []) ≡ near ∷ [] = ap (λ b. cond b (near ∷ []) []) asked in
+        let nears_are : nears ≡ take want (ordered_by near_cmp known) = has (λ f c a. in_space f (Contains-append_left seen (e ∷ []) f c) a) in
+        is (rising_front known nears_are)
+        ∙ ap (λ l. take want (placed near_cmp near l)) nears_are
         ∙ take_placed want near (ordered_by near_cmp known)
         ∙ ap (take want) (sym (only_members near_cmp near_total (near ∷ known) (known ++ near ∷ []) (ties_one (near ∷ known))
         (IsPermutation-sym (known ++ near ∷ []) (near ∷ known) (IsPermutation-to_front known near))))
@@ -200,7 +281,7 @@ looked_at look [] l e (k, c, is) = absurd (omega arith)
 looked_at look (x ∷ es) l e (zero, c, is) = subst (λ y. look y.0 ≡ Some y.1) is l.0
 looked_at look (x ∷ es) l e (suc k, c, is) = looked_at look es l.1 e (k, omega arith, is)
 
-module _ (at : Point) (bodies index : FinMap nat_cmp Bounds) (here : meets space (spot at) ≡ true) (in_space : AreInSpace bodies) (among : AreAmong bodies index) where
+module _ (to : Bounds) (bodies index : FinMap nat_cmp Bounds) (here : meets space to ≡ true) (in_space : AreInSpace bodies) (among : AreAmong bodies index) where
   -- the box of a slot that is asked for is the index's
   one_box : (e : ℕ × Bounds) → get index e.0 ≡ Some e.1 → (b : Bounds) → get bodies e.0 ≡ Some b → b ≡ e.1
   one_box e l b h = let same : Some b ≡ Some e.1 = sym (among e.0 b h) ∙ l in cc
@@ -217,30 +298,30 @@ module _ (at : Point) (bodies index : FinMap nat_cmp Bounds) (here : meets space
   le_most a h = grind (arith, nat_tests)
 
   one_slot : (e : ℕ × Bounds) → get index e.0 ≡ Some e.1 → (known : List Near) (others : List Near) → known ≡ others → (o : Option Bounds) → get bodies e.0 ≡ o
-      → cond (is_some (get bodies e.0)) (seen_from at e ∷ known) known ≡ cons_option (within_of at most e.0 (get bodies e.0)) others
+      → cond (is_some (get bodies e.0)) (seen_about to e ∷ known) known ≡ cons_option (within_of to most e.0 (get bodies e.0)) others
   one_slot e l known others rest None h = rw h rest
   one_slot e l known others rest (Some b) h =
-      let near : nat_le (square at b) most ≡ true = le_most (square at b) (all_near at here b (in_space e.0 b h)) in
-      let same : square at e.1 ≡ square at b = ap (square at) (sym (one_box e l b h)) in
+      let near : nat_le (square_apart to b) most ≡ true = le_most (square_apart to b) (all_near to here b (in_space e.0 b h)) in
+      let same : square_apart to e.1 ≡ square_apart to b = ap (square_apart to) (sym (one_box e l b h)) in
       rw h (rw near (λ i. record { slot = e.0; square = same i } ∷ rest i))
 
-  by_slots : (es : List (ℕ × Bounds)) → Looked (get index) es → seen_of bodies at es ≡ filter_map (within bodies at most) (map (λ e. e.0) es)
+  by_slots : (es : List (ℕ × Bounds)) → Looked (get index) es → seen_of bodies to es ≡ filter_map (within bodies to most) (map (λ e. e.0) es)
   by_slots [] l = refl
   by_slots (e ∷ es) l =
-      one_slot e l.0 (seen_of bodies at es) (filter_map (within bodies at most) (map (λ e. e.0) es)) (by_slots es l.1) (get bodies e.0) refl
+      one_slot e l.0 (seen_of bodies to es) (filter_map (within bodies to most) (map (λ e. e.0) es)) (by_slots es l.1) (get bodies e.0) refl
 
-  have : (k : ℕ) → is_some (within bodies at most k) ≡ true → has_slot (present index) k ≡ true
-  have k h = has_slots index k (by_box (get bodies k) refl (there at most k (get bodies k) h))
+  have : (k : ℕ) → is_some (within bodies to most k) ≡ true → has_slot (present index) k ≡ true
+  have k h = has_slots index k (by_box (get bodies k) refl (there to most k (get bodies k) h))
     where
       by_box : (o : Option Bounds) → get bodies k ≡ o → is_some o ≡ true → is_some (get index k) ≡ true
       by_box None e a = absurd (false≢true a)
       by_box (Some b) e a = ap is_some (among k b e)
 
-  pub all_seen : (want : ℕ) (nears : List Near) → HasNearest bodies at want nears (entries index) → nears ≡ nearest bodies at want
+  pub all_seen : (want : ℕ) (nears : List Near) → HasNearest bodies to want nears (entries index) → nears ≡ nearest_about bodies to want
   all_seen want nears has =
       has all_in_space
       ∙ ap (λ l. take want (ordered_by near_cmp l))
-      (by_slots (entries index) (looked_in index) ∙ gathered at most bodies (present index) (slots_up index) have ∙ all_gathered at bodies here in_space)
+      (by_slots (entries index) (looked_in index) ∙ gathered to most bodies (present index) (slots_up index) have ∙ all_gathered to bodies here in_space)
 
 pub none_seen : (want : ℕ) → take want (ordered_by near_cmp []) ≡ []
 none_seen zero = refl

@@ -2,18 +2,17 @@
 
 ghost use Rattle.std.specs.Prelude.{◌≡◌, refl, IsTrue, ◌≤◌, ◌++◌, [], false, take, insert, IfOk, OnOk, length};
 ghost use Rattle.std.proofs.Common.{◌∙◌};
-ghost use Rattle.std.specs.List.{list_all};
 ghost use Rattle.broad_index.specs.declared.query.Query.TheVariants.{Region};
 ghost use Rattle.fixed_box.specs.Bounds.{meets};
 ghost use Rattle.fixed_box.specs.Space.{space};
 ghost use Rattle.fixed_box.specs.declared.TheConstants.{SLOTS};
+ghost use Rattle.ordered_lists.specs.Ascending.{Ascends};
 ghost use Rattle.ordered_lists.specs.Ordered.{placed};
 ghost use Rattle.near_boxes.specs.Bodies.{AreInSpace, AreAmong};
-ghost use Rattle.near_boxes.specs.Nearest.{nearest, near_cmp, square};
-ghost use Rattle.near_boxes.specs.Within.{spot};
-ghost use Rattle.near_boxes.specs.Search.{HasNearest, any_order, is_nearer};
+ghost use Rattle.near_boxes.specs.Nearest.{nearest_about, near_cmp, square_apart};
+ghost use Rattle.near_boxes.specs.Search.{HasNearest, any_order, is_last_nearer};
 
-use crate::distance::square;
+use crate::distance::square_apart;
 use crate::{Bodies, Near};
 use broad_index::{BroadPhase, Query, Visitor};
 use fixed_box::{FBox, Fix, NoMemory, Point, space_law};
@@ -23,21 +22,21 @@ use std::alloc::Global;
 #[derive(Drop)]
 pub(crate) struct NearestSearch<'a, T: Bodies> {
     bodies: &'a T,
-    at: Point,
+    to: FBox,
     want: usize,
     nears: Vec<Near>,
 }
 
 impl<T: Bodies> Visitor for NearestSearch<'_, T> {
-    ghost saw = { λ s seen. HasNearest (T.bodies s.bodies.now) s.at s.want s.nears.items seen };
+    ghost saw = { λ s seen. HasNearest (T.bodies s.bodies.now) s.to s.want s.nears.items seen };
 
-    ghost keeps = { λ a b. (T.bodies b.bodies.now ≡ T.bodies a.bodies.now) × (b.at ≡ a.at) × (b.want ≡ a.want) };
+    ghost keeps = { λ a b. (T.bodies b.bodies.now ≡ T.bodies a.bodies.now) × (b.to ≡ a.to) × (b.want ≡ a.want) };
 
     ghost keeps_itself = { λ _. (refl, refl, refl) };
 
     ghost keeps_on = { λ _ _ _ f g. (g.0 ∙ f.0, g.1 ∙ f.1, g.2 ∙ f.2) };
 
-    ghost any_order = { λ s. any_order (T.bodies s.bodies.now) s.at s.want s.nears.items };
+    ghost any_order = { λ s. any_order (T.bodies s.bodies.now) s.to s.want s.nears.items };
 
     // All of space: no box is nearer for what it meets.
     fn query(&self) -> Query {
@@ -46,18 +45,18 @@ impl<T: Bodies> Visitor for NearestSearch<'_, T> {
 
     // As far as the farthest a lower slot may come before it.
     fn admits(&self, hull: &FBox) -> bool {
-        self.nears.len() < self.want || !are_nearer(&self.nears, square(&self.at, hull))
+        self.nears.len() < self.want || !is_last_nearer(&self.nears, square_apart(&self.to, hull))
     }
 
     fn prefers(&self, first: &FBox, second: &FBox) -> bool {
-        square(&self.at, first) <= square(&self.at, second)
+        square_apart(&self.to, first) <= square_apart(&self.to, second)
     }
 
     fn meet(&mut self, slot: u32, body: &FBox) -> Result<(), NoMemory> {
         if self.bodies.body(slot).is_none() {
             return Ok(());
         }
-        let square = square(&self.at, body);
+        let square = square_apart(&self.to, body);
         place(Near { slot, square }, self.want, &mut self.nears)
     }
 }
@@ -67,32 +66,24 @@ pub(crate) fn descend<B: BroadPhase, T: Bodies>(
     room: Vec<Near>,
     index: &B,
     bodies: &T,
-    at: &Point,
+    to: &FBox,
     want: usize,
 ) -> Result<Vec<Near>, NoMemory>
     requires empty { room.items ≡ [] }
     requires in_space { AreInSpace (T.bodies bodies.now) }
     requires among { AreAmong (T.bodies bodies.now) (B.bodies index.now) }
-    ensures { IfOk result (λ found. found.items ≡ nearest (T.bodies bodies.now) at.now want) }
+    ensures { IfOk result (λ found. found.items ≡ nearest_about (T.bodies bodies.now) to.now want) }
 {
-    spot_law(at);
+    space_law(to);
     let alloc = *room.allocator();
     let mut search = NearestSearch {
         bodies,
-        at: *at,
+        to: *to,
         want,
         nears: room,
     };
     index.visit(alloc, &mut search)?;
     Ok(search.nears)
-}
-
-// A law for proofs, with nothing to run: a point lies in space.
-fn spot_law(at: &Point)
-    ensures { IsTrue (meets space (spot at.now)) }
-{
-    let spot = FBox::new(*at, *at).unwrap();
-    space_law(&spot);
 }
 
 // The box that all of space is.
@@ -112,16 +103,17 @@ fn all_of_space() -> FBox
     FBox::new(lo, hi).unwrap()
 }
 
-// Whether all are nearer than a square.
-fn are_nearer(nears: &[Near], than: u128) -> bool
-    ensures { result ≡ list_all (is_nearer than) nears.now }
+// Whether the last is nearer than a square, as it is where there is none.
+fn is_last_nearer(nears: &[Near], than: u128) -> bool
+    ensures { result ≡ is_last_nearer than nears.now }
 {
-    nears.iter().all(|near| near.square < than)
+    let len = nears.len();
+    len == 0 || nears[len - 1].square < than
 }
 
 // Puts one into its place among those that stand in order, and keeps the first so many.
 fn place(near: Near, want: usize, nears: &mut Vec<Near>) -> Result<(), NoMemory>
-    ensures { OnOk result (nears.new.items ≡ take want (placed near_cmp near nears.old.items)) }
+    ensures { OnOk result (Ascends near_cmp nears.old.items → nears.new.items ≡ take want (placed near_cmp near nears.old.items)) }
 {
     let at = place_of(&near, nears);
     nears.insert(at, near)?;
@@ -129,14 +121,14 @@ fn place(near: Near, want: usize, nears: &mut Vec<Near>) -> Result<(), NoMemory>
     Ok(())
 }
 
-// How many of those that stand in order come before it.
+// How many of those that stand in order come before it: most of them, since boxes come about nearest first.
 fn place_of(near: &Near, nears: &[Near]) -> usize
     ensures within { result ≤ length nears.now }
-    ensures place { placed near_cmp near.now nears.now ≡ insert nears.now result near.now }
+    ensures place { Ascends near_cmp nears.now → placed near_cmp near.now nears.now ≡ insert nears.now result near.now }
 {
-    let mut at = 0;
-    'places: while at < nears.len() && nears[at] < *near {
-        at += 1;
+    let mut at = nears.len();
+    'places: while 0 < at && !(nears[at - 1] < *near) {
+        at -= 1;
     }
     at
 }

@@ -1,7 +1,7 @@
-//! The square of the distance from a point to a box.
+//! The square of the distance from a point to a box, and of that between two boxes.
 
 ghost use Rattle.std.specs.Prelude.{◌≡◌, ◌^◌, ◌<◌};
-ghost use Rattle.near_boxes.specs.Nearest.{above, gap, squared, square};
+ghost use Rattle.near_boxes.specs.Nearest.{above, gap_between, spot, squared, square, square_apart};
 
 use fixed_box::{FBox, Fix, Point};
 
@@ -11,27 +11,45 @@ pub fn square(at: &Point, body: &FBox) -> u128
     ensures value { result ≡ square at.now body.now }
     ensures bound { result < 2 ^ 66 }
 {
-    let lo = body.lo();
-    let hi = body.hi();
-    let x = gap_square(lo.x, hi.x, at.x);
-    let y = gap_square(lo.y, hi.y, at.y);
-    let z = gap_square(lo.z, hi.z, at.z);
+    square_apart(&spot(at), body)
+}
+
+/// The square of the distance between two boxes, in raw units squared: that between the two points, one of each box, that are
+/// nearest to each other, and 0 if the boxes have a common point. It is exact.
+pub fn square_apart(a: &FBox, b: &FBox) -> u128
+    ensures value { result ≡ square_apart a.now b.now }
+    ensures bound { result < 2 ^ 66 }
+{
+    let a_lo = a.lo();
+    let a_hi = a.hi();
+    let b_lo = b.lo();
+    let b_hi = b.hi();
+    let x = gap_square(a_lo.x, a_hi.x, b_lo.x, b_hi.x);
+    let y = gap_square(a_lo.y, a_hi.y, b_lo.y, b_hi.y);
+    let z = gap_square(a_lo.z, a_hi.z, b_lo.z, b_hi.z);
     u128::from(x) + u128::from(y) + u128::from(z)
 }
 
-// The square of how far a coordinate lies from an interval.
-fn gap_square(lo: Fix, hi: Fix, at: Fix) -> u64
-    ensures value { result ≡ squared (gap lo hi at) }
-    ensures bound { result < 2 ^ 64 }
+/// The flat box at a point, whose distance from another box is the point's.
+pub fn spot(at: &Point) -> FBox
+    ensures { result ≡ spot at.now }
 {
-    squared(gap(lo, hi, at))
+    FBox::new(*at, *at).unwrap()
 }
 
-// How far a coordinate lies from an interval.
-fn gap(lo: Fix, hi: Fix, at: Fix) -> u32
-    ensures { result ≡ gap lo hi at }
+// The square of how far two intervals lie apart.
+fn gap_square(a_lo: Fix, a_hi: Fix, b_lo: Fix, b_hi: Fix) -> u64
+    ensures value { result ≡ squared (gap_between a_lo a_hi b_lo b_hi) }
+    ensures bound { result < 2 ^ 64 }
 {
-    above(at, lo).max(above(hi, at))
+    squared(gap_between(a_lo, a_hi, b_lo, b_hi))
+}
+
+// How far two intervals lie apart.
+fn gap_between(a_lo: Fix, a_hi: Fix, b_lo: Fix, b_hi: Fix) -> u32
+    ensures { result ≡ gap_between a_lo a_hi b_lo b_hi }
+{
+    above(a_hi, b_lo).max(above(b_hi, a_lo))
 }
 
 // How far a coordinate lies above another, and 0 where it doesn't.

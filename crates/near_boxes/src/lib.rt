@@ -1,4 +1,4 @@
-//! The boxes that are nearest to a point, of those that a broad phase keeps.
+//! The boxes that are nearest to a point or to a box, of those that a broad phase keeps.
 #![tactic(auto)]
 
 mod bodies;
@@ -9,7 +9,7 @@ mod near;
 mod search;
 
 pub use bodies::Bodies;
-pub use distance::square;
-pub use laws::{nearest_law, square_law};
+pub use distance::{spot, square, square_apart};
+pub use laws::{apart_law, nearest_about_law, nearest_law, square_law};
 pub use near::Near;
 pub use search::nearest;

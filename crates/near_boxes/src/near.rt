@@ -7,7 +7,7 @@ ghost use Rattle.std.proofs.Common.{rules};
 
 use std::cmp::Ordering;
 
-/// A slot, with the square of the distance from a point to its box, in raw units squared.
+/// A slot, with the square of the distance of its box from what was asked about, in raw units squared.
 #[derive(Clone, Copy, Debug, PartialEq, Eq)]
 pub struct Near {
     pub slot: u32,

@@ -1,65 +1,66 @@
-//! The nearest boxes, by cubes around the point that widen until they hold enough of them.
+//! The nearest boxes to a box, which is fattened more and more until it meets enough of them.
 
 ghost use Rattle.std.specs.Prelude.{◌≡◌, ◌<◌, ◌≤◌, ◌++◌, false, IsTrue, take, IfOk, OnOk, OnErr};
 ghost use Rattle.std.specs.List.{filter_map};
 ghost use Rattle.fixed_box.specs.declared.TheConstants.{SLOTS};
-ghost use Rattle.fixed_box.specs.Bounds.{meets};
-ghost use Rattle.fixed_box.specs.Space.{space};
+ghost use Rattle.fixed_box.specs.Bounds.{fattened};
 ghost use Rattle.ordered_lists.specs.Ordered.{ordered_by};
 ghost use Rattle.broad_index.specs.Found.{found};
 ghost use Rattle.broad_index.specs.declared.query.Query.TheVariants.{Region};
 ghost use Rattle.near_boxes.specs.Bodies.{AreInSpace, AreAmong};
-ghost use Rattle.near_boxes.specs.Nearest.{nearest, near_cmp};
-ghost use Rattle.near_boxes.specs.Within.{within, spot, cube};
+ghost use Rattle.near_boxes.specs.Nearest.{nearest_about, near_cmp};
+ghost use Rattle.near_boxes.specs.Within.{within};
 
 use crate::descent::descend;
-use crate::distance::{square, squared};
+use crate::distance::{square_apart, squared};
 use crate::{Bodies, Near};
 use broad_index::{BroadPhase, Query, member_laws};
-use fixed_box::{FBox, NoMemory, Point, space_law};
+use fixed_box::{FBox, NoMemory, space_law};
 use ordered_lists::{order_laws, push_front_in_order};
 use slot_lists::push_filter_mapped;
 use std::alloc::Global;
 use std::mem;
 
-// Half the side of the first cube, in raw units: a sixteenth of a unit.
+// By how much the box is fattened first, in raw units: a sixteenth of a unit.
 const NARROWEST: u32 = 1 << 12;
 
-// Up to how many are sought by one descent, which compares each hull with all that it has.
-const MOST_BY_DESCENT: u32 = 16;
+// Up to how many are sought by one descent, which puts each box that it is shown into its place among those that it has.
+const MOST_BY_DESCENT: u32 = 64;
 
-/// Appends the `want` bodies that are nearest to a point, or all where there are fewer, in rising order of the square of
-/// their distance and then of their slot. After an `Err` `out` is as before.
+/// Appends the `want` bodies that are nearest to a box, or all where there are fewer, in rising order of the square of
+/// their distance and then of their slot. Those nearest to a point are those nearest to its `spot`. After an `Err` `out` is
+/// as before.
 ///
-/// Up to 16 are sought by one descent of an index that descends, which passes by what lies farther than those it has. It takes
-/// memory for these where `out` isn't empty, or has no room for one more than `want`. Else it asks the index for a cube around the point, and for wider ones until `want` bodies are as near as the cube's sides:
-/// at most 21, of which the last is all of space. So over a structure that keeps boxes by where they are, its time goes by
-/// how many lie about as near as the last of the answer. It takes memory for the slots that a cube meets, and for those of
-/// the bodies that are near enough.
+/// Up to 64 are sought by one descent of an index that descends, which passes by what lies farther than those it has. It takes
+/// memory for these where `out` isn't empty, or has no room for one more than `want`. Else it asks the index for the box
+/// fattened a little, and then fattened more until `want` bodies lie within its margin: at most 21 times, of which the last
+/// asks for all of space. So over a structure that keeps boxes by where they are, its time goes by how many lie about as near
+/// as the last of the answer. It takes memory for the slots that the fattened box meets, and for those of the bodies that are
+/// near enough.
 ///
 /// ```
-/// nearest(alloc, &index, &bodies, &at, 8, &mut nears)?; // the slots of the eight nearest, each with its square
+/// nearest(alloc, &index, &bodies, &body, 8, &mut nears)?; // the slots of the eight nearest, each with its square
 /// ```
 pub fn nearest<B: BroadPhase, T: Bodies>(
     alloc: Global,
     index: &B,
     bodies: &T,
-    at: &Point,
+    to: &FBox,
     want: u32,
     out: &mut Vec<Near>,
 ) -> Result<(), NoMemory>
     requires want { (1 ≤ want) × (want ≤ SLOTS) }
     requires sound { B.spent index.now ≡ false }
     requires among { AreAmong (T.bodies bodies.now) (B.bodies index.now) }
-    ensures ok { OnOk result (out.new.items ≡ out.old.items ++ nearest (T.bodies bodies.now) at.now want) }
+    ensures ok { OnOk result (out.new.items ≡ out.old.items ++ nearest_about (T.bodies bodies.now) to.now want) }
     ensures err { OnErr result (out.new.items ≡ out.old.items) }
 {
     in_space(bodies);
     if want <= MOST_BY_DESCENT && index.descends() {
-        return push_by_descent(alloc, index, bodies, at, want as usize, out);
+        return push_by_descent(alloc, index, bodies, to, want as usize, out);
     }
     let want = want as usize;
-    let mut found = find_enough(alloc, index, bodies, at, want)?;
+    let mut found = find_enough(alloc, index, bodies, to, want)?;
     push_front_in_order(&mut found, want, out)?;
     Ok(())
 }
@@ -69,20 +70,20 @@ fn push_by_descent<B: BroadPhase, T: Bodies>(
     alloc: Global,
     index: &B,
     bodies: &T,
-    at: &Point,
+    to: &FBox,
     want: usize,
     out: &mut Vec<Near>,
 ) -> Result<(), NoMemory>
     requires in_space { AreInSpace (T.bodies bodies.now) }
     requires among { AreAmong (T.bodies bodies.now) (B.bodies index.now) }
-    ensures ok { OnOk result (out.new.items ≡ out.old.items ++ nearest (T.bodies bodies.now) at.now want) }
+    ensures ok { OnOk result (out.new.items ≡ out.old.items ++ nearest_about (T.bodies bodies.now) to.now want) }
     ensures err { OnErr result (out.new.items ≡ out.old.items) }
 {
     if out.is_empty() {
         let room = mem::replace(out, Vec::new(alloc));
-        *out = descend(room, index, bodies, at, want)?;
+        *out = descend(room, index, bodies, to, want)?;
     } else {
-        let found = descend(Vec::new(alloc), index, bodies, at, want)?;
+        let found = descend(Vec::new(alloc), index, bodies, to, want)?;
         out.extend_from_slice(&found)?;
     }
     Ok(())
@@ -95,97 +96,86 @@ fn in_space<T: Bodies>(bodies: &T)
     let _ = bodies.body(0);
 }
 
-// Bodies among which the `want` nearest are: where a cube has so many that are no farther than its sides, all others are
+// Bodies among which the `want` nearest are: if a fattened box has so many that lie within its margin, all others are
 // farther than those.
 fn find_enough<B: BroadPhase, T: Bodies>(
     alloc: Global,
     index: &B,
     bodies: &T,
-    at: &Point,
+    to: &FBox,
     want: usize,
 ) -> Result<Vec<Near>, NoMemory>
     requires in_space { AreInSpace (T.bodies bodies.now) }
     requires among { AreAmong (T.bodies bodies.now) (B.bodies index.now) }
-    ensures { IfOk result (λ found. take want (ordered_by near_cmp found.items) ≡ nearest (T.bodies bodies.now) at.now want) }
+    ensures { IfOk result (λ found. take want (ordered_by near_cmp found.items) ≡ nearest_about (T.bodies bodies.now) to.now want) }
 {
     order_laws::<Near>();
     member_laws();
+    space_law(to);
     let mut slots = Vec::new(alloc);
     let mut found = Vec::new(alloc);
-    let mut half = NARROWEST;
-    'cubes: while half < u32::MAX {
-        find_slots(index, at, half, &mut slots)?;
+    let mut margin = NARROWEST;
+    'margins: while margin < u32::MAX {
+        find_slots(index, to, margin, &mut slots)?;
         if slots.len() >= want {
-            let most = u128::from(squared(half));
-            keep_within(bodies, at, most, &slots, &mut found)?;
+            let most = u128::from(squared(margin));
+            keep_within(bodies, to, most, &slots, &mut found)?;
             if found.len() >= want {
                 return Ok(found);
             }
         }
-        half = wider(half, slots.len(), want);
+        margin = wider(margin, slots.len(), want);
     }
-    // The last cube is all of space, and nothing in it is too far.
-    find_slots(index, at, u32::MAX, &mut slots)?;
-    keep_within(bodies, at, u128::MAX, &slots, &mut found)?;
+    // The last is all of space, and nothing in it is too far.
+    find_slots(index, to, u32::MAX, &mut slots)?;
+    keep_within(bodies, to, u128::MAX, &slots, &mut found)?;
     Ok(found)
 }
 
-// Twice the half side of a cube, or four times where so few boxes were found that eight times as many wouldn't be enough,
-// since a cube twice as wide has eight times the room.
-fn wider(half: u32, found: usize, want: usize) -> u32
-    requires some { 0 < half }
-    requires narrow { half < 4294967295 }
-    ensures { half < result }
+// Twice the margin, or four times where so few boxes were found that eight times as many wouldn't be enough, since a cube
+// twice as wide has eight times the room.
+fn wider(margin: u32, found: usize, want: usize) -> u32
+    requires some { 0 < margin }
+    requires narrow { margin < 4294967295 }
+    ensures { margin < result }
 {
     let by = if found < want.div_ceil(8) { 4 } else { 2 };
-    half.saturating_mul(by)
+    margin.saturating_mul(by)
 }
 
-// Replaces a list by the slots whose boxes meet the cube around a point.
+// Replaces a list by the slots whose boxes meet a fattened box.
 fn find_slots<B: BroadPhase>(
     index: &B,
-    at: &Point,
-    half: u32,
+    to: &FBox,
+    margin: u32,
     slots: &mut Vec<u32>,
 ) -> Result<(), NoMemory>
-    ensures slots { OnOk result (slots.new.items ≡ found (B.bodies index.now) (Region (cube at.now half))) }
-    ensures at { IsTrue (meets space (spot at.now)) }
+    ensures { OnOk result (slots.new.items ≡ found (B.bodies index.now) (Region (fattened to.now margin))) }
 {
     slots.clear();
-    let cube = cube(at, half);
-    index.hits(&Query::Region(cube), slots)
+    index.hits(&Query::Region(to.fatten(margin)), slots)
 }
 
-// The cube around a point, stopped at the ends of space.
-fn cube(at: &Point, half: u32) -> FBox
-    ensures corners { result ≡ cube at.now half }
-    ensures at { IsTrue (meets space (spot at.now)) }
-{
-    let spot = FBox::new(*at, *at).unwrap();
-    space_law(&spot);
-    spot.fatten(half)
-}
-
-// Replaces a list by those of some slots whose bodies are within a distance of a point.
+// Replaces a list by those of some slots whose bodies are within a distance of a box.
 fn keep_within<T: Bodies>(
     bodies: &T,
-    at: &Point,
+    to: &FBox,
     most: u128,
     slots: &[u32],
     found: &mut Vec<Near>,
 ) -> Result<(), NoMemory>
-    ensures { OnOk result (found.new.items ≡ filter_map (within (T.bodies bodies.now) at.now most) slots.now) }
+    ensures { OnOk result (found.new.items ≡ filter_map (within (T.bodies bodies.now) to.now most) slots.now) }
 {
     found.clear();
-    push_filter_mapped(slots, found, |slot| within(bodies, at, most, *slot))
+    push_filter_mapped(slots, found, |slot| within(bodies, to, most, *slot))
 }
 
-// A slot, where its body is within a distance of a point.
-fn within<T: Bodies>(bodies: &T, at: &Point, most: u128, slot: u32) -> Option<Near>
-    ensures { result ≡ within (T.bodies bodies.now) at.now most slot }
+// A slot, where its body is within a distance of a box.
+fn within<T: Bodies>(bodies: &T, to: &FBox, most: u128, slot: u32) -> Option<Near>
+    ensures { result ≡ within (T.bodies bodies.now) to.now most slot }
 {
     let body = bodies.body(slot)?;
-    let square = square(at, &body);
+    let square = square_apart(to, &body);
     if square <= most {
         Some(Near { slot, square })
     } else {

@@ -1,41 +1,12 @@
--- What holds of the whole list in order, cut after its first members, and of no other list.
-use Rattle.std.proofs.Common.{List, min, map, ap, sym, ◌∙◌}
-use Rattle.std.specs.Ordering.{nat_cmp}
-use Rattle.std.specs.FinMap.{FinMap, entries, len-entries}
-use Rattle.std.proofs.lemmas.List.{length-take, length-map}
-use Rattle.std.proofs.lemmas.List.Sorted.{Contains-permutation}
-use Rattle.fixed_box.specs.declared.point.Point.{Point}
-use Rattle.fixed_box.specs.Bounds.{Bounds}
-use Rattle.ordered_lists.specs.Ordered.{ordered_by}
-use Rattle.near_boxes.specs.declared.near.Near.{Near}
-use Rattle.near_boxes.specs.Nearest.{near_cmp, seen_from}
-use Rattle.near_boxes.specs.NearOrder.{near_total}
-use Rattle.near_boxes.proofs.NearMembers.{seen, seen_in, front_member, front_rising, front_before}
-use Rattle.near_boxes.proofs.OneNearest.{one_nearest}
+-- The nearest to a point are those to the flat box at it, of which the same is known.
+use Rattle.near_boxes.specs.Nearest.{spot}
 use Rattle.near_boxes.proofs.laws.nearest_law.Goals as goal
-
-abbrev all : FinMap nat_cmp Bounds → Point → List Near
-all bodies at = map (seen_from at) (entries bodies)
-
-abbrev ordered : FinMap nat_cmp Bounds → Point → List Near
-ordered bodies at = ordered_by near_cmp (all bodies at)
 
 pub returns-clause-nearest : goal.returns-clause-nearest
 returns-clause-nearest c bodies at want =
-    let moved = c.order_laws.ensures.members near_cmp (all bodies at) in
-    let sorted = c.order_laws.ensures.rising near_cmp near_total (all bodies at) in
-    record {
-      count =
-          length-take want (ordered bodies at)
-          ∙ ap (min want) (c.order_laws.ensures.len near_cmp (all bodies at) ∙ length-map (entries bodies) (seen_from at) ∙ sym (len-entries bodies));
-      seen = λ near h.
-          seen bodies at near (c.order_laws.ensures.member near_cmp (all bodies at) near (front_member bodies at moved sorted want near h));
-      rising = front_rising bodies at moved sorted want;
-      left_out = λ near other h s.
-          front_before bodies at moved sorted want near other h
-          (Contains-permutation (all bodies at) (ordered bodies at) other moved (seen_in bodies at other s));
-    }
+    let a = c.nearest_about_law.ensures.nearest bodies (spot at) want in
+    record { count = a.count; seen = a.seen; rising = a.rising; left_out = a.left_out }
 
 pub returns-clause-only : goal.returns-clause-only
 returns-clause-only c bodies at want nears a =
-    one_nearest bodies at (c.order_laws.ensures.members near_cmp (all bodies at)) (c.order_laws.ensures.rising near_cmp near_total (all bodies at)) want nears a
+    c.nearest_about_law.ensures.only bodies (spot at) want nears (record { count = a.count; seen = a.seen; rising = a.rising; left_out = a.left_out })

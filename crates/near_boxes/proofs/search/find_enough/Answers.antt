@@ -1,20 +1,21 @@
--- What a cube's slots give are the boxes within its half side, and where these are enough the nearest are among them.
+-- What a fattened box's slots give are the boxes within its margin, and where these are enough the nearest are among them.
 use Rattle.std.proofs.Common.{◌≡◌, ℕ, List, Option, map, filter, take, ap, ◌∙◌, sym, arith, rules, subst, inl, inr, refl}
 use Rattle.std.specs.Prelude.{◌≤◌, length}
 use Rattle.std.specs.List.{filter_map}
 use Rattle.std.specs.FinMap.{entries}
+use Rattle.fixed_box.specs.Bounds.{fattened}
 use Rattle.ordered_lists.specs.Ordered.{ordered_by}
 use Rattle.broad_index.specs.Found.{found}
 use Rattle.broad_index.specs.declared.query.Query.TheVariants.{Region}
 use Rattle.near_boxes.specs.declared.near.Near.{Near}
-use Rattle.near_boxes.specs.Nearest.{near_cmp, seen_from, squared}
-use Rattle.near_boxes.specs.Within.{is_within, all_within, within, cube, Reaches}
+use Rattle.near_boxes.specs.Nearest.{near_cmp, seen_about, squared}
+use Rattle.near_boxes.specs.Within.{is_within, all_within, within, Reaches}
 use Rattle.near_boxes.specs.NearOrder.{near_total, within_bound}
 use Rattle.near_boxes.proofs.Gathered.{gathered_by, all_gathered}
 use Rattle.near_boxes.proofs.search.find_enough.Goals as goal
 
-reaches : (half most : ℕ) → most ≡ squared half → Reaches half most
-reaches half most e = inl (at_most most (squared half) e)
+reaches : (margin most : ℕ) → most ≡ squared margin → Reaches margin most
+reaches margin most e = inl (at_most most (squared margin) e)
   where
     at_most : (m n : ℕ) → m ≡ n → m ≤ n
     at_most m n e = omega arith
@@ -37,37 +38,37 @@ pub returns-then-len-want-2 : goal.returns-then-len-want-2
 returns-then-len-want-2 g c =
     let bodies = g.T.Bodies.bodies c.args.bodies.now in
     let index = g.B.BroadPhase.bodies c.args.index.now in
-    let at = c.args.at.now in
-    let half = c.cubes.half in
+    let to = c.args.to.now in
+    let margin = c.margins.margin in
     let most = c.from-most.result in
     let want = c.args.want in
-    let all : filter_map (within bodies at most) (found index (Region (cube at half))) ≡ all_within bodies at most =
-    gathered_by at most bodies index half c.in_ok-find_slots.ensures.at c.requires.in_space c.requires.among
-    (reaches half most (c.from-most.ensures ∙ c.squared.ensures)) (c.member_laws.ensures.found_rises index) (c.member_laws.ensures.found index)
+    let all : filter_map (within bodies to most) (found index (Region (fattened to margin))) ≡ all_within bodies to most =
+    gathered_by to most bodies index margin c.space_law.ensures c.requires.in_space c.requires.among
+    (reaches margin most (c.from-most.ensures ∙ c.squared.ensures)) (c.member_laws.ensures.found_rises index) (c.member_laws.ensures.found index)
     in
-    let is : c.keep_within.new.found.items ≡ all_within bodies at most =
-    kept_of (within bodies at most) c.deref.result.now c.find_slots.new.slots.items (found index (Region (cube at half))) c.keep_within.new.found.items
-    (all_within bodies at most) c.in_ok-keep_within.ensures c.deref.ensures.value c.in_ok-find_slots.ensures.slots all
+    let is : c.keep_within.new.found.items ≡ all_within bodies to most =
+    kept_of (within bodies to most) c.deref.result.now c.find_slots.new.slots.items (found index (Region (fattened to margin))) c.keep_within.new.found.items
+    (all_within bodies to most) c.in_ok-keep_within.ensures c.deref.ensures.value c.in_ok-find_slots.ensures all
     in
     let enough : want ≤ length c.keep_within.new.found.items = first_of (search rules, omega arith, omega (arith, c.keep_within.new.found.ok.0)) in
-    front_within most want (map (seen_from at) (entries bodies)) c.keep_within.new.found.items
-    (c.order_laws.ensures.bounded near_cmp near_total (is_within most) (within_bound most) want (map (seen_from at) (entries bodies))) is enough
+    front_within most want (map (seen_about to) (entries bodies)) c.keep_within.new.found.items
+    (c.order_laws.ensures.bounded near_cmp near_total (is_within most) (within_bound most) want (map (seen_about to) (entries bodies))) is enough
 
 pub returns : goal.returns
 returns g c =
     let bodies = g.T.Bodies.bodies c.args.bodies.now in
     let index = g.B.BroadPhase.bodies c.args.index.now in
-    let at = c.args.at.now in
+    let to = c.args.to.now in
     let most : ℕ = 340282366920938463463374607431768211455 in
-    let space = cube at 4294967295 in
-    let all : filter_map (within bodies at most) (found index (Region space)) ≡ all_within bodies at most =
-    gathered_by at most bodies index 4294967295 c.in_ok-find_slots-2.ensures.at c.requires.in_space c.requires.among (inr refl)
+    let space = fattened to 4294967295 in
+    let all : filter_map (within bodies to most) (found index (Region space)) ≡ all_within bodies to most =
+    gathered_by to most bodies index 4294967295 c.space_law.ensures c.requires.in_space c.requires.among (inr refl)
     (c.member_laws.ensures.found_rises index) (c.member_laws.ensures.found index)
     in
-    let is : c.keep_within-2.new.found.items ≡ all_within bodies at most =
-    kept_of (within bodies at most) c.deref-2.result.now c.find_slots-2.new.slots.items (found index (Region space)) c.keep_within-2.new.found.items
-    (all_within bodies at most) c.in_ok-keep_within-2.ensures c.deref-2.ensures.value c.in_ok-find_slots-2.ensures.slots all
+    let is : c.keep_within-2.new.found.items ≡ all_within bodies to most =
+    kept_of (within bodies to most) c.deref-2.result.now c.find_slots-2.new.slots.items (found index (Region space)) c.keep_within-2.new.found.items
+    (all_within bodies to most) c.in_ok-keep_within-2.ensures c.deref-2.ensures.value c.in_ok-find_slots-2.ensures all
     in
-    let whole : all_within bodies at most ≡ map (seen_from at) (entries bodies) =
-    all_gathered at bodies c.in_ok-find_slots-2.ensures.at c.requires.in_space in
+    let whole : all_within bodies to most ≡ map (seen_about to) (entries bodies) =
+    all_gathered to bodies c.space_law.ensures c.requires.in_space in
     ap (front c.args.want) (is ∙ whole)

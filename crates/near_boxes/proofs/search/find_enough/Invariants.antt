@@ -1,9 +1,9 @@
--- The cubes grow.
+-- The margins grow.
 use Rattle.std.proofs.Common.{◌<◌, ◌-◌}
 use Rattle.near_boxes.proofs.search.find_enough.Given as goal
 
-abbrev pub invariant-cubes : goal.invariant-cubes
-invariant-cubes g l = 0 < l.half
+abbrev pub invariant-margins : goal.invariant-margins
+invariant-margins g l = 0 < l.margin
 
-abbrev pub decreases-cubes : goal.decreases-cubes
-decreases-cubes g l = 4294967296 - l.half
+abbrev pub decreases-margins : goal.decreases-margins
+decreases-margins g l = 4294967296 - l.margin

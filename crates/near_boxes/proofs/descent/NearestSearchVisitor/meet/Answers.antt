@@ -10,7 +10,7 @@ pub returns-then-is_none : goal.returns-then-is_none
 returns-then-is_none g c =
     let s = c.args.self.now in
     record {
-      seen = not_asked (g.T.Bodies.bodies s.bodies.now) s.at s.want s.nears.items (c.args.slot, c.args.body.now)
+      seen = not_asked (g.T.Bodies.bodies s.bodies.now) s.to s.want s.nears.items (c.args.slot, c.args.body.now)
           (sym (ap is_some c.body.ensures.body) ∙ c.is_none.ensures ∙ ap not c.if-is_none.true);
       kept = (refl, refl, refl);
     }
@@ -20,8 +20,8 @@ returns g c =
     let s = c.args.self.now in
     record {
       seen = on_ok_weaker c.place.result
-          (λ is. took_place (g.T.Bodies.bodies s.bodies.now) s.at s.want s.nears.items c.place.new.nears.items (c.args.slot, c.args.body.now)
+          (λ is. took_place (g.T.Bodies.bodies s.bodies.now) s.to s.want s.nears.items c.place.new.nears.items (c.args.slot, c.args.body.now)
           (sym (ap is_some c.body.ensures.body) ∙ c.is_none.ensures ∙ ap not c.if-is_none.false)
-          (is ∙ ap (λ q. take s.want (placed near_cmp (record { slot = c.args.slot; square = q }) s.nears.items)) c.square-square.ensures.value)) c.place.ensures;
+          (λ up. is up ∙ ap (λ q. take s.want (placed near_cmp (record { slot = c.args.slot; square = q }) s.nears.items)) c.square_apart-square.ensures.value)) c.place.ensures;
       kept = on_ok_weaker c.place.result (λ _. (refl, refl, refl)) c.place.ensures;
     }

@@ -10,6 +10,6 @@ pub returns : goal.returns
 returns g c =
     let s = c.args.self.now in
     record {
-      missed = λ seen more has out. missed (g.T.Bodies.bodies s.bodies.now) s.at s.want s.nears.items seen more has
+      missed = λ seen more has out. missed (g.T.Bodies.bodies s.bodies.now) s.to s.want s.nears.items seen more has
           (subst (λ b. All (λ e. query_meets (Region b) e.1 ≡ false) more) c.all_of_space.ensures out);
     }
