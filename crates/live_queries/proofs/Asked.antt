@@ -1,5 +1,5 @@
--- The live boxes of some groups, as a map from slot to box.
-use Rattle.std.proofs.Common.{◌≡◌, ℕ, suc, ◌<◌, Bool, true, false, cond, ◌==◌, nat_lt, List, [], ◌∷◌, filter, Option, None, Some, refl, sym, ap, ◌∙◌}
+-- The live boxes of some groups that lie far enough from a box, as a map from slot to box.
+use Rattle.std.proofs.Common.{◌≡◌, ℕ, suc, ◌<◌, Bool, true, false, cond, ◌&&◌, ◌==◌, nat_lt, nat_le, List, [], ◌∷◌, filter, Option, None, Some, refl, sym, ap, ◌∙◌}
 use Rattle.std.proofs.Common.{subst, arith, inl, inr}
 use Rattle.std.specs.List.{All, list_all}
 use Rattle.std.specs.Ordering.{nat_cmp, is_lt, eq_by_cmp}
@@ -8,6 +8,7 @@ use Rattle.std.specs.Cmp.{first_so, second_so}
 use Rattle.std.specs.Cmp.Derive.{both_true}
 use Rattle.std.specs.FinMap.{entries, find, get, is_sorted, get-from_sorted, entries-from_sorted}
 use Rattle.std.specs.FinMap.Entries.{below_all}
+use Rattle.std.proofs.lemmas.Bool.Decides.{nat_tests}
 use Rattle.std.proofs.lemmas.Bool.{eq-eqb, eqb-true, cases_Bool, false≢true, ltb-true}
 use Rattle.fixed_box.specs.Bounds.{Bounds, meets}
 use Rattle.slot_lists.specs.SlotMapLaws.{tie_same, tie_other}
@@ -17,8 +18,9 @@ use Rattle.live_table.specs.Entries.{slot_of, live_at, rises}
 use Rattle.live_table.specs.Table.{Table, IsTable}
 use Rattle.near_boxes.specs.Bodies.{AreInSpace, AreAmong}
 use Rattle.live_table.specs.Bodies.{slots_with_bodies, bodies_of}
+use Rattle.near_boxes.specs.Nearest.{square_apart}
 use Rattle.live_queries.specs.Pairs.{is_asked_for}
-use Rattle.live_queries.specs.Queries.{asked_for}
+use Rattle.live_queries.specs.Queries.{is_from, asked_from}
 use Rattle.fixed_box.proofs.Bools.{true_to}
 
 -- a box, where there is one that passes a test
@@ -78,27 +80,42 @@ module _ (p : Live → Bool) where
       here k e true es h n = ap (λ t. cond t (Some e.body) (find nat_cmp k (slots_with_bodies es))) h
       here k e false es h n = n
 
--- what a slot has among the boxes of some groups
-pub get_asked : (mask : ℕ) (t : Table) → IsTable t → (k : ℕ) → get (bodies_of (asked_for t.entries mask)) k ≡ picked (is_asked_for mask) (live_at k t.entries)
-get_asked mask t table k =
-    get-from_sorted nat_cmp (slots_with_bodies (asked_for t.entries mask)) k (true_to _ (sorted_of (is_asked_for mask) t.entries table.rising))
-    ∙ found_live (is_asked_for mask) k t.entries table.rising
+-- what a slot has among the boxes that pass a test
+get_passing : (p : Live → Bool) (t : Table) → IsTable t → (k : ℕ) → get (bodies_of (filter p t.entries)) k ≡ picked p (live_at k t.entries)
+get_passing p t table k =
+    get-from_sorted nat_cmp (slots_with_bodies (filter p t.entries)) k (true_to _ (sorted_of p t.entries table.rising)) ∙ found_live p k t.entries table.rising
 
--- and their entries
-pub entries_asked : (mask : ℕ) (t : Table) → IsTable t → entries (bodies_of (asked_for t.entries mask)) ≡ slots_with_bodies (asked_for t.entries mask)
-entries_asked mask t table =
-    entries-from_sorted nat_cmp (slots_with_bodies (asked_for t.entries mask)) (true_to _ (sorted_of (is_asked_for mask) t.entries table.rising))
+-- what passes one test and then another passes both
+both_pass : (p q : Live → Bool) (es : List Live) → filter q (filter p es) ≡ filter (λ e. p e && q e) es
+both_pass p q [] = refl
+both_pass p q (e ∷ es) = one (p e) (both_pass p q es)
+  where
+    one : (b : Bool) → filter q (filter p es) ≡ filter (λ x. p x && q x) es
+        → filter q (cond b (e ∷ filter p es) (filter p es)) ≡ cond (b && q e) (e ∷ filter (λ x. p x && q x) es) (filter (λ x. p x && q x) es)
+    one true rest = ap (λ l. cond (q e) (e ∷ l) l) rest
+    one false rest = rest
+
+-- a box of one of the groups, and far enough
+abbrev pub is_asked_from : Bounds → ℕ → ℕ → Live → Bool
+is_asked_from body from mask e = is_asked_for mask e && is_from body from e
 
 all_pass : (es : List Live) → filter (λ _. true) es ≡ es
 all_pass [] = refl
 all_pass (e ∷ es) = ap (λ rest. e ∷ rest) (all_pass es)
 
+-- no box is nearer than 0
+pub from_none : (body : Bounds) (es : List Live) → filter (is_from body 0) es ≡ es
+from_none body [] = refl
+from_none body (e ∷ es) =
+    ap (λ b. cond b (e ∷ filter (is_from body 0) es) (filter (is_from body 0) es)) (least (square_apart body e.body)) ∙ ap (λ rest. e ∷ rest) (from_none body es)
+  where
+    least : (n : ℕ) → nat_le 0 n ≡ true
+    least n = grind (arith, nat_tests)
+
 -- what a slot has among all boxes
 get_all : (t : Table) → IsTable t → (k : ℕ) → get (bodies_of t.entries) k ≡ picked (λ _. true) (live_at k t.entries)
 get_all t table k =
-    ap (λ es. get (bodies_of es) k) (sym (all_pass t.entries))
-    ∙ get-from_sorted nat_cmp (slots_with_bodies (filter (λ _. true) t.entries)) k (true_to _ (sorted_of (λ _. true) t.entries table.rising))
-    ∙ found_live (λ _. true) k t.entries table.rising
+    ap (λ es. get (bodies_of es) k) (sym (all_pass t.entries)) ∙ get_passing (λ _. true) t table k
 
 live_holds : (P : Live → Type 0) (k : ℕ) (es : List Live) → All P es → (e : Live) → live_at k es ≡ Some e → P e
 live_holds P k [] h e is = absurd (cc)
@@ -118,12 +135,29 @@ picked_is p (Some e) b h = by_test (p e) h
     by_test true h = (e, refl, (let s : e.body ≡ b = cc in s))
     by_test false h = absurd (cc)
 
-pub space_asked : (mask : ℕ) (t : Table) → IsTable t → AreInSpace (bodies_of (asked_for t.entries mask))
-space_asked mask t table k b h =
-    let p = picked_is (is_asked_for mask) (live_at k t.entries) b (sym (get_asked mask t table k) ∙ h) in
-    ap (meets space) (sym p.2) ∙ live_holds (λ e. meets space e.body ≡ true) k t.entries table.in_space p.0 p.1
+module _ (body : Bounds) (from mask : ℕ) (t : Table) (table : IsTable t) where
+  abbrev test : Live → Bool
+  test = is_asked_from body from mask
 
-pub among_asked : (mask : ℕ) (t : Table) → IsTable t → AreAmong (bodies_of (asked_for t.entries mask)) (bodies_of t.entries)
-among_asked mask t table k b h =
-    let p = picked_is (is_asked_for mask) (live_at k t.entries) b (sym (get_asked mask t table k) ∙ h) in
-    get_all t table k ∙ ap (picked (λ _. true)) p.1 ∙ ap (λ x. Some x) p.2
+  asked_both : asked_from t.entries body from mask ≡ filter test t.entries
+  asked_both = both_pass (is_asked_for mask) (is_from body from) t.entries
+
+  -- what a slot has among the boxes that are asked for
+  pub get_asked : (k : ℕ) → get (bodies_of (asked_from t.entries body from mask)) k ≡ picked test (live_at k t.entries)
+  get_asked k = ap (λ es. get (bodies_of es) k) asked_both ∙ get_passing test t table k
+
+  -- and their entries
+  pub entries_asked : entries (bodies_of (asked_from t.entries body from mask)) ≡ slots_with_bodies (asked_from t.entries body from mask)
+  entries_asked =
+      subst (λ es. entries (bodies_of es) ≡ slots_with_bodies es) (sym asked_both)
+      (entries-from_sorted nat_cmp (slots_with_bodies (filter test t.entries)) (true_to _ (sorted_of test t.entries table.rising)))
+
+  pub space_asked : AreInSpace (bodies_of (asked_from t.entries body from mask))
+  space_asked k b h =
+      let p = picked_is test (live_at k t.entries) b (sym (get_asked k) ∙ h) in
+      ap (meets space) (sym p.2) ∙ live_holds (λ e. meets space e.body ≡ true) k t.entries table.in_space p.0 p.1
+
+  pub among_asked : AreAmong (bodies_of (asked_from t.entries body from mask)) (bodies_of t.entries)
+  among_asked k b h =
+      let p = picked_is test (live_at k t.entries) b (sym (get_asked k) ∙ h) in
+      get_all t table k ∙ ap (picked (λ _. true)) p.1 ∙ ap (λ x. Some x) p.2

@@ -2,25 +2,26 @@
 use Rattle.std.proofs.Common.{◌≡◌, ℕ, Bool, true, false, cond, List, [], ◌∷◌, map, filter, take, Some, refl, sym, ap, ◌∙◌, subst}
 use Rattle.std.specs.List.{filter_map}
 use Rattle.fixed_box.specs.declared.point.Point.{Point}
+use Rattle.fixed_box.specs.Bounds.{Bounds}
 use Rattle.ordered_lists.specs.Ordered.{ordered_by}
 use Rattle.near_boxes.specs.declared.near.Near.{Near}
-use Rattle.near_boxes.specs.Nearest.{near_cmp, seen_from, nearest, nearest_of}
+use Rattle.near_boxes.specs.Nearest.{near_cmp, seen_about, nearest, nearest_about, nearest_about_of, spot}
 use Rattle.live_table.specs.declared.handle.Handle.{Handle}
 use Rattle.live_table.specs.declared.live.Live.{Live}
 use Rattle.live_table.specs.Bodies.{bodies_of, slots_with_bodies}
 use Rattle.live_table.specs.Entries.{slot_of, live_at}
 use Rattle.live_table.specs.Table.{Table, IsTable}
 use Rattle.live_queries.specs.Pairs.{is_asked_for}
-use Rattle.live_queries.specs.Queries.{handles, asked_for, by_distance, nearest_to}
+use Rattle.live_queries.specs.Queries.{handles, asked_for, asked_from, is_from, by_distance, by_gap, nearest_to, nearest_to_box}
 use Rattle.live_queries.specs.Beside.{AreBeside, handle_at}
-use Rattle.live_queries.proofs.Asked.{entries_asked}
+use Rattle.live_queries.proofs.Asked.{entries_asked, from_none}
 use Rattle.live_queries.proofs.BesideLaws.{ordered_beside, front_beside, handles_beside}
 use Rattle.live_queries.proofs.Touches.{AreFound, all_found}
 
-module _ (at : Point) (all : List Live) where
+module _ (body : Bounds) (all : List Live) where
   -- a slot with its square is that of a live box
   record IsSeen (near : Near) (entry : Live) : Type 0 where
-    pub seen : near ≡ seen_from at (slot_of entry, entry.body)
+    pub seen : near ≡ seen_about body (slot_of entry, entry.body)
     pub live : live_at (slot_of entry) all ≡ Some entry
 
   some_found : (p : Live → Bool) (es : List Live) → AreFound all es → AreFound all (filter p es)
@@ -30,11 +31,11 @@ module _ (at : Point) (all : List Live) where
     | false ↦ some_found p es h.1
   ]
 
-  seen_beside : (es : List Live) → AreFound all es → AreBeside IsSeen (map (seen_from at) (slots_with_bodies es)) es
+  seen_beside : (es : List Live) → AreFound all es → AreBeside IsSeen (map (seen_about body) (slots_with_bodies es)) es
   seen_beside [] h = tt
   seen_beside (e ∷ es) h = (record { seen = refl; live = h.0 }, seen_beside es h.1)
 
-  agree : (n m : Near) (e f : Live) → IsSeen n e → IsSeen m f → near_cmp n m ≡ by_distance at e f
+  agree : (n m : Near) (e f : Live) → IsSeen n e → IsSeen m f → near_cmp n m ≡ by_gap body e f
   agree n m e f r s = λ i. near_cmp (r.seen i) (s.seen i)
 
   found : (n : Near) (e : Live) → IsSeen n e → live_at n.slot all ≡ Some e
@@ -46,27 +47,38 @@ module _ (at : Point) (all : List Live) where
   slots_seen (n ∷ ns) [] b = absurd b
   slots_seen (n ∷ ns) (e ∷ es) b = λ i. sym (ap (λ (m : Near). m.slot) b.0.seen) i ∷ slots_seen ns es b.1 i
 
-module _ (t : Table) (is : IsTable t) (at : Point) (want mask : ℕ) where
+module _ (t : Table) (is : IsTable t) (body : Bounds) (from want mask : ℕ) where
+  abbrev asked : List Live
+  asked = asked_from t.entries body from mask
+
   -- the nearest slots beside the boxes that are asked for, put in order and cut
-  beside : AreBeside (IsSeen at t.entries) (nearest (bodies_of (asked_for t.entries mask)) at want)
-      (take want (ordered_by (by_distance at) (asked_for t.entries mask)))
+  beside : AreBeside (IsSeen body t.entries) (nearest_about (bodies_of asked) body want) (take want (ordered_by (by_gap body) asked))
   beside =
-      let es : List Live = asked_for t.entries mask in
-      let seen : List Near = map (seen_from at) (slots_with_bodies es) in
-      subst (λ xs. AreBeside (IsSeen at t.entries) (nearest_of xs at want) (take want (ordered_by (by_distance at) es))) (sym (entries_asked mask t is))
-      (front_beside (IsSeen at t.entries) want (ordered_by near_cmp seen) (ordered_by (by_distance at) es)
-      (ordered_beside (IsSeen at t.entries) near_cmp (by_distance at) (agree at t.entries) seen es
-      (seen_beside at t.entries es (some_found at t.entries (is_asked_for mask) t.entries (all_found t.entries is.rising)))))
+      let seen : List Near = map (seen_about body) (slots_with_bodies asked) in
+      subst (λ xs. AreBeside (IsSeen body t.entries) (nearest_about_of xs body want) (take want (ordered_by (by_gap body) asked)))
+      (sym (entries_asked body from mask t is))
+      (front_beside (IsSeen body t.entries) want (ordered_by near_cmp seen) (ordered_by (by_gap body) asked)
+      (ordered_beside (IsSeen body t.entries) near_cmp (by_gap body) (agree body t.entries) seen asked
+      (seen_beside body t.entries asked (some_found body t.entries (is_from body from) (asked_for t.entries mask)
+      (some_found body t.entries (is_asked_for mask) t.entries (all_found t.entries is.rising))))))
 
-pub nearest_slots : (t : Table) (at : Point) (want mask : ℕ) → IsTable t
+  pub nearest_slots : map (λ (h : Handle). h.slot) (nearest_to_box t.entries body from want mask)
+      ≡ map (λ (n : Near). n.slot) (nearest_about (bodies_of asked) body want)
+  nearest_slots = slots_seen body t.entries (nearest_about (bodies_of asked) body want) (take want (ordered_by (by_gap body) asked)) beside
+
+  pub nearest_handles : (nears : List Near) → nears ≡ nearest_about (bodies_of asked) body want
+      → filter_map (λ (n : Near). handle_at t.entries n.slot) nears ≡ nearest_to_box t.entries body from want mask
+  nearest_handles nears e =
+      ap (filter_map (λ (n : Near). handle_at t.entries n.slot)) e
+      ∙ handles_beside (λ (n : Near). n.slot) (IsSeen body t.entries) t.entries (found body t.entries) (nearest_about (bodies_of asked) body want)
+      (take want (ordered_by (by_gap body) asked)) beside
+
+-- The nearest to a point are those nearest to the flat box at it, from no distance on.
+pub at_spot : (es : List Live) (at : Point) (want mask : ℕ) → nearest_to es at want mask ≡ nearest_to_box es (spot at) 0 want mask
+at_spot es at want mask = ap (λ l. handles (take want (ordered_by (by_distance at) l))) (sym (from_none (spot at) (asked_for es mask)))
+
+pub point_slots : (t : Table) (at : Point) (want mask : ℕ) → IsTable t
     → map (λ (h : Handle). h.slot) (nearest_to t.entries at want mask) ≡ map (λ (n : Near). n.slot) (nearest (bodies_of (asked_for t.entries mask)) at want)
-nearest_slots t at want mask is =
-    slots_seen at t.entries (nearest (bodies_of (asked_for t.entries mask)) at want) (take want (ordered_by (by_distance at) (asked_for t.entries mask)))
-    (beside t is at want mask)
-
-pub nearest_handles : (t : Table) (at : Point) (want mask : ℕ) (nears : List Near) → IsTable t → nears ≡ nearest (bodies_of (asked_for t.entries mask)) at want
-    → filter_map (λ (n : Near). handle_at t.entries n.slot) nears ≡ nearest_to t.entries at want mask
-nearest_handles t at want mask nears is e =
-    ap (filter_map (λ (n : Near). handle_at t.entries n.slot)) e
-    ∙ handles_beside (λ (n : Near). n.slot) (IsSeen at t.entries) t.entries (found at t.entries) (nearest (bodies_of (asked_for t.entries mask)) at want)
-    (take want (ordered_by (by_distance at) (asked_for t.entries mask))) (beside t is at want mask)
+point_slots t at want mask is =
+    ap (map (λ (h : Handle). h.slot)) (at_spot t.entries at want mask) ∙ nearest_slots t is (spot at) 0 want mask
+    ∙ ap (λ l. map (λ (n : Near). n.slot) (nearest (bodies_of l) at want)) (from_none (spot at) (asked_for t.entries mask))

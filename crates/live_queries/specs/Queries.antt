@@ -1,5 +1,5 @@
--- Which live boxes a ray enters and a box that is cast touches, in what order, and which are nearest to a point.
-use Rattle.std.specs.Prelude.{ℕ, Bool, ◌&&◌, if◌then◌else◌, List, map, filter, take, Option, Some, None, is_some}
+-- Which live boxes a ray enters and a box that is cast touches, in what order, and which are nearest to a point or to a box.
+use Rattle.std.specs.Prelude.{ℕ, Bool, ◌&&◌, nat_le, if◌then◌else◌, List, map, filter, take, Option, Some, None, is_some}
 use Rattle.std.specs.Option.{option_cmp}
 use Rattle.std.specs.Ordering.{nat_cmp, on, then_cmp}
 use Rattle.std.specs.declared.cmp.Ordering.{Ordering}
@@ -11,7 +11,7 @@ use Rattle.ray_slabs.specs.First.{first, value_cmp}
 use Rattle.ray_slabs.specs.WideBounds.{widened_box}
 use Rattle.box_cast.specs.declared.cast.Cast.{Cast}
 use Rattle.box_cast.specs.Cast.{first_contact}
-use Rattle.near_boxes.specs.Nearest.{square}
+use Rattle.near_boxes.specs.Nearest.{square, square_apart}
 use Rattle.ordered_lists.specs.Ordered.{ordered_by}
 use Rattle.live_table.specs.declared.handle.Handle.{Handle}
 use Rattle.live_table.specs.declared.live.Live.{Live}
@@ -62,3 +62,20 @@ by_distance at = then_cmp (on (λ entry. square at entry.body) nat_cmp) (on slot
 -- most so many. The groups are looked at before the list is cut.
 abbrev pub nearest_to : List Live → Point → ℕ → ℕ → List Handle
 nearest_to entries at want mask = handles (take want (ordered_by (by_distance at) (asked_for entries mask)))
+
+-- by the square of the distance from a box, and where two are equal by slot
+abbrev pub by_gap : Bounds → Live → Live → Ordering
+by_gap body = then_cmp (on (λ entry. square_apart body entry.body) nat_cmp) (on slot_of nat_cmp)
+
+-- the square of the distance from a box is at least so much
+abbrev pub is_from : Bounds → ℕ → Live → Bool
+is_from body from entry = nat_le from (square_apart body entry.body)
+
+-- the boxes of some groups that lie at least so far, as a square, from a box
+abbrev pub asked_from : List Live → Bounds → ℕ → ℕ → List Live
+asked_from entries body from mask = filter (is_from body from) (asked_for entries mask)
+
+-- The boxes that are nearest to a box, of those at least so far from it and of the groups that are asked for, in rising order of the square of the
+-- distance and then of the slot, and at most so many. Distance and groups are looked at before the list is cut.
+abbrev pub nearest_to_box : List Live → Bounds → ℕ → ℕ → ℕ → List Handle
+nearest_to_box entries body from want mask = handles (take want (ordered_by (by_gap body) (asked_from entries body from mask)))

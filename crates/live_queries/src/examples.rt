@@ -3,11 +3,11 @@
 ghost use Rattle.std.specs.Prelude.{◌≡◌, pos, negsuc, true, false, Some, None, [], ◌∷◌, ◌++◌, take, drop};
 ghost use Rattle.broad_index.specs.declared.query.Query.TheVariants.{Along};
 ghost use Rattle.live_table.specs.Example.{under};
-ghost use Rattle.near_boxes.specs.Rows.{three_crates, middle, far_and_near, lowest};
+ghost use Rattle.near_boxes.specs.Rows.{three_crates, middle, far_and_near, lowest, beside, low_end};
 ghost use Rattle.live_queries.specs.declared.face.Axis.TheVariants.{X};
 ghost use Rattle.live_queries.specs.Face.{entry_face, contact_face};
 ghost use Rattle.live_queries.specs.Pairs.{hits_of};
-ghost use Rattle.live_queries.specs.Queries.{entered_of, cast_of, nearest_to};
+ghost use Rattle.live_queries.specs.Queries.{entered_of, cast_of, nearest_to, nearest_to_box};
 ghost use Rattle.live_queries.specs.Rows.{lives, between, flat, ray_from, moved_by, three_ahead, two_ahead, at_the_end};
 
 // A ray meets nearer boxes first, whatever their slots. Those that it meets at one place, as all around its start, come by
@@ -50,4 +50,16 @@ fn the_nearest_are_told_first()
     ensures none { nearest_to (lives 1 three_crates) middle 3 2 ≡ [] }
     ensures asked { nearest_to (lives 1 (take 1 three_crates) ++ lives 2 (drop 1 three_crates)) middle 1 2 ≡ under 1 0 ∷ [] }
     ensures far { nearest_to (lives 1 far_and_near) lowest 1 4294967295 ≡ under 1 0 ∷ [] }
+{}
+
+// A box that touches the second crate is a unit from the first and four from the third. From the square of the first on it is told
+// again, and one more leaves it out. Of two that are as near the lower slot comes first, and a box that is too near doesn't count.
+fn the_nearest_to_a_box_are_told_from_a_distance_on()
+    ensures all { nearest_to_box (lives 1 three_crates) (beside 2) 0 8192 4294967295 ≡ under 1 0 ∷ under 0 0 ∷ under 2 0 ∷ [] }
+    ensures from { nearest_to_box (lives 1 three_crates) (beside 2) 4294967296 8192 4294967295 ≡ under 0 0 ∷ under 2 0 ∷ [] }
+    ensures beyond { nearest_to_box (lives 1 three_crates) (beside 2) 4294967297 8192 4294967295 ≡ under 2 0 ∷ [] }
+    ensures ties { nearest_to_box (lives 1 three_crates) (beside 0) 17179869184 1 4294967295 ≡ under 1 0 ∷ [] }
+    ensures asked { nearest_to_box (lives 1 (take 1 three_crates) ++ lives 2 (drop 1 three_crates)) (beside 0) 0 1 2 ≡ under 1 0 ∷ [] }
+    // A distance whose square is cut to 64 bits would leave none out.
+    ensures far { nearest_to_box (lives 1 far_and_near) low_end 18446744073709551616 8192 4294967295 ≡ under 0 0 ∷ [] }
 {}

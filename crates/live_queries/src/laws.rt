@@ -10,7 +10,7 @@ ghost use Rattle.ray_slabs.specs.declared.ray.Ray.{Ray};
 ghost use Rattle.ray_slabs.specs.Crossing.{Fraction};
 ghost use Rattle.box_cast.specs.declared.cast.Cast.{Cast};
 ghost use Rattle.box_cast.specs.Cast.{in_cast};
-ghost use Rattle.near_boxes.specs.Nearest.{nearest};
+ghost use Rattle.near_boxes.specs.Nearest.{nearest, nearest_about, spot};
 ghost use Rattle.live_table.specs.declared.live.Live.{Live};
 ghost use Rattle.live_table.specs.Bodies.{bodies_of};
 ghost use Rattle.live_table.specs.Table.{Table, IsTable};
@@ -22,7 +22,7 @@ ghost use Rattle.live_table.specs.Entries.{slot_of, live_at, entered, with_body}
 ghost use Rattle.live_queries.specs.InHandles.{AreCurrent};
 ghost use Rattle.live_queries.specs.PairLaw.{IsPairOf};
 ghost use Rattle.live_queries.specs.Pairs.{pairs_of, hits_of, is_asked_for};
-ghost use Rattle.live_queries.specs.Queries.{handles, by_place, met_in_order, entered_of, cast_of, asked_for, nearest_to};
+ghost use Rattle.live_queries.specs.Queries.{handles, by_place, met_in_order, entered_of, cast_of, asked_for, asked_from, nearest_to, nearest_to_box};
 
 use box_cast::cast_law;
 use fixed_box::SLOTS;
@@ -63,3 +63,13 @@ pub fn queries_law()
     cast_law();
     order_laws::<Live>();
 }
+
+/// Laws of the nearest to a box, for proofs, with nothing to run. They have the slots of the nearest in the map of the boxes that are
+/// asked for and far enough off, of which `nearest_about_law` of `near_boxes` speaks; and the nearest to a point are those
+/// nearest to the flat box at it, from 0 on.
+pub fn nearest_box_law()
+    ensures nearest { (t : Table) (body : Bounds) (from want mask : ℕ) → IsTable t →
+        map (λ handle. handle.slot) (nearest_to_box t.entries body from want mask)
+        ≡ map (λ near. near.slot) (nearest_about (bodies_of (asked_from t.entries body from mask)) body want) }
+    ensures spot { (es : List Live) (at : Point) (want mask : ℕ) → nearest_to es at want mask ≡ nearest_to_box es (spot at) 0 want mask }
+{}

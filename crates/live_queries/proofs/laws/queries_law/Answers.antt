@@ -4,7 +4,7 @@ use Rattle.ray_slabs.specs.Crossing.{in_ray}
 use Rattle.ray_slabs.specs.WideBounds.{widened_box}
 use Rattle.box_cast.specs.Cast.{in_cast}
 use Rattle.live_queries.specs.Queries.{is_met, by_place, entry_of, contact_of}
-use Rattle.live_queries.proofs.NearestHandles.{nearest_slots}
+use Rattle.live_queries.proofs.NearestHandles.{point_slots}
 use Rattle.live_queries.proofs.QueryLaws.{place_total, handles_moved, entered_where}
 use Rattle.live_queries.proofs.laws.queries_law.Goals as goal
 
@@ -22,4 +22,4 @@ pub returns-clause-rising : goal.returns-clause-rising
 returns-clause-rising c place es mask = c.order_laws.ensures.rising (by_place place) (place_total place) (filter (is_met place mask) es)
 
 pub returns-clause-nearest : goal.returns-clause-nearest
-returns-clause-nearest c t at want mask is = nearest_slots t at want mask is
+returns-clause-nearest c t at want mask is = point_slots t at want mask is

@@ -1,24 +1,14 @@
--- The boxes that are asked for are among those of the index, and the nearest of them are told in handles.
-use Rattle.std.proofs.Common.{◌≡◌, ◌++◌, ap, ◌∙◌}
-use Rattle.std.specs.FinMap.{get}
+-- What is nearest to the flat box at the point.
+use Rattle.std.proofs.Common.{◌++◌, ap, sym, ◌∙◌}
 use Rattle.std.proofs.lemmas.Result.{on_ok_weaker}
-use Rattle.live_table.specs.Bodies.{bodies_of}
-use Rattle.near_boxes.specs.Nearest.{nearest}
-use Rattle.live_queries.specs.Queries.{asked_for}
-use Rattle.live_queries.proofs.Asked.{among_asked}
-use Rattle.live_queries.proofs.NearestHandles.{nearest_handles}
+use Rattle.live_queries.specs.Queries.{nearest_to_box}
+use Rattle.live_queries.proofs.NearestHandles.{at_spot}
 use Rattle.live_queries.proofs.nearest.push_nearest.Goals as goal
-
-pub nearest-requires-clause-among : goal.nearest-requires-clause-among
-nearest-requires-clause-among g c κs within k b h =
-    ap (λ m. get m k) c.requires.bodies ∙ among_asked c.args.query.now.mask c.args.table.now c.requires.table k b h
 
 pub returns-clause-ok : goal.returns-clause-ok
 returns-clause-ok g c =
     let query = c.args.query.now in
-    let bodies = bodies_of (asked_for c.args.table.now.entries query.mask) in
-    let told : c.deref.result.now ≡ nearest bodies query.at query.want =
-    c.deref.ensures.value ∙ c.in_ok-nearest.ensures.ok ∙ ap (λ ns. ns ++ nearest bodies query.at query.want) c.clear.ensures.items in
-    on_ok_weaker c.push_handles.result (λ is. is
-    ∙ ap (λ hs. c.args.out.now.items ++ hs) (nearest_handles c.args.table.now query.at query.want query.mask c.deref.result.now c.requires.table told))
-    c.push_handles.ensures.ok
+    let entries = c.args.table.now.entries in
+    on_ok_weaker c.push_nearest_box.result (λ is. is
+    ∙ ap (λ hs. c.args.out.now.items ++ hs) (ap (λ b. nearest_to_box entries b 0 query.want query.mask) c.spot.ensures
+    ∙ sym (at_spot entries query.at query.want query.mask))) c.push_nearest_box.ensures.ok
