@@ -2,6 +2,7 @@
 #![tactic(auto)]
 
 mod any_world;
+mod nearest;
 mod reading;
 
 pub use any_world::AnyWorld;

@@ -1,12 +1,12 @@
 //! What such a world tells of itself, and the queries among its live boxes.
 
-ghost use Rattle.std.specs.Prelude.{◌≡◌, ◌≤◌, ◌++◌, true, false, length, min, None, IfOk, OnOk, OnErr};
+ghost use Rattle.std.specs.Prelude.{◌≡◌, ◌≤◌, ◌++◌, true, false, length, None, IfOk, OnOk, OnErr};
 ghost use Rattle.fixed_box.specs.declared.TheConstants.{SLOTS};
 ghost use Rattle.live_table.specs.Entries.{entry_at, live_at};
 ghost use Rattle.live_table.specs.Table.{IsTable};
 ghost use Rattle.live_queries.specs.First.{IsFirstEntered, IsFirstTouched, HasFirst};
 ghost use Rattle.live_queries.specs.Pairs.{hits_of};
-ghost use Rattle.live_queries.specs.Queries.{entered_of, cast_of, nearest_to};
+ghost use Rattle.live_queries.specs.Queries.{entered_of, cast_of};
 ghost use Rattle.box_world.specs.World.{pairs};
 ghost use Rattle.any_world.specs.AnyWorld.{state_of, structure_of};
 
@@ -14,7 +14,7 @@ use crate::AnyWorld;
 use box_cast::Cast;
 use broad_index::Query;
 use fixed_box::NoMemory;
-use live_queries::{AskRoom, FirstHit, NearQuery};
+use live_queries::{AskRoom, FirstHit};
 use live_table::{Handle, Live, LiveTable};
 use pair_events::{Events, HPair};
 use ray_slabs::Ray;
@@ -285,29 +285,6 @@ impl AnyWorld {
             AnyWorld::Tree(world) => world.first_cast(cast, mask),
             AnyWorld::Grid(world) => world.first_cast(cast, mask),
             AnyWorld::Skin(world) => world.first_cast(cast, mask),
-        }
-    }
-
-    /// Appends the handles of the live boxes that are nearest to a point, of the groups that the query's mask has: at most as
-    /// many as it wants and at most `SLOTS`, in rising order of the square of their distance and then of their slot. After an
-    /// `Err` `out` is as before.
-    pub fn nearest(
-        &self,
-        query: &NearQuery,
-        room: &mut AskRoom,
-        out: &mut Vec<Handle>,
-    ) -> Result<(), NoMemory>
-        ensures sound { OnOk result ((state_of self.now).spent ≡ false) }
-        ensures ok { OnOk result (out.new.items ≡ out.old.items
-            ++ nearest_to (state_of self.now).time.now.table.entries query.now.at (min query.now.want SLOTS) query.now.mask) }
-        ensures err { OnErr result (out.new.items ≡ out.old.items) }
-    {
-        match self {
-            AnyWorld::Plain(world) => world.nearest(query, room, out),
-            AnyWorld::Sap(world) => world.nearest(query, room, out),
-            AnyWorld::Tree(world) => world.nearest(query, room, out),
-            AnyWorld::Grid(world) => world.nearest(query, room, out),
-            AnyWorld::Skin(world) => world.nearest(query, room, out),
         }
     }
 }

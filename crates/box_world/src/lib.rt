@@ -4,6 +4,7 @@
 
 mod framing;
 mod laws;
+mod nearest;
 mod noting;
 mod parts;
 mod reading;

@@ -1,23 +1,22 @@
 //! What a world tells of itself, and the queries among its live boxes.
 
-ghost use Rattle.std.specs.Prelude.{◌≡◌, ◌≤◌, ◌++◌, true, false, length, min, None, IfOk, OnOk, OnErr};
+ghost use Rattle.std.specs.Prelude.{◌≡◌, ◌≤◌, ◌++◌, true, false, length, None, IfOk, OnOk, OnErr};
 ghost use Rattle.fixed_box.specs.declared.TheConstants.{SLOTS};
 ghost use Rattle.live_table.specs.Bodies.{bodies_of};
 ghost use Rattle.live_table.specs.Entries.{entry_at, live_at};
 ghost use Rattle.live_table.specs.Table.{IsTable};
 ghost use Rattle.live_queries.specs.First.{IsFirstEntered, IsFirstTouched, HasFirst};
 ghost use Rattle.live_queries.specs.Pairs.{hits_of};
-ghost use Rattle.live_queries.specs.Queries.{entered_of, cast_of, nearest_to};
+ghost use Rattle.live_queries.specs.Queries.{entered_of, cast_of};
 ghost use Rattle.box_world.specs.World.{pairs};
 
 use crate::BoxWorld;
 use crate::since::Since;
 use box_cast::Cast;
 use broad_index::{BroadPhase, Query};
-use fixed_box::{NoMemory, SLOTS};
+use fixed_box::NoMemory;
 use live_queries::{
-    AskRoom, FirstHit, NearQuery, first_cast, first_entered, push_cast, push_entered, push_hits,
-    push_nearest, push_pairs,
+    AskRoom, FirstHit, first_cast, first_entered, push_cast, push_entered, push_hits, push_pairs,
 };
 use live_table::{Handle, Live, LiveTable};
 use pair_events::{Events, HPair};
@@ -264,39 +263,6 @@ impl<B: BroadPhase + Drop> BoxWorld<B> {
             &self.parts.index,
             cast,
             mask,
-        )
-    }
-
-    /// Appends the handles of the live boxes that are nearest to a point, of the groups that the query's mask has: at most as
-    /// many as it wants and at most `SLOTS`, in rising order of the square of their distance and then of their slot. After an
-    /// `Err` `out` is as before.
-    pub fn nearest(
-        &self,
-        query: &NearQuery,
-        room: &mut AskRoom,
-        out: &mut Vec<Handle>,
-    ) -> Result<(), NoMemory>
-        ensures sound { OnOk result (self.now.spent ≡ false) }
-        ensures ok { OnOk result (out.new.items ≡ out.old.items
-            ++ nearest_to self.now.time.now.table.entries query.now.at (min query.now.want SLOTS) query.now.mask) }
-        ensures err { OnErr result (out.new.items ≡ out.old.items) }
-    {
-        if self.spent {
-            return Err(NoMemory);
-        }
-        if query.want == 0 {
-            return Ok(());
-        }
-        let wanted = NearQuery {
-            want: query.want.min(SLOTS),
-            ..*query
-        };
-        push_nearest(
-            &self.parts.table,
-            &self.parts.index,
-            &wanted,
-            &mut room.nears,
-            out,
         )
     }
 }

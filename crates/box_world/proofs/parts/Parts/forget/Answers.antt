@@ -1,5 +1,5 @@
 -- The worlds of the newer marks are left, where so many marks are held.
-use Rattle.std.proofs.Common.{◌≡◌, true, false, not, nat_lt, length, drop, reverse, refl, ap, sym, subst, ◌∙◌}
+use Rattle.std.proofs.Common.{◌≡◌, true, false, not, nat_lt, length, reverse, refl, ap, sym, subst, ◌∙◌}
 use Rattle.box_world.specs.World.{forgotten}
 use Rattle.box_world.specs.Parts.{world_in, timeline, timeline_in, CanReturn}
 use Rattle.box_world.proofs.Marked.{marks_as_worlds, forgotten_worlds, forgotten_returns, after_forget, after_no_forget}
