@@ -1,9 +1,10 @@
 -- The first hit of a ray or of a moved box, as C is told of it.
-use Rattle.std.specs.Prelude.{◌≡◌, ◌⊎◌, ℕ, ◌^◌, ◌/◌, ◌%◌, Bool, true, false, List, Option, None, Some}
+use Rattle.std.specs.Prelude.{◌≡◌, ◌⊎◌, ℕ, Bool, true, false, List, Option, None, Some, Result, Ok, Err}
 use Rattle.fixed_box.specs.Bounds.{Bounds}
 use Rattle.ray_slabs.specs.Crossing.{Fraction}
 use Rattle.box_cast.specs.declared.cast.Cast.{Cast}
 use Rattle.live_table.specs.declared.live.Live.{Live}
+use Rattle.near_boxes.specs.Nearest.{square_apart}
 use Rattle.live_queries.specs.declared.face.Axis.{Axis}
 use Rattle.live_queries.specs.declared.face.Axis.TheVariants.{X, Y, Z}
 use Rattle.live_queries.specs.declared.face.Face.{Face}
@@ -13,10 +14,10 @@ use Rattle.live_queries.specs.First.{IsFirstTouched, IsHitAt}
 use Rattle.live_queries.specs.Queries.{contact_of}
 use Rattle.held_world.specs.declared.TheConstants.{OK, STALE, NO_MEMORY, INVERTED, LOWER, UPPER, NO_AXIS}
 use Rattle.held_world.specs.declared.answers.Reply.{Reply}
-use Rattle.held_world.specs.declared.meetings.PwSquare.{PwSquare}
+use Rattle.held_world.specs.declared.squares.PwSquare.{PwSquare}
 use Rattle.held_world.specs.declared.plain.PwHit.{PwHit}
 use Rattle.held_world.specs.Asks.{IsUnanswered}
-use Rattle.held_world.specs.Plain.{handle_out}
+use Rattle.held_world.specs.Plain.{handle_out, square_out}
 
 -- an axis by its number
 abbrev pub axis_out : Axis → ℕ
@@ -87,9 +88,11 @@ abbrev pub TellsCastMeeting : Option Cast → Option Live → Reply → PwHit �
 TellsCastMeeting None entry reply room out = IsUnanswered INVERTED reply room out
 TellsCastMeeting (Some cast) entry reply room out = TellsMeeting (contact_of cast) (contact_face cast) entry reply room out
 
--- the square of a distance in two words
-abbrev pub square_out : ℕ → PwSquare
-square_out square = record { low = square % 2 ^ 64; high = square / 2 ^ 64 }
+-- the square of the distance of a box, if it is one, from the live box of a handle, if there is one
+abbrev pub apart_out : Option Bounds → Option Live → Result PwSquare ℕ
+apart_out None entry = Err INVERTED
+apart_out (Some body) None = Err STALE
+apart_out (Some body) (Some live) = Ok (square_out (square_apart body live.body))
 
 -- the same for a box that is cast, where there is one, among live boxes of some groups
 abbrev pub AsksFirstCast : Option Cast → List Live → ℕ → Bool → Reply → PwHit → PwHit → Type 0

@@ -5,6 +5,7 @@ pub mod Changes
 pub mod Copies
 pub mod Firsts
 pub mod Floats
+pub mod Many
 pub mod Plain
 pub mod Reading
 pub mod Steps

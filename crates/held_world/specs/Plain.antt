@@ -1,5 +1,5 @@
 -- What C's plain structs stand for.
-use Rattle.std.specs.Prelude.{ℕ, not, ◌==◌, if◌then◌else◌, Option, Some, None, option_map}
+use Rattle.std.specs.Prelude.{ℕ, ◌+◌, ◌*◌, ◌^◌, ◌/◌, ◌%◌, not, ◌==◌, if◌then◌else◌, Option, Some, None, option_map}
 use Rattle.fixed_box.specs.declared.point.Point.{Point}
 use Rattle.fixed_box.specs.Bounds.{Bounds}
 use Rattle.fixed_box.specs.Point.{is_at_most}
@@ -10,6 +10,7 @@ use Rattle.live_table.specs.declared.group.Group.{Group}
 use Rattle.live_table.specs.declared.handle.Handle.{Handle}
 use Rattle.live_table.specs.declared.live.Live.{Live}
 use Rattle.live_table.specs.declared.masks.Masks.{Masks}
+use Rattle.live_queries.specs.declared.nearest.NearBoxQuery.{NearBoxQuery}
 use Rattle.live_queries.specs.declared.nearest.NearQuery.{NearQuery}
 use Rattle.pair_events.specs.declared.hpair.HPair.{HPair}
 use Rattle.pair_events.specs.declared.told.Event.{Event}
@@ -31,7 +32,9 @@ use Rattle.held_world.specs.declared.plain.PwQuery.{PwQuery}
 use Rattle.held_world.specs.declared.plain.PwTold.{PwTold}
 use Rattle.held_world.specs.declared.questions.PwCast.{PwCast}
 use Rattle.held_world.specs.declared.questions.PwNear.{PwNear}
+use Rattle.held_world.specs.declared.questions.PwNearBox.{PwNearBox}
 use Rattle.held_world.specs.declared.questions.PwRay.{PwRay}
+use Rattle.held_world.specs.declared.squares.PwSquare.{PwSquare}
 
 abbrev pub point_in : PwPoint → Point
 point_in p = record { x = p.x; y = p.y; z = p.z }
@@ -118,3 +121,14 @@ cast_in c = option_map (λ body. record { body = body; by = point_in c.by }) (bo
 
 abbrev pub near_in : PwNear → NearQuery
 near_in n = record { at = point_in n.at; want = n.want; mask = n.mask }
+
+-- the square of a distance in two words
+abbrev pub square_out : ℕ → PwSquare
+square_out square = record { low = square % 2 ^ 64; high = square / 2 ^ 64 }
+
+abbrev pub square_in : PwSquare → ℕ
+square_in s = s.high * 2 ^ 64 + s.low
+
+-- a box that isn't inverted, with the square of the distance from which others count
+abbrev pub near_box_in : PwNearBox → Option NearBoxQuery
+near_box_in n = option_map (λ body. record { body = body; from = square_in n.from; want = n.want; mask = n.mask }) (body_in n.body)

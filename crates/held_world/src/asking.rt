@@ -3,16 +3,16 @@
 ghost use Rattle.std.specs.Prelude.{◌≡◌, min, length, Some, option_map, OnOk, OnErr};
 ghost use Rattle.fixed_box.specs.declared.TheConstants.{SLOTS};
 ghost use Rattle.live_queries.specs.Pairs.{hits_of};
-ghost use Rattle.live_queries.specs.Queries.{entered_of, cast_of, nearest_to};
+ghost use Rattle.live_queries.specs.Queries.{entered_of, cast_of, nearest_to, nearest_to_box};
 ghost use Rattle.any_world.specs.AnyWorld.{state_of};
 ghost use Rattle.held_world.specs.declared.TheConstants.{OK, NO_MEMORY, ARGUMENT, INVERTED};
-ghost use Rattle.held_world.specs.Plain.{handle_out, query_in, ray_in, cast_in, near_in};
+ghost use Rattle.held_world.specs.Plain.{handle_out, query_in, ray_in, cast_in, near_in, near_box_in};
 ghost use Rattle.held_world.specs.Copies.{copied};
 ghost use Rattle.held_world.specs.Asks.{Asks};
 
 use crate::copying::copy_handles;
 use crate::plain::{PwHandle, PwQuery, query_of};
-use crate::questions::{PwCast, PwNear, PwRay, cast_of, near_of, ray_of};
+use crate::questions::{PwCast, PwNear, PwNearBox, PwRay, cast_of, near_box_of, near_of, ray_of};
 use crate::room::HeldRoom;
 use crate::{ARGUMENT, INVERTED, NO_MEMORY, OK, Reply};
 use any_world::AnyWorld;
@@ -75,6 +75,24 @@ impl HeldRoom {
     {
         self.found.clear();
         let answer = world.nearest(&near_of(near), &mut self.asking, &mut self.found);
+        self.answered(answer, out)
+    }
+
+    /// The same for the boxes that are nearest to a box, of those whose squared distance from it is at least `from`. `INVERTED` comes where
+    /// it is no box.
+    pub fn nearest_box(&mut self, world: &AnyWorld, near: &PwNearBox, out: &mut [PwHandle]) -> Reply
+        ensures { let state = state_of world.now in
+            Asks INVERTED (option_map (λ asked. nearest_to_box state.time.now.table.entries asked.body asked.from (min asked.want SLOTS) asked.mask)
+            (near_box_in near.now)) state.spent result out.old out.new }
+    {
+        let Some(asked) = near_box_of(near) else {
+            return Reply {
+                status: INVERTED,
+                count: 0,
+            };
+        };
+        self.found.clear();
+        let answer = world.nearest_box(&asked, &mut self.asking, &mut self.found);
         self.answered(answer, out)
     }
 

@@ -9,23 +9,25 @@ mod copying;
 mod firsts;
 mod floats;
 mod held;
+mod many;
 mod meetings;
 mod plain;
 mod questions;
 mod reading;
 mod room;
+mod squares;
 
 pub use answers::{Reply, number_law, status};
 pub use floats::{PwBits32, PwBits64, box_around_32, box_around_64, fault_of};
 pub use held::HeldWorld;
-pub use meetings::PwSquare;
 pub use plain::{
     PwBox, PwGroup, PwHandle, PwHit, PwLive, PwMasks, PwPair, PwPoint, PwQuery, PwTold, body_of,
     group_of, handle_of, handle_out, masks_of, query_of, structure_of,
 };
-pub use questions::{PwCast, PwNear, PwRay};
+pub use questions::{PwCast, PwNear, PwNearBox, PwRay};
 pub use reading::{PwCounts, PwInfo};
 pub use room::HeldRoom;
+pub use squares::PwSquare;
 
 /// The call did what it is for.
 pub const OK: u32 = 0;

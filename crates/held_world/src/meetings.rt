@@ -1,4 +1,4 @@
-//! Where a ray or a moved box meets one live box, and how far a place lies from it.
+//! Where a ray or a moved box meets one live box, and how far a place or a box lies from it.
 
 ghost use Rattle.std.specs.Prelude.{◌≡◌, option_map};
 ghost use Rattle.near_boxes.specs.Nearest.{square};
@@ -6,26 +6,16 @@ ghost use Rattle.live_table.specs.Entries.{entry_at};
 ghost use Rattle.live_queries.specs.Face.{entry_face};
 ghost use Rattle.live_queries.specs.Queries.{entry_of};
 ghost use Rattle.any_world.specs.AnyWorld.{state_of};
-ghost use Rattle.held_world.specs.Firsts.{TellsMeeting, TellsCastMeeting, square_out};
-ghost use Rattle.held_world.specs.Plain.{handle_in, point_in, ray_in, cast_in};
+ghost use Rattle.held_world.specs.Firsts.{TellsMeeting, TellsCastMeeting, apart_out};
+ghost use Rattle.held_world.specs.Plain.{handle_in, point_in, body_in, ray_in, cast_in, square_out};
 
 use crate::firsts::put_hit;
-use crate::plain::{PwHandle, PwHit, PwPoint, handle_of, point_of};
+use crate::plain::{PwBox, PwHandle, PwHit, PwPoint, body_of, handle_of, point_of};
 use crate::questions::{PwCast, PwRay, cast_of, ray_of};
+use crate::squares::{PwSquare, square_out};
 use crate::{HeldWorld, INVERTED, Reply, STALE};
 use live_queries::{cast_meeting, ray_meeting};
-use near_boxes::square;
-
-// A word of 64 bits has so many numbers.
-const WORD: u128 = 1 << 64;
-
-/// The square of a distance: `high` times 2^64, and `low`.
-#[repr(C)]
-#[derive(Clone, Copy)]
-pub struct PwSquare {
-    pub low: u64,
-    pub high: u64,
-}
+use near_boxes::{square, square_apart};
 
 impl HeldWorld {
     /// Tells where a ray meets a live box, as of the first hit, whatever groups it asks for: the count is 1, or 0 where it doesn't meet
@@ -66,19 +56,25 @@ impl HeldWorld {
             None => None,
         }
     }
+
+    /// The square of the distance of a box from a live box, in raw units squared: 0 if they have a common point. `INVERTED` comes where it
+    /// is no box, and else `STALE` where no live box has the handle.
+    pub fn square_apart(&self, body: &PwBox, handle: &PwHandle) -> Result<PwSquare, u32>
+        ensures { let entries = (state_of self.now.world).time.now.table.entries in
+            result ≡ apart_out (body_in body.now) (entry_at (handle_in handle.now) entries) }
+    {
+        let Some(asked) = body_of(body) else {
+            return Err(INVERTED);
+        };
+        match self.world.get(handle_of(handle)) {
+            Some(live) => Ok(square_out(square_apart(&asked, &live.body))),
+            None => Err(STALE),
+        }
+    }
 }
 
 fn unanswered(status: u32) -> Reply
     ensures { result ≡ record { status = status; count = 0 } }
 {
     Reply { status, count: 0 }
-}
-
-fn square_out(square: u128) -> PwSquare
-    ensures { result ≡ square_out square }
-{
-    PwSquare {
-        low: (square % WORD) as u64,
-        high: (square / WORD) as u64,
-    }
 }

@@ -1,11 +1,12 @@
 //! Rays, moved boxes and nearest boxes as plain structs that C shares.
 
 ghost use Rattle.std.specs.Prelude.{◌≡◌};
-ghost use Rattle.held_world.specs.Plain.{ray_in, cast_in, near_in};
+ghost use Rattle.held_world.specs.Plain.{ray_in, cast_in, near_in, near_box_in};
 
 use crate::plain::{PwBox, PwPoint, body_of, point_of};
+use crate::squares::{PwSquare, square_of};
 use box_cast::Cast;
-use live_queries::NearQuery;
+use live_queries::{NearBoxQuery, NearQuery};
 use ray_slabs::{Ray, WPoint};
 
 /// A ray without end, for the boxes of the groups that `mask` has. With a direction of zero it asks for those that hold `from`.
@@ -33,6 +34,17 @@ pub struct PwNear {
     pub mask: u32,
     pub want: u32,
     pub at: PwPoint,
+}
+
+/// The boxes that are nearest to a box, of those whose squared distance from it is at least `from`: at most `want`, of the groups that
+/// `mask` has. To go on after an answer, ask from the square of its last box on: boxes as near as that are told again.
+#[repr(C)]
+#[derive(Clone, Copy)]
+pub struct PwNearBox {
+    pub mask: u32,
+    pub want: u32,
+    pub body: PwBox,
+    pub from: PwSquare,
 }
 
 pub(crate) fn ray_of(ray: &PwRay) -> Ray
@@ -64,5 +76,20 @@ pub(crate) fn near_of(near: &PwNear) -> NearQuery
         at: point_of(&near.at),
         want: near.want,
         mask: near.mask,
+    }
+}
+
+// None exactly where the box is inverted.
+pub(crate) fn near_box_of(near: &PwNearBox) -> Option<NearBoxQuery>
+    ensures { result ≡ near_box_in near.now }
+{
+    match body_of(&near.body) {
+        Some(body) => Some(NearBoxQuery {
+            body,
+            from: square_of(&near.from),
+            want: near.want,
+            mask: near.mask,
+        }),
+        None => None,
     }
 }

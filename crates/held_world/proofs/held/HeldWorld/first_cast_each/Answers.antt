@@ -1,0 +1,46 @@
+-- One cast more is answered, or the first is refused.
+use Rattle.std.proofs.Common.{◌≡◌, arith, subst}
+use Rattle.any_world.specs.AnyWorld.{state_of}
+use Rattle.held_world.specs.declared.answers.Reply.{Reply}
+use Rattle.held_world.specs.declared.plain.PwHit.{PwHit}
+use Rattle.held_world.specs.declared.questions.PwCast.{PwCast}
+use Rattle.held_world.specs.Firsts.{AsksFirstCast}
+use Rattle.held_world.specs.Plain.{cast_in}
+use Rattle.held_world.proofs.EachAnswered.{all_answered, none_answered, one_answered, one_refused}
+use Rattle.held_world.proofs.held.HeldWorld.first_cast_each.Goals as goal
+
+pub casts-init : goal.casts-init
+casts-init c =
+    let state = state_of c.args.self.now.world in
+    let says : PwCast → Reply → PwHit → PwHit → Type 0 = λ cast. AsksFirstCast (cast_in cast) state.time.now.table.entries cast.mask state.spent in
+    record { answered = none_answered says c.args.casts.now c.args.out.now }
+
+pub returns-then-reply-ne-OK : goal.returns-then-reply-ne-OK
+returns-then-reply-ne-OK c =
+    let state = state_of c.args.self.now.world in
+    let says : PwCast → Reply → PwHit → PwHit → Type 0 = λ cast. AsksFirstCast (cast_in cast) state.time.now.table.entries cast.mask state.spent in
+    let told = rw c.no_hit-hit.ensures at c.first_cast-reply.ensures in
+    record {
+      short = λ less. absurd (omega arith);
+      enough = λ enough. one_refused says c.args.casts.now _ c.casts.count c.first_cast-reply.result c.args.out.now c.casts.out c.first_cast-reply.new.out
+          c.casts.invariant.answered (omega arith) c.if-reply-ne-OK.true told;
+    }
+
+pub casts-preserved : goal.casts-preserved
+casts-preserved c =
+    let state = state_of c.args.self.now.world in
+    let says : PwCast → Reply → PwHit → PwHit → Type 0 = λ cast. AsksFirstCast (cast_in cast) state.time.now.table.entries cast.mask state.spent in
+    let told = rw c.no_hit-hit.ensures at c.first_cast-reply.ensures in
+    record {
+      answered = one_answered says c.args.casts.now _ c.casts.count c.first_cast-reply.result c.args.out.now c.casts.out c.first_cast-reply.new.out
+          c.casts.invariant.answered (omega arith) (omega (arith, c.casts.auto.out)) c.if-reply-ne-OK.false told;
+    }
+
+pub returns : goal.returns
+returns c =
+    let state = state_of c.args.self.now.world in
+    let says : PwCast → Reply → PwHit → PwHit → Type 0 = λ cast. AsksFirstCast (cast_in cast) state.time.now.table.entries cast.mask state.spent in
+    record {
+      short = λ less. absurd (omega arith);
+      enough = λ enough. all_answered says c.args.casts.now c.casts.count c.args.out.now c.casts.out c.casts.invariant.answered (omega arith);
+    }
