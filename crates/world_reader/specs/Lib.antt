@@ -1,0 +1,3 @@
+pub mod HeldReader
+pub mod Reads
+pub mod Shared
