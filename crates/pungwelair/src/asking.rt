@@ -4,16 +4,16 @@ ghost use Rattle.std.specs.Prelude.{◌≡◌, min, Some, option_map};
 ghost use Rattle.fixed_box.specs.declared.TheConstants.{SLOTS};
 ghost use Rattle.live_queries.specs.Pairs.{hits_of};
 ghost use Rattle.live_queries.specs.First.{IsFirstEntered};
-ghost use Rattle.live_queries.specs.Queries.{entered_of, cast_of, nearest_to};
+ghost use Rattle.live_queries.specs.Queries.{entered_of, cast_of, nearest_to, nearest_to_box};
 ghost use Rattle.any_world.specs.AnyWorld.{state_of};
 ghost use Rattle.held_world.specs.declared.TheConstants.{ARGUMENT, INVERTED};
 ghost use Rattle.held_world.specs.Firsts.{AsksFirst, AsksFirstCast};
-ghost use Rattle.held_world.specs.Plain.{query_in, ray_in, cast_in, near_in};
+ghost use Rattle.held_world.specs.Plain.{query_in, ray_in, cast_in, near_in, near_box_in};
 ghost use Rattle.held_world.specs.declared.answers.Reply.{Reply};
 ghost use Rattle.pungwelair.specs.Exports.{Asked, Calls, IsClosed};
 
 use crate::world::PwWorld;
-use held_world::{CLOSED, PwCast, PwHandle, PwHit, PwNear, PwQuery, PwRay};
+use held_world::{CLOSED, PwCast, PwHandle, PwHit, PwNear, PwNearBox, PwQuery, PwRay};
 use std::alloc::Global;
 
 /// The live boxes that meet a question, by their slots: how many there are in all, and the first of them in `out`.
@@ -111,6 +111,31 @@ pub extern "C" fn pw_nearest(
     };
     let open = &mut *held;
     let reply = open.room.nearest(&open.world, near, out);
+    world.put(held);
+    *count = reply.count;
+    reply.status
+}
+
+/// The same for the boxes that are nearest to a box, of those whose squared distance from it is at least `from`.
+#[unsafe(no_mangle)]
+pub extern "C" fn pw_nearest_box(
+    alloc: Global,
+    world: &mut PwWorld,
+    near: &PwNearBox,
+    out: &mut [PwHandle],
+    count: &mut usize,
+) -> u32
+    ensures { let reply : Reply = record { status = result; count = count.new } in
+        Calls (λ was now. Asked INVERTED (λ entries. option_map (λ asked. nearest_to_box entries asked.body asked.from (min asked.want SLOTS) asked.mask)
+        (near_box_in near.now)) reply out.old out.new was.world now.world)
+        (IsClosed reply out.old out.new) world.old.held.inner world.new.held.inner }
+{
+    let Some(mut held) = world.take(alloc) else {
+        *count = 0;
+        return CLOSED;
+    };
+    let open = &mut *held;
+    let reply = open.room.nearest_box(&open.world, near, out);
     world.put(held);
     *count = reply.count;
     reply.status

@@ -2,7 +2,7 @@
 
 ghost use Rattle.std.specs.Prelude.{◌≡◌, Option, Some, None, is_some, true};
 ghost use Rattle.held_world.specs.declared.held.HeldWorld.{HeldWorld};
-ghost use Rattle.pungwelair.specs.Held.{held};
+ghost use Rattle.pungwelair.specs.Held.{held, nowhere};
 
 use held_world::HeldWorld;
 use raw_box::RawBox;
@@ -23,7 +23,7 @@ impl Model for HeldBox {
 
 impl HeldBox {
     pub(crate) fn none() -> HeldBox
-        ensures { result.inner ≡ None }
+        ensures { (result.inner ≡ None) × (result.at ≡ nowhere) }
     {
         HeldBox {
             at: std::ptr::null_mut(),

@@ -4,6 +4,11 @@
 //! ask for: that pointers lead to as much memory as their lengths say, which nobody else writes meanwhile; that the two words of a
 //! world are zero or those that the last call left there; and that one call at a time has a world.
 //!
+//! Several threads may ask one world at once, each by a reader of its own (`reader`, `sharing`). Of a reader C owes that its two words are
+//! zero or those that the last call left there, that one call at a time has it, and that a call which ends on one thread has ended before
+//! the next one begins on another, by a lock, a join or the like. Calls of different readers need no order: a world that they read is
+//! nobody's to change, and isn't in its two words meanwhile.
+//!
 //! An export takes the world out of what C holds, calls it once and puts it back. `Global` takes no bytes: C passes nothing for it.
 #![tactic(auto)]
 
@@ -12,7 +17,14 @@ mod batches;
 mod changes;
 mod floats;
 mod held;
+mod held_reader;
+mod many;
 mod meetings;
 mod opening;
+mod reader;
+mod reader_asking;
+mod reader_many;
+mod reader_meetings;
 mod reading;
+mod sharing;
 mod world;

@@ -1,4 +1,4 @@
-//! The exports that tell where a way meets one live box, and how far a place lies from it.
+//! The exports that tell where a way meets one live box, and how far a place or a box lies from it.
 
 ghost use Rattle.std.specs.Prelude.{◌≡◌, ok_or, option_map};
 ghost use Rattle.live_table.specs.Entries.{entry_at};
@@ -8,12 +8,12 @@ ghost use Rattle.near_boxes.specs.Nearest.{square};
 ghost use Rattle.any_world.specs.AnyWorld.{state_of};
 ghost use Rattle.held_world.specs.declared.TheConstants.{STALE, CLOSED};
 ghost use Rattle.held_world.specs.declared.answers.Reply.{Reply};
-ghost use Rattle.held_world.specs.Firsts.{TellsMeeting, TellsCastMeeting, square_out};
-ghost use Rattle.held_world.specs.Plain.{handle_in, point_in, ray_in, cast_in};
+ghost use Rattle.held_world.specs.Firsts.{TellsMeeting, TellsCastMeeting, apart_out};
+ghost use Rattle.held_world.specs.Plain.{handle_in, point_in, body_in, ray_in, cast_in, square_out};
 ghost use Rattle.pungwelair.specs.Exports.{Calls, IsClosed, Puts};
 
 use crate::world::PwWorld;
-use held_world::{CLOSED, OK, PwCast, PwHandle, PwHit, PwPoint, PwRay, PwSquare, STALE};
+use held_world::{CLOSED, OK, PwBox, PwCast, PwHandle, PwHit, PwPoint, PwRay, PwSquare, STALE};
 use std::alloc::Global;
 
 /// Where a ray meets a live box, and by which side, in `out`: the count is 1, or 0 where it doesn't meet it.
@@ -91,5 +91,32 @@ pub extern "C" fn pw_square_to(
             OK
         }
         None => STALE,
+    }
+}
+
+/// The square of the distance of a box from a live box.
+#[unsafe(no_mangle)]
+pub extern "C" fn pw_square_apart(
+    alloc: Global,
+    world: &mut PwWorld,
+    body: &PwBox,
+    handle: PwHandle,
+    out: &mut PwSquare,
+) -> u32
+    ensures { Calls (λ was now. (now ≡ was) × Puts
+        (apart_out (body_in body.now) (entry_at (handle_in handle) (state_of was.world).time.now.table.entries)) result out.old out.new)
+        ((result ≡ CLOSED) × (out.new ≡ out.old)) world.old.held.inner world.new.held.inner }
+{
+    let Some(held) = world.take(alloc) else {
+        return CLOSED;
+    };
+    let square = held.square_apart(body, &handle);
+    world.put(held);
+    match square {
+        Ok(square) => {
+            *out = square;
+            OK
+        }
+        Err(status) => status,
     }
 }

@@ -6,6 +6,7 @@ ghost use Rattle.any_world.specs.AnyWorld.{state_of, structure_of};
 ghost use Rattle.held_world.specs.declared.TheConstants.{NO_MEMORY, ARGUMENT};
 ghost use Rattle.held_world.specs.Plain.{structure_in};
 ghost use Rattle.pungwelair.specs.Exports.{Opens, closing};
+ghost use Rattle.pungwelair.specs.Held.{nowhere};
 
 use crate::world::PwWorld;
 use held_world::{ARGUMENT, CLOSED, HeldWorld, NO_MEMORY, OK};
@@ -47,7 +48,7 @@ fn boxed(alloc: Global, structure: u32) -> Result<Box<HeldWorld>, u32>
 #[unsafe(no_mangle)]
 pub extern "C" fn pw_close(alloc: Global, world: &mut PwWorld) -> u32
     ensures closed { world.new.held.inner ≡ None }
-    ensures zero { world.new.state ≡ 0 }
+    ensures zero { (world.new.state ≡ 0) × (world.new.held.at ≡ nowhere) }
     ensures status { result ≡ closing world.old.held.inner }
 {
     match world.take(alloc) {

@@ -1,6 +1,7 @@
 //! The two words that stand for a world in C.
 
 ghost use Rattle.std.specs.Prelude.{◌≡◌, ◌==◌, None, Some, is_some, option_map};
+ghost use Rattle.pungwelair.specs.Held.{nowhere};
 
 use crate::held::HeldBox;
 use held_world::HeldWorld;
@@ -20,14 +21,14 @@ impl PwWorld {
     pub(crate) fn take(&mut self, alloc: Global) -> Option<Box<HeldWorld>>
         ensures taken { option_map (λ held. held.value) result ≡ self.old.held.inner }
         ensures emptied { self.new.held.inner ≡ None }
-        ensures zero { self.new.state ≡ 0 }
+        ensures zero { (self.new.state ≡ 0) × (self.new.held.at ≡ nowhere) }
     {
-        if self.state != 1 {
-            self.state = 0;
+        let was = std::mem::replace(self, closed());
+        let PwWorld { state, held } = was;
+        if state != 1 {
+            held.let_go();
             return None;
         }
-        let was = std::mem::replace(self, closed());
-        let PwWorld { state: _, held } = was;
         Some(held.into_raw_box(alloc).into_box())
     }
 
@@ -48,7 +49,7 @@ impl PwWorld {
 
 fn closed() -> PwWorld
     ensures closed { result.held.inner ≡ None }
-    ensures zero { result.state ≡ 0 }
+    ensures zero { (result.state ≡ 0) × (result.held.at ≡ nowhere) }
 {
     PwWorld {
         state: 0,

@@ -33,6 +33,6 @@ none_spec 𝓤 𝓛 𝓜 𝓡 wired =
     enter ! 𝓣.C 𝓣.Λ fn [] Post $ alloc_all ! (λ l. pass_all ! refl tt $
     sets ! (agg ! (and_then ! (lit ! tt) (no_more !))) refl (word_typed null_ptr) $
     returns ! (look_at ! 0 refl) $ free_all ! refl $
-    use0 𝓛 (raw (fact 𝓤 (empty ≡ empty))) (fact_i 𝓤 (empty ≡ empty) (emp 𝓤) refl) $
+    use0 𝓛 (raw (fact 𝓤 ((empty ≡ empty) × (null_ptr ≡ null_ptr)))) (fact_i 𝓤 ((empty ≡ empty) × (null_ptr ≡ null_ptr)) (emp 𝓤) (refl, refl)) $
     nothing ! $ held_in ! null_ptr empty $ nothing ! $ keep ! (3 ∷ 0 ∷ 1 ∷ 2 ∷ []) $
     by ! (leaves 𝓛 ended hs c z (word null_ptr) (record { at = null_ptr; inner = empty }) tt tt)))

@@ -1,0 +1,39 @@
+-- `held_none` makes a pointer that owns nothing.
+use Rattle.std.proofs.Common.{◌≡◌, [], ◌∷◌, refl}
+use mir.Val.{Val}
+use base.Logic.{SProp, emp}
+use base.Fml.{ftrue}
+use contract.Monad.{fact, fact_i}
+use contract.Running.{tables}
+use types.Kit.{‵, raw, ◌⊛◌, ◌$◌, ◌∵◌, !, qed, by, move, keep, drop, split, use0}
+use types.Part.{agg}
+use types.Run.{lit, no_more, and_then, returns, enter}
+use types.ByLocal.{alloc_all, pass_all, free_all, look_at, sets}
+use denote.RawPtr.{null_ptr}
+use denote.Signature.{types_at}
+use denote.RattleType.{owns}
+use denote.Steps.{nothing}
+use denote.Triple.Entry.{alive}
+use denote.Triple.Walked.{Stays, walk_of}
+use Rattle.std.proofs.raw_atomic.Walks.{proved_at, leaves}
+use Rattle.pungwelair.proofs.Stored.{word, word_typed}
+use Rattle.pungwelair.proofs.StoredReader.{empty, held_in}
+use Rattle.pungwelair.specs.contracts.held_reader.held_none.{ended, clauses}
+use Rattle.pungwelair.specs.contracts.held_reader.held_none.Key.{name as #self}
+use Rattle.pungwelair.proofs.held_reader.held_none.Statement.{statement}
+use Rattle.pungwelair.proofs.held_reader.held_none.Code as code
+
+pub held_none_spec : {M : Type 1} → statement M
+held_none_spec 𝓤 𝓛 𝓜 𝓡 wired =
+    let H = 𝓛.H in let 𝓣 = tables 𝓤 H 𝓜 𝓡 𝓡.env in let c = clauses 𝓛 𝓜.mem 𝓡.returns in let fn = code.function in
+    let hs : Stays ended.signature.params ended.kept = tt in
+    proved_at 𝓛 ended hs c 𝓜 𝓡 tt #self fn (code.unfolded 𝓤 H 𝓜 𝓡 wired) (λ z are.
+    let Post : Val → SProp 𝓤 = (walk_of 𝓛 ended hs c).post z in
+    qed 𝓛 ((raw (alive 𝓛 ended.signature z.0.0 z.0.1) ⊛ ‵ (owns (types_at ended.signature.params z.0.0) z.0.3 z.0.4)) ∷ ‵ ftrue ∷ []) ∵
+    move ! (1 ∷ []) $ drop ! $ split ! $ move ! (1 ∷ []) $ drop ! $
+    enter ! 𝓣.C 𝓣.Λ fn [] Post $ alloc_all ! (λ l. pass_all ! refl tt $
+    sets ! (agg ! (and_then ! (lit ! tt) (no_more !))) refl (word_typed null_ptr) $
+    returns ! (look_at ! 0 refl) $ free_all ! refl $
+    use0 𝓛 (raw (fact 𝓤 ((empty ≡ empty) × (null_ptr ≡ null_ptr)))) (fact_i 𝓤 ((empty ≡ empty) × (null_ptr ≡ null_ptr)) (emp 𝓤) (refl, refl)) $
+    nothing ! $ held_in ! null_ptr empty $ nothing ! $ keep ! (3 ∷ 0 ∷ 1 ∷ 2 ∷ []) $
+    by ! (leaves 𝓛 ended hs c z (word null_ptr) (record { at = null_ptr; inner = empty }) tt tt)))
