@@ -707,12 +707,12 @@ const WAYS: u32 = 60;
 
 // Random numbers below a bound, by a linear congruential generator. One start gives the same to each structure.
 #[derive(Drop)]
-struct Random {
-    state: u32,
+pub(crate) struct Random {
+    pub(crate) state: u32,
 }
 
 impl Random {
-    fn below(&mut self, bound: u16) -> u16
+    pub(crate) fn below(&mut self, bound: u16) -> u16
         requires { 0 < bound }
     {
         let next = self
@@ -759,7 +759,7 @@ impl Random {
     }
 
     // One group, or all three.
-    fn mask(&mut self) -> u32 {
+    pub(crate) fn mask(&mut self) -> u32 {
         match self.below(4) {
             0 => ALL,
             1 => 1,

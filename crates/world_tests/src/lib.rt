@@ -8,6 +8,8 @@ mod firsts;
 #[cfg(test)]
 mod frames;
 #[cfg(test)]
+mod nears;
+#[cfg(test)]
 mod queries;
 #[cfg(test)]
 mod worlds;

@@ -7,7 +7,10 @@ ghost use Rattle.live_table.specs.Table.{IsTable};
 use box_cast::Cast;
 use broad_index::{BroadPhase, PlainIndex, Query};
 use fixed_box::{FBox, Point, SLOTS};
-use live_queries::{MetRoom, NearQuery, push_cast, push_entered, push_hits, push_nearest};
+use live_queries::{
+    MetRoom, NearBoxQuery, NearQuery, push_cast, push_entered, push_hits, push_nearest,
+    push_nearest_box,
+};
 use live_table::{Group, Handle, LiveTable, Masks};
 use ray_slabs::{Ray, WPoint};
 use std::alloc::Global;
@@ -24,13 +27,14 @@ const LOW: i32 = i32::MIN;
 const ALL: u32 = u32::MAX;
 
 // What is asked: which boxes a ray along the x axis meets, from a place on, by slot or by entry; which a box that is cast
-// along that axis meets; and which are nearest to a point.
+// along that axis meets; and which are nearest to a point, or to a box between two whole units along it, from a square on.
 #[derive(Drop)]
 enum Asked {
     Hits(i32),
     Entered(i32),
     Cast { body: [[i32; 3]; 2], by: i32 },
     Nearest { at: [i32; 3], want: u32 },
+    NearestBox { a: i16, from: u128, want: u32 },
 }
 
 fn point(parts: &[i32; 3]) -> Point {
@@ -129,6 +133,15 @@ fn ask(
                 mask,
             };
             push_nearest(table, index, &query, &mut Vec::new(alloc), out)?;
+        }
+        Asked::NearestBox { a, from, want } => {
+            let query = NearBoxQuery {
+                body: body_of(&unit(*a, a.saturating_add(1)))?,
+                from: *from,
+                want: (*want).clamp(1, SLOTS),
+                mask,
+            };
+            push_nearest_box(table, index, &query, &mut Vec::new(alloc), out)?;
         }
     }
     Ok(())
@@ -285,6 +298,32 @@ fn the_nearest_come_first(rt: HostRuntime) -> Result<(), Fail> {
         "the nearest of another group",
         &crates,
         nearest(3),
+        2,
+        &[],
+    )
+}
+
+// The boxes that are nearest to the first of three, from a square on. The two others are two units from it.
+fn nearest_box(from: u128, want: u32) -> Asked {
+    Asked::NearestBox { a: 0, from, want }
+}
+
+#[test]
+fn the_nearest_to_a_box_go_on_from_a_distance(rt: HostRuntime) -> Result<(), Fail> {
+    let alloc = rt.alloc();
+    let crates = [unit(0, 1), unit(3, 4), unit(-3, -2), unit(5, 6)];
+    let two_units = 1 << 34;
+    let first = nearest_box(0, 2);
+    let as_far = nearest_box(two_units, 2);
+    let farther = nearest_box(two_units + 1, 8192);
+    answer(alloc, "the two nearest", &crates, first, ALL, &[0, 1])?;
+    answer(alloc, "from a tie on", &crates, as_far, ALL, &[1, 2])?;
+    answer(alloc, "behind a tie", &crates, farther, ALL, &[3])?;
+    answer(
+        alloc,
+        "the nearest of another group",
+        &crates,
+        nearest_box(0, 3),
         2,
         &[],
     )
