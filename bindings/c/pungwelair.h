@@ -21,11 +21,13 @@
  * What the caller owes, and nothing checks:
  *   - a pointer isn't null, also before a length of 0. It is aligned, and leads to as many items as the length says. What it
  *     leads to isn't written meanwhile, and doesn't overlap what another pointer of the same call leads to;
- *   - the two words of a pw_world are zero, or those that the last call left there. A copy of an open pw_world isn't another
- *     world: use one of the two and forget the other;
- *   - use a world from one thread at a time, also for questions. Different worlds may be used by different threads at once:
- *     the library has no state of its own, takes no lock and starts no thread;
- *   - malloc, realloc and free are those of one allocator, which aligns to 16, and no call comes from a signal handler.
+ *   - the two words of a pw_world or a pw_reader are zero, or those that the last call left there. A copy of an open one isn't
+ *     another: use one of the two and forget the other;
+ *   - a world is in one call at a time, also for questions, and so is a reader. Between two calls either may go to another thread,
+ *     if a lock, a join or the like orders the calls. Different worlds and different readers may be in calls on different threads
+ *     at once, also readers of one world (see pw_share): the library has no state of its own, takes no lock and starts no thread;
+ *   - malloc, realloc and free are those of one allocator, which aligns to 16 and takes calls of several threads at once if the
+ *     library does, and no call comes from a signal handler.
  *
  * If bindings/install has put the library somewhere, link by `pkg-config --libs pungwelair` or CMake's `pungwelair::pungwelair`.
  * Else link libpungwelair.a and pungwelair_heap.c (three functions over malloc, realloc and free). Costs are told for n live
@@ -44,7 +46,7 @@ extern "C" {
 /* The version, for #if and as a text. The shared library's soname has the major number: for a program that is linked already,
  * another major number is another library. */
 #define PW_VERSION_MAJOR 0
-#define PW_VERSION_MINOR 4
+#define PW_VERSION_MINOR 5
 #define PW_VERSION_PATCH 0
 #define PW_VERSION_QUOTED(major, minor, patch) #major "." #minor "." #patch
 #define PW_VERSION_OF(major, minor, patch) PW_VERSION_QUOTED(major, minor, patch)
@@ -64,6 +66,14 @@ typedef struct pw_world {
 } pw_world;
 #define PW_WORLD_INIT {0, 0}
 
+/* One of those that ask one world at once, each on a thread of its own: see pw_share. Zero words are a closed one. The words are the
+ * library's. */
+typedef struct pw_reader {
+    uint32_t state;
+    void *held;
+} pw_reader;
+#define PW_READER_INIT {0, 0}
+
 /* What a call came to. */
 typedef uint32_t pw_status;
 enum {
@@ -74,44 +84,55 @@ enum {
                              After pw_add, pw_move or pw_back a world over PW_PLAIN or PW_SAP may be spent, which pw_info tells;
                              one over PW_TREE, PW_GRID or PW_SKIN never is. A spent world keeps what it had: pw_get, pw_at,
                              pw_pairs, pw_events, pw_changes and pw_info tell its boxes, pairs, events, frames and marks, and
-                             pw_ray_meets, pw_cast_meets and pw_square_to answer about its boxes. Each other call that would
-                             change it or ask it gives PW_NO_MEMORY. Close it, open another one and add its boxes there. After
-                             any other call all is as before: ask again. */
+                             pw_ray_meets, pw_cast_meets, pw_square_to and pw_square_apart answer about its boxes. Each other
+                             call that would change it or ask it gives PW_NO_MEMORY, also by a reader. Close it, open another
+                             one and add its boxes there. After any other call all is as before: ask again. */
     PW_INVERTED = 4,      /* not a box: lo > hi on some axis */
-    PW_CLOSED = 5,        /* the world isn't open */
-    PW_ARGUMENT = 6,      /* no such structure, no such kind of question, a region whose lo > hi, lengths that don't agree, or
-                             pw_open of a world that is open */
+    PW_CLOSED = 5,        /* the world isn't open, as while readers read it; or the reader isn't, or it reads no world */
+    PW_ARGUMENT = 6,      /* no such structure, no such kind of question, a region whose lo > hi, lengths that don't agree,
+                             pw_open or pw_reader_open of what is open, or pw_unshare into a world that is open */
     PW_EXHAUSTED = 7,     /* a number is at its end, which no game comes to. Each slot without a box was given 4,294,967,295
                              times, as many frames ended as 64 bits count, or over PW_SAP 2^62 exchanges were counted since the
                              last frame. */
     PW_NO_MARK = 8,       /* no mark is held to go back to, or fewer marks are held than are to be given up */
     PW_NOT_A_NUMBER = 9,  /* a float is a NaN */
-    PW_OUT_OF_RANGE = 10  /* a float, rounded as the call says, is below -32,768 or above 32,767.99998, or it is an infinity */
+    PW_OUT_OF_RANGE = 10, /* a float, rounded as the call says, is below -32,768 or above 32,767.99998, or it is an infinity */
+    PW_SHARED = 11        /* the reader reads a world; after pw_unshare, other readers read on what it read */
 };
 
-/* What each call may give beside PW_OK. Each that takes a world, except pw_open, may give PW_CLOSED too.
+/* What each call may give beside PW_OK. Each that takes a world or a reader, except pw_open and pw_reader_open, may give PW_CLOSED
+ * too. Each question by a reader, pw_reader_hits and the like, gives what the call without `reader_` gives.
  *
  *     pw_open                              PW_ARGUMENT, PW_NO_MEMORY
  *     pw_add                               PW_ARGUMENT, PW_INVERTED, PW_FULL, PW_EXHAUSTED, PW_NO_MEMORY
  *     pw_move                              PW_ARGUMENT, PW_INVERTED, PW_STALE, PW_EXHAUSTED, PW_NO_MEMORY
  *     pw_remove, pw_mask, pw_regroup       PW_STALE, PW_NO_MEMORY (2)
  *     pw_update                            PW_EXHAUSTED, PW_NO_MEMORY
- *     pw_hits                              PW_ARGUMENT, PW_NO_MEMORY
+ *     pw_hits, pw_hits_each                PW_ARGUMENT, PW_NO_MEMORY
  *     pw_cast_hits, pw_cast_first          PW_INVERTED, PW_NO_MEMORY
+ *     pw_nearest_box                       PW_INVERTED, PW_NO_MEMORY
  *     pw_ray_hits, pw_ray_first            PW_NO_MEMORY
+ *     pw_ray_first_each                    PW_ARGUMENT, PW_NO_MEMORY
+ *     pw_cast_first_each                   PW_ARGUMENT, PW_INVERTED, PW_NO_MEMORY
  *     pw_nearest, pw_pairs_now             PW_NO_MEMORY
  *     pw_mark                              PW_FULL, PW_NO_MEMORY (1)
  *     pw_forget                            PW_NO_MARK, PW_NO_MEMORY (1)
  *     pw_back                              PW_NO_MARK, PW_NO_MEMORY
  *     pw_get, pw_at                        PW_STALE
  *     pw_ray_meets, pw_square_to           PW_STALE
- *     pw_cast_meets                        PW_INVERTED, PW_STALE
+ *     pw_cast_meets, pw_square_apart       PW_INVERTED, PW_STALE
  *     pw_pairs, pw_events, pw_changes      nothing else
  *     pw_info, pw_close                    nothing else
+ *     pw_reader_open                       PW_ARGUMENT, PW_NO_MEMORY
+ *     pw_reader_close                      PW_SHARED
+ *     pw_share                             PW_SHARED, PW_NO_MEMORY
+ *     pw_join                              PW_SHARED, PW_NO_MEMORY (3)
+ *     pw_unshare                           PW_SHARED, PW_ARGUMENT
  *     pw_fix_below_32 and the like         PW_NOT_A_NUMBER, PW_OUT_OF_RANGE
  *     pw_box_around_32, pw_box_around_64   PW_NOT_A_NUMBER, PW_OUT_OF_RANGE, PW_INVERTED
  *
- * (1) of a spent world alone; (2) of a spent world, or while a mark is held. Those without PW_NO_MEMORY never want memory. */
+ * (1) of a spent world alone; (2) of a spent world, or while a mark is held; (3) if 2^63 readers read the world. Those with (1) or (3)
+ * and those without PW_NO_MEMORY never want memory. */
 
 /* How a world keeps its boxes. The answers are the same; the costs are not. */
 enum {
@@ -251,6 +272,14 @@ typedef struct pw_square {
     uint64_t low, high;
 } pw_square;
 
+/* The boxes that are nearest to a box, from a distance on: at most `want`, of the groups of `mask`, whose squared distance from `body`
+ * is at least `from`. */
+typedef struct pw_near_box {
+    uint32_t mask, want;
+    pw_box body;
+    pw_square from;
+} pw_near_box;
+
 /* What a world is. `exchanges` are those of the endpoint lists since the last frame if it is over PW_SAP, and else 0. */
 typedef struct pw_world_info {
     uint32_t structure, spent;
@@ -317,10 +346,10 @@ pw_status pw_update(pw_world *world, pw_counts *counts);
 pw_status pw_pairs(pw_world *world, size_t from, pw_pair *out, size_t out_len, size_t *copied);
 
 /* Tells how many pairs the frame would have if it ended now, and copies those from number `from` on, in the order of pw_pairs, as many
- * as there is room for. `count` is that of all the pairs, whatever `from` and the room are. The frame goes on and the world is as
+ * as there is room for. `total` is that of all the pairs, whatever `from` and the room are. The frame goes on and the world is as
  * before: pw_pairs, pw_events and pw_changes tell what they told. Each call searches as pw_update does, so give it room for all; if
  * nothing was told since the last update it copies the pairs of that one. PW_NO_MEMORY: `out` is as before. */
-pw_status pw_pairs_now(pw_world *world, size_t from, pw_pair *out, size_t out_len, size_t *count);
+pw_status pw_pairs_now(pw_world *world, size_t from, pw_pair *out, size_t out_len, size_t *total);
 
 /* Copies what the last update told, from number `from` on: each of its pairs in order, PW_BEGIN or PW_STAY, and then in order those
  * that are over, PW_OVER. It copies as many as there is room for, and tells how many those are. After pw_back they stay what the
@@ -333,23 +362,29 @@ pw_status pw_events(pw_world *world, size_t from, pw_told *out, size_t out_len, 
  * keeps pairs of its own reads this. After pw_back they, too, stay what the last update told. */
 pw_status pw_changes(pw_world *world, size_t from, pw_told *out, size_t out_len, size_t *copied);
 
-/* Tells how many live boxes meet a question, and copies the handles of the first of them, in order of slots, as many as there
+/* Tells how many live boxes meet a question (`total`), and copies the handles of the first of them, in order of slots, as many as there
  * is room for. PW_ARGUMENT: no such kind of question, or a region whose lo > hi. PW_NO_MEMORY. After both `out` is as before. */
-pw_status pw_hits(pw_world *world, const pw_query *query, pw_handle *out, size_t out_len, size_t *count);
+pw_status pw_hits(pw_world *world, const pw_query *query, pw_handle *out, size_t out_len, size_t *total);
 
 /* The same for the boxes that a ray meets, in the order in which it first meets them; those that it meets at one place come by
  * their slots. The order is exact: no rounding. Of the direction only its way counts, not its length. How far off each of them
  * is met, and by which side, pw_ray_meets tells. PW_NO_MEMORY. */
-pw_status pw_ray_hits(pw_world *world, const pw_ray *ray, pw_handle *out, size_t out_len, size_t *count);
+pw_status pw_ray_hits(pw_world *world, const pw_ray *ray, pw_handle *out, size_t out_len, size_t *total);
 
 /* The same for the boxes that a moved box meets on its way, in the order in which it first meets them, and then by their slots.
  * Those that it touches before it moves come first, as the floor that it stands on. Where each of them is met, and by which side,
  * pw_cast_meets tells. PW_INVERTED: not a box, lo > hi on some axis. PW_NO_MEMORY. */
-pw_status pw_cast_hits(pw_world *world, const pw_cast *cast, pw_handle *out, size_t out_len, size_t *count);
+pw_status pw_cast_hits(pw_world *world, const pw_cast *cast, pw_handle *out, size_t out_len, size_t *total);
 
 /* The nearest live boxes to a place, at most `want` and at most PW_SLOTS, in rising order of the square of their distance (0 for a
  * box that holds it) and then of their slots. The square pw_square_to tells. PW_NO_MEMORY. */
-pw_status pw_nearest(pw_world *world, const pw_near *near_to, pw_handle *out, size_t out_len, size_t *count);
+pw_status pw_nearest(pw_world *world, const pw_near *near_to, pw_handle *out, size_t out_len, size_t *total);
+
+/* The same for a box, from a distance on: of the live boxes whose square of the distance from `body` is at least `from`, the nearest,
+ * in rising order of that square (0 for a box that meets it) and then of their slots. The square pw_square_apart tells. With `from` 0
+ * none is too near. To go on behind an answer, ask from the square of its last box on: boxes as near as that are told again. The search
+ * comes by boxes that are too near as well. PW_INVERTED: `body` is no box. PW_NO_MEMORY. */
+pw_status pw_nearest_box(pw_world *world, const pw_near_box *near_to, pw_handle *out, size_t out_len, size_t *total);
 
 /* Tells whether a ray meets a box (`count` is 1, or 0 and `out` is as before), and which it meets first, as pw_ray_hits would: where, and
  * by which side. It looks for no other hit, so over PW_TREE and PW_SKIN it passes by all that lies behind the first. PW_NO_MEMORY. */
@@ -357,6 +392,24 @@ pw_status pw_ray_first(pw_world *world, const pw_ray *ray, pw_hit *out, size_t *
 
 /* The same for the box that a moved box meets first, as pw_cast_hits would. PW_INVERTED, PW_NO_MEMORY. */
 pw_status pw_cast_first(pw_world *world, const pw_cast *cast, pw_hit *out, size_t *count);
+
+/* The live boxes that meet each of many questions, as pw_hits would tell them one by one: the handles of all answers stand one answer
+ * behind another in `out`, as many as there is room for. ends[k] tells how many there are up to the end of answer k, those without
+ * room too, so answer k begins at ends[k - 1], and the first at 0. Questions are answered in order up to the first that is refused,
+ * whose status it gives: PW_ARGUMENT or PW_NO_MEMORY. `done` tells how many were answered, all or those before it; the rest of `ends`
+ * and of `out` is as before. If ends_len < queries_len it gives PW_ARGUMENT and asks nothing. The world keeps room for the handles of
+ * all answers of a call. */
+pw_status pw_hits_each(pw_world *world, const pw_query *queries, size_t queries_len, pw_handle *out, size_t out_len, size_t *ends,
+                       size_t ends_len, size_t *done);
+
+/* What each of many rays meets first, as pw_ray_first would tell it, each at its place of `out`. If a ray meets no box its place has
+ * PW_NO_HANDLE, num 0, den 1, PW_NO_AXIS and PW_LOWER: pw_has_hit tells. Rays are answered in order up to the first that is refused, by
+ * PW_NO_MEMORY. `done` tells how many were answered, and the rest of `out` is as before. If out_len < rays_len it gives PW_ARGUMENT and
+ * asks nothing. */
+pw_status pw_ray_first_each(pw_world *world, const pw_ray *rays, size_t rays_len, pw_hit *out, size_t out_len, size_t *done);
+
+/* The same for moved boxes, as pw_cast_first would tell it. The first that is no box is refused by PW_INVERTED. */
+pw_status pw_cast_first_each(pw_world *world, const pw_cast *casts, size_t casts_len, pw_hit *out, size_t out_len, size_t *done);
 
 /* Tells whether a ray meets one live box, whatever groups the ray asks for (`count` is 1, or 0 and `out` is as before), and where and
  * by which side, as pw_ray_first tells of the first. It looks at no other box. PW_STALE: no live box has the handle, the count is 0
@@ -369,6 +422,10 @@ pw_status pw_cast_meets(pw_world *world, const pw_cast *cast, pw_handle handle, 
 /* The square of the distance of a place from a live box: 0 if the box holds it. PW_STALE, and `out` is as it was. It takes no memory; it
  * also answers in a spent world. */
 pw_status pw_square_to(pw_world *world, const pw_point *at, pw_handle handle, pw_square *out);
+
+/* The same for a box: the square of its distance from a live box, 0 if they meet. PW_INVERTED, which is asked first, PW_STALE, and `out`
+ * is as it was. */
+pw_status pw_square_apart(pw_world *world, const pw_box *body, pw_handle handle, pw_square *out);
 
 /* Marks the world as it stands, for rollback. It takes no memory, so that PW_NO_MEMORY comes only of a spent world. PW_FULL:
  * PW_MOST_MARKS are held. */
@@ -386,6 +443,58 @@ pw_status pw_back(pw_world *world);
 
 /* What the world is. */
 pw_status pw_info(pw_world *world, pw_world_info *out);
+
+/* Readers ask one world at once, each on a thread of its own. A world is shared with a first reader, which others join. As long as any of
+ * them reads it, it isn't in its two words and nothing changes it. The last one that leaves gives it back as it was. A tick with jobs:
+ *
+ *     pw_move(&world, ..), pw_update(&world, &counts);      // one thread changes the world
+ *     pw_share(&world, &readers[0]);
+ *     for (k = 1; k < n; k++) pw_join(&readers[0], &readers[k]);
+ *     // n jobs ask, each by its reader: pw_reader_hits(&readers[k], ..). Wait for all of them.
+ *     for (k = 0; k < n; k++) pw_unshare(&readers[k], &world);   // PW_SHARED, and PW_OK of the last: the world is open again
+ *
+ * Opens a closed reader, which reads no world. It takes a few words. Room for answers it takes when it asks, and keeps that from question
+ * to question, also when it reads another world. PW_ARGUMENT: it is open. PW_NO_MEMORY: it stays closed. */
+pw_status pw_reader_open(pw_reader *reader);
+
+/* Closes a reader that reads no world, and frees its memory. It may be opened again. PW_CLOSED: it was closed. PW_SHARED: it reads a
+ * world, and stays open. */
+pw_status pw_reader_close(pw_reader *reader);
+
+/* Gives an open world, with all that it has, to an open reader that reads none. The two words of the world are zero from then on: a call
+ * with them gives PW_CLOSED, and another world may be opened or come back there. It copies no box. PW_CLOSED: the world or the reader
+ * isn't open. PW_SHARED: the reader reads a world. PW_NO_MEMORY. After all three both are as before. */
+pw_status pw_share(pw_world *world, pw_reader *reader);
+
+/* Lets `other`, which is open and reads no world, read from now on what `reader` reads. Both are in this call, so neither is in another.
+ * It takes no memory and the time is the same however many boxes there are. PW_CLOSED: one of them isn't open, or `reader` reads no world.
+ * PW_SHARED: `other` reads one. */
+pw_status pw_join(pw_reader *reader, pw_reader *other);
+
+/* Lets a reader, which stays open, read no world from now on. PW_OK: it was the last that read its world, which is open again in `world`,
+ * as it was when it was shared. PW_SHARED: others read on, and `world` stays closed. If several leave at once, on threads of their own,
+ * just one of them gets PW_OK: give each a pw_world of its own for that. It takes no memory. PW_ARGUMENT: `world` is open. PW_CLOSED: it
+ * isn't, and the reader isn't open or reads none. After both all is as before. */
+pw_status pw_unshare(pw_reader *reader, pw_world *world);
+
+/* The questions, by a reader: each is the call without `reader_` of the world that it reads, with the same answer, statuses and cost.
+ * PW_CLOSED: the reader isn't open or reads no world. What isn't here, as pw_get and pw_pairs, is read before the world is shared. */
+pw_status pw_reader_hits(pw_reader *reader, const pw_query *query, pw_handle *out, size_t out_len, size_t *total);
+pw_status pw_reader_ray_hits(pw_reader *reader, const pw_ray *ray, pw_handle *out, size_t out_len, size_t *total);
+pw_status pw_reader_cast_hits(pw_reader *reader, const pw_cast *cast, pw_handle *out, size_t out_len, size_t *total);
+pw_status pw_reader_nearest(pw_reader *reader, const pw_near *near_to, pw_handle *out, size_t out_len, size_t *total);
+pw_status pw_reader_nearest_box(pw_reader *reader, const pw_near_box *near_to, pw_handle *out, size_t out_len, size_t *total);
+pw_status pw_reader_ray_first(pw_reader *reader, const pw_ray *ray, pw_hit *out, size_t *count);
+pw_status pw_reader_cast_first(pw_reader *reader, const pw_cast *cast, pw_hit *out, size_t *count);
+pw_status pw_reader_hits_each(pw_reader *reader, const pw_query *queries, size_t queries_len, pw_handle *out, size_t out_len,
+                              size_t *ends, size_t ends_len, size_t *done);
+pw_status pw_reader_ray_first_each(pw_reader *reader, const pw_ray *rays, size_t rays_len, pw_hit *out, size_t out_len, size_t *done);
+pw_status pw_reader_cast_first_each(pw_reader *reader, const pw_cast *casts, size_t casts_len, pw_hit *out, size_t out_len,
+                                    size_t *done);
+pw_status pw_reader_ray_meets(pw_reader *reader, const pw_ray *ray, pw_handle handle, pw_hit *out, size_t *count);
+pw_status pw_reader_cast_meets(pw_reader *reader, const pw_cast *cast, pw_handle handle, pw_hit *out, size_t *count);
+pw_status pw_reader_square_to(pw_reader *reader, const pw_point *at, pw_handle handle, pw_square *out);
+pw_status pw_reader_square_apart(pw_reader *reader, const pw_box *body, pw_handle handle, pw_square *out);
 
 /* The greatest raw number that is at most 65,536 times a float, and the least that is at least that, by the float's bits. -0 is 0.
  * PW_NOT_A_NUMBER, PW_OUT_OF_RANGE: `out` is as it was. */
@@ -489,6 +598,9 @@ static inline pw_status pw_first_hit(pw_world *world, const pw_ray *ray, pw_hand
 /* The place of a hit on the way, as the double that is nearest to its fraction: `from + pw_fraction(&hit) * direction` is where a ray
  * comes to the box, up to rounding. */
 static inline double pw_fraction(const pw_hit *hit) { return (double)hit->num / (double)hit->den; }
+
+/* Whether a place of pw_ray_first_each or pw_cast_first_each has a hit: 0 if nothing is met. */
+static inline int pw_has_hit(const pw_hit *hit) { return hit->handle.slot < PW_SLOTS; }
 
 /* The square of a distance in units squared, up to rounding: its root is the distance in units. */
 static inline double pw_squared(const pw_square *square) {

@@ -38,7 +38,8 @@ enum class [[nodiscard]] Status : pw_status {
     exhausted = PW_EXHAUSTED,
     no_mark = PW_NO_MARK,
     not_a_number = PW_NOT_A_NUMBER,
-    out_of_range = PW_OUT_OF_RANGE
+    out_of_range = PW_OUT_OF_RANGE,
+    shared = PW_SHARED
 };
 
 // A status in words, for a log.
@@ -55,6 +56,7 @@ enum class [[nodiscard]] Status : pw_status {
         case Status::no_mark: return "no mark";
         case Status::not_a_number: return "not a number";
         case Status::out_of_range: return "out of range";
+        case Status::shared: return "shared";
     }
     return "no status";
 }
@@ -248,11 +250,166 @@ struct Hit : pw_hit {
         out[axis] = side == PW_UPPER ? 1 : -1;
         return out;
     }
+    // Whether there is a box: a place of ray_first_each or cast_first_each has none if nothing is met.
+    [[nodiscard]] bool has_box() const noexcept { return pw_has_hit(this) != 0; }
+};
+// The library fills a list of them as one of pw_hit.
+static_assert(sizeof(Hit) == sizeof(pw_hit) && std::is_standard_layout_v<Hit>);
+
+// The calls of C that ask a world, and those that ask by a reader.
+template <class Words>
+struct Calls;
+template <>
+struct Calls<pw_world> {
+    static constexpr auto hits = pw_hits;
+    static constexpr auto ray_hits = pw_ray_hits;
+    static constexpr auto cast_hits = pw_cast_hits;
+    static constexpr auto nearest = pw_nearest;
+    static constexpr auto nearest_box = pw_nearest_box;
+    static constexpr auto hits_each = pw_hits_each;
+    static constexpr auto ray_first = pw_ray_first;
+    static constexpr auto cast_first = pw_cast_first;
+    static constexpr auto ray_first_each = pw_ray_first_each;
+    static constexpr auto cast_first_each = pw_cast_first_each;
+    static constexpr auto ray_meets = pw_ray_meets;
+    static constexpr auto cast_meets = pw_cast_meets;
+    static constexpr auto square_to = pw_square_to;
+    static constexpr auto square_apart = pw_square_apart;
+};
+template <>
+struct Calls<pw_reader> {
+    static constexpr auto hits = pw_reader_hits;
+    static constexpr auto ray_hits = pw_reader_ray_hits;
+    static constexpr auto cast_hits = pw_reader_cast_hits;
+    static constexpr auto nearest = pw_reader_nearest;
+    static constexpr auto nearest_box = pw_reader_nearest_box;
+    static constexpr auto hits_each = pw_reader_hits_each;
+    static constexpr auto ray_first = pw_reader_ray_first;
+    static constexpr auto cast_first = pw_reader_cast_first;
+    static constexpr auto ray_first_each = pw_reader_ray_first_each;
+    static constexpr auto cast_first_each = pw_reader_cast_first_each;
+    static constexpr auto ray_meets = pw_reader_ray_meets;
+    static constexpr auto cast_meets = pw_reader_cast_meets;
+    static constexpr auto square_to = pw_reader_square_to;
+    static constexpr auto square_apart = pw_reader_square_apart;
 };
 
-// A world, which is closed when it ends. It can be moved and not copied; what it was moved from is a closed world. Questions aren't
-// const: each takes the world out of its words and puts it back, so two threads may not ask at once either.
-class World {
+// The questions, which a World and a Reader answer alike. None is const: each takes what it asks out of its two words and puts it back,
+// so two threads may not ask one of them at once.
+template <class Asked, class Words>
+class Questions {
+    using Call = Calls<Words>;
+    Words* words() noexcept { return static_cast<Asked*>(this)->native(); }
+
+public:
+    // Each tells how many boxes there are, which may be more than there was room for.
+    Count hits(const pw_query& query, Span<pw_handle> out) noexcept {
+        Count found{};
+        found.status = Status(Call::hits(words(), &query, out.data(), out.size(), &found.count));
+        return found;
+    }
+    Count ray_hits(const pw_ray& ray, Span<pw_handle> out) noexcept {
+        Count found{};
+        found.status = Status(Call::ray_hits(words(), &ray, out.data(), out.size(), &found.count));
+        return found;
+    }
+    Count cast_hits(const pw_cast& cast, Span<pw_handle> out) noexcept {
+        Count found{};
+        found.status = Status(Call::cast_hits(words(), &cast, out.data(), out.size(), &found.count));
+        return found;
+    }
+    Count nearest(const pw_near& near_to, Span<pw_handle> out) noexcept {
+        Count found{};
+        found.status = Status(Call::nearest(words(), &near_to, out.data(), out.size(), &found.count));
+        return found;
+    }
+    // Those that are nearest to a box, of those whose squared distance from it is at least `from`.
+    Count nearest_box(const pw_near_box& near_to, Span<pw_handle> out) noexcept {
+        Count found{};
+        found.status = Status(Call::nearest_box(words(), &near_to, out.data(), out.size(), &found.count));
+        return found;
+    }
+
+    // Many questions at once, in order up to the first that is refused: how many were answered, and why the next one wasn't. Answer k of
+    // hits_each is in `out` from ends[k - 1], or 0, to before ends[k].
+    Batch hits_each(Span<const pw_query> queries, Span<pw_handle> out, Span<std::size_t> ends) noexcept {
+        Batch batch{};
+        batch.status = Status(Call::hits_each(words(), queries.data(), queries.size(), out.data(), out.size(), ends.data(), ends.size(),
+                                              &batch.done));
+        return batch;
+    }
+    // Each first hit at its place, which has no box if nothing is met.
+    Batch ray_first_each(Span<const pw_ray> rays, Span<Hit> out) noexcept {
+        Batch batch{};
+        batch.status = Status(Call::ray_first_each(words(), rays.data(), rays.size(), out.data(), out.size(), &batch.done));
+        return batch;
+    }
+    Batch cast_first_each(Span<const pw_cast> casts, Span<Hit> out) noexcept {
+        Batch batch{};
+        batch.status = Status(Call::cast_first_each(words(), casts.data(), casts.size(), out.data(), out.size(), &batch.done));
+        return batch;
+    }
+
+    // What a ray, and a moved box, meets first, and where: no value in the result if it meets no box.
+    Result<std::optional<Hit>> try_ray_first(const pw_ray& ray) noexcept {
+        Hit hit{};
+        std::size_t count;
+        pw_status status = Call::ray_first(words(), &ray, &hit, &count);
+        return result_of(status, count > 0 ? std::optional(hit) : std::nullopt);
+    }
+    Result<std::optional<Hit>> try_cast_first(const pw_cast& cast) noexcept {
+        Hit hit{};
+        std::size_t count;
+        pw_status status = Call::cast_first(words(), &cast, &hit, &count);
+        return result_of(status, count > 0 ? std::optional(hit) : std::nullopt);
+    }
+    // The same, and no value also if the call is refused.
+    [[nodiscard]] std::optional<Hit> ray_first(const pw_ray& ray) noexcept { return *try_ray_first(ray); }
+    [[nodiscard]] std::optional<Hit> cast_first(const pw_cast& cast) noexcept { return *try_cast_first(cast); }
+    // Where a ray, and a moved box, meets one live box, whatever groups it asks for: no value in the result if it doesn't meet it.
+    Result<std::optional<Hit>> try_ray_meets(const pw_ray& ray, pw_handle handle) noexcept {
+        Hit hit{};
+        std::size_t count;
+        pw_status status = Call::ray_meets(words(), &ray, handle, &hit, &count);
+        return result_of(status, count > 0 ? std::optional(hit) : std::nullopt);
+    }
+    Result<std::optional<Hit>> try_cast_meets(const pw_cast& cast, pw_handle handle) noexcept {
+        Hit hit{};
+        std::size_t count;
+        pw_status status = Call::cast_meets(words(), &cast, handle, &hit, &count);
+        return result_of(status, count > 0 ? std::optional(hit) : std::nullopt);
+    }
+    // The same, and no value also if the call is refused.
+    [[nodiscard]] std::optional<Hit> ray_meets(const pw_ray& ray, pw_handle handle) noexcept { return *try_ray_meets(ray, handle); }
+    [[nodiscard]] std::optional<Hit> cast_meets(const pw_cast& cast, pw_handle handle) noexcept { return *try_cast_meets(cast, handle); }
+    // The square of the distance of a place, and of a box, from a live box, exactly; pw_squared makes a double of it.
+    Result<pw_square> try_square_to(const pw_point& at, pw_handle handle) noexcept {
+        pw_square square{};
+        pw_status status = Call::square_to(words(), &at, handle, &square);
+        return result_of(status, square);
+    }
+    Result<pw_square> try_square_apart(const pw_box& body, pw_handle handle) noexcept {
+        pw_square square{};
+        pw_status status = Call::square_apart(words(), &body, handle, &square);
+        return result_of(status, square);
+    }
+    [[nodiscard]] std::optional<pw_square> square_to(const pw_point& at, pw_handle handle) noexcept { return try_square_to(at, handle); }
+    [[nodiscard]] std::optional<pw_square> square_apart(const pw_box& body, pw_handle handle) noexcept { return try_square_apart(body, handle); }
+    // The box that a ray meets first, and no value if it meets no box.
+    Result<std::optional<pw_handle>> try_first_hit(const pw_ray& ray) noexcept {
+        auto hit = try_ray_first(ray);
+        return result_of(pw_status(hit.error()), *hit ? std::optional((*hit)->handle) : std::nullopt);
+    }
+    // The same, and no value also if nothing is open to be asked or memory ran out.
+    [[nodiscard]] std::optional<pw_handle> first_hit(const pw_ray& ray) noexcept { return *try_first_hit(ray); }
+};
+
+class Reader;
+
+// A world, which is closed when it ends. It can be moved and not copied; what it was moved from is a closed world. It is asked by
+// `Questions`, by one thread at a time; several threads ask it by Readers.
+class World : public Questions<World, pw_world> {
+    friend class Reader;
     pw_world world = PW_WORLD_INIT;
     Status opened = Status::closed;
 
@@ -358,75 +515,9 @@ public:
         return copied;
     }
 
-    // Each tells how many boxes there are, which may be more than there was room for.
-    Count hits(const pw_query& query, Span<pw_handle> out) noexcept {
-        Count found{};
-        found.status = Status(pw_hits(&world, &query, out.data(), out.size(), &found.count));
-        return found;
-    }
-    Count ray_hits(const pw_ray& ray, Span<pw_handle> out) noexcept {
-        Count found{};
-        found.status = Status(pw_ray_hits(&world, &ray, out.data(), out.size(), &found.count));
-        return found;
-    }
-    Count cast_hits(const pw_cast& cast, Span<pw_handle> out) noexcept {
-        Count found{};
-        found.status = Status(pw_cast_hits(&world, &cast, out.data(), out.size(), &found.count));
-        return found;
-    }
-    Count nearest(const pw_near& near_to, Span<pw_handle> out) noexcept {
-        Count found{};
-        found.status = Status(pw_nearest(&world, &near_to, out.data(), out.size(), &found.count));
-        return found;
-    }
-    // What a ray, and a moved box, meets first, and where: no value in the result if it meets no box.
-    Result<std::optional<Hit>> try_ray_first(const pw_ray& ray) noexcept {
-        Hit hit{};
-        std::size_t count;
-        pw_status status = pw_ray_first(&world, &ray, &hit, &count);
-        return result_of(status, count > 0 ? std::optional(hit) : std::nullopt);
-    }
-    Result<std::optional<Hit>> try_cast_first(const pw_cast& cast) noexcept {
-        Hit hit{};
-        std::size_t count;
-        pw_status status = pw_cast_first(&world, &cast, &hit, &count);
-        return result_of(status, count > 0 ? std::optional(hit) : std::nullopt);
-    }
-    // The same, and no value also if the call is refused.
-    [[nodiscard]] std::optional<Hit> ray_first(const pw_ray& ray) noexcept { return *try_ray_first(ray); }
-    [[nodiscard]] std::optional<Hit> cast_first(const pw_cast& cast) noexcept { return *try_cast_first(cast); }
-    // Where a ray, and a moved box, meets one live box, whatever groups it asks for: no value in the result if it doesn't meet it.
-    Result<std::optional<Hit>> try_ray_meets(const pw_ray& ray, pw_handle handle) noexcept {
-        Hit hit{};
-        std::size_t count;
-        pw_status status = pw_ray_meets(&world, &ray, handle, &hit, &count);
-        return result_of(status, count > 0 ? std::optional(hit) : std::nullopt);
-    }
-    Result<std::optional<Hit>> try_cast_meets(const pw_cast& cast, pw_handle handle) noexcept {
-        Hit hit{};
-        std::size_t count;
-        pw_status status = pw_cast_meets(&world, &cast, handle, &hit, &count);
-        return result_of(status, count > 0 ? std::optional(hit) : std::nullopt);
-    }
-    // The same, and no value also if the call is refused.
-    [[nodiscard]] std::optional<Hit> ray_meets(const pw_ray& ray, pw_handle handle) noexcept { return *try_ray_meets(ray, handle); }
-    [[nodiscard]] std::optional<Hit> cast_meets(const pw_cast& cast, pw_handle handle) noexcept { return *try_cast_meets(cast, handle); }
-    // The square of the distance of a place from a live box, exactly; pw_squared makes a double of it.
-    Result<pw_square> try_square_to(const pw_point& at, pw_handle handle) noexcept {
-        pw_square square{};
-        pw_status status = pw_square_to(&world, &at, handle, &square);
-        return result_of(status, square);
-    }
-    [[nodiscard]] std::optional<pw_square> square_to(const pw_point& at, pw_handle handle) noexcept { return try_square_to(at, handle); }
-    // The box that a ray meets first, and no value if it meets no box.
-    Result<std::optional<pw_handle>> try_first_hit(const pw_ray& ray) noexcept {
-        pw_handle first{};
-        std::size_t count;
-        pw_status status = pw_first_hit(&world, &ray, &first, &count);
-        return result_of(status, count > 0 ? std::optional(first) : std::nullopt);
-    }
-    // The same, and no value also if the world is closed or memory ran out.
-    [[nodiscard]] std::optional<pw_handle> first_hit(const pw_ray& ray) noexcept { return *try_first_hit(ray); }
+    // Gives the world to a reader that reads none, which is opened if it isn't. From then on this one is closed, and readers ask: the last
+    // that leaves has the world. Refused are a closed world, a reader that reads, and a want of memory: then all is as before.
+    Status share(Reader& reader) noexcept;
 
     Status mark() noexcept { return Status(pw_mark(&world)); }
     // Gives up the oldest marks.
@@ -488,6 +579,94 @@ public:
     [[nodiscard]] Iterator end() const noexcept { return {world, PW_SLOTS}; }
 };
 inline World::Boxes World::boxes() noexcept { return Boxes(this); }
+
+// One of those that ask one world at once, each on a thread of its own, by `Questions`. It can be moved and not copied; what it was moved
+// from is a closed reader. At its end it leaves, and a world whose last reader it was is closed with it.
+//
+//     std::vector<pungwelair::Reader> readers(4);      // kept from tick to tick, with the room for answers that they have
+//     auto shared = world.share(readers[0]);           // ok
+//     for (std::size_t k = 1; k < 4; k++) shared = readers[k].join(readers[0]);
+//     ask_in_jobs(readers);                            // readers[k].ray_first(ray), one thread each; wait for all of them
+//     for (auto& reader : readers)
+//         if (auto back = reader.leave()) world = std::move(*back);   // the last one has it
+class Reader : public Questions<Reader, pw_reader> {
+    friend class World;
+    pw_reader reader = PW_READER_INIT;
+    bool opened = false, reading = false;
+
+    // What a call came to by which it reads.
+    Status reads(pw_status status) noexcept {
+        if (status == PW_OK) reading = true;
+        return Status(status);
+    }
+
+public:
+    // A closed reader, which takes no memory: what makes it read opens it.
+    Reader() = default;
+    ~Reader() { static_cast<void>(leave()), pw_reader_close(&reader); }
+    Reader(Reader&& other) noexcept
+        : reader(std::exchange(other.reader, PW_READER_INIT)),
+          opened(std::exchange(other.opened, false)),
+          reading(std::exchange(other.reading, false)) {}
+    Reader& operator=(Reader&& other) noexcept {
+        Reader taken(std::move(other));
+        std::swap(reader, taken.reader);
+        std::swap(opened, taken.opened);
+        std::swap(reading, taken.reading);
+        return *this;
+    }
+
+    // An open reader stays open, and that is refused. It reads no world yet.
+    Status open() noexcept {
+        pw_status status = pw_reader_open(&reader);
+        if (status == PW_OK) opened = true;
+        return Status(status);
+    }
+    // Gives up its room for answers. Refused while it reads a world.
+    Status close() noexcept {
+        pw_status status = pw_reader_close(&reader);
+        if (status == PW_OK) opened = false;
+        return Status(status);
+    }
+    [[nodiscard]] bool is_open() const noexcept { return opened; }
+    [[nodiscard]] bool is_reading() const noexcept { return reading; }
+    // For questions of pungwelair.h. It is this reader's, not another.
+    [[nodiscard]] pw_reader* native() noexcept { return &reader; }
+
+    // Reads from now on what another reads, which is in no other call meanwhile. It is opened if it isn't. Refused are one that reads, and
+    // another that doesn't.
+    Status join(Reader& other) noexcept {
+        if (!other.reading) return Status::closed;
+        // It may be the other itself, which the library takes no two pointers to.
+        if (reading) return Status::shared;
+        if (!opened)
+            if (Status status = open(); status != Status::ok) return status;
+        return reads(pw_join(&other.reader, &reader));
+    }
+    // Reads no world from now on. ok: it was the last that read its world, which is open again in `world`. shared: others read on, and
+    // `world` stays closed. Refused if `world` is open, or if this reads none. Readers that leave at once give a World of their own each.
+    Status leave(World& world) noexcept {
+        pw_status status = pw_unshare(&reader, &world.world);
+        if (status == PW_OK || status == PW_SHARED) reading = false;
+        if (status == PW_OK) world.opened = Status::ok;
+        return Status(status);
+    }
+    // The same: the world, if this was the last that read it. Who drops it closes it.
+    [[nodiscard]] std::optional<World> leave() noexcept {
+        World world;
+        if (leave(world) != Status::ok) return std::nullopt;
+        return world;
+    }
+};
+
+inline Status World::share(Reader& reader) noexcept {
+    if (!is_open()) return Status::closed;
+    if (!reader.opened)
+        if (Status status = reader.open(); status != Status::ok) return status;
+    Status status = reader.reads(pw_share(&world, &reader.reader));
+    if (status == Status::ok) opened = Status::closed;
+    return status;
+}
 
 // What the operators below compare: a handle by its slot and then its generation, a pair by its handles, a box by its corners.
 namespace compared {

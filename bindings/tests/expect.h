@@ -20,6 +20,9 @@ static int tested(const char *name) {
     return failures != 0;
 }
 
+/* A question of `world`, or by the reader `asker` if that isn't null. */
+#define ASKED(call, ...) (asker ? pw_reader_##call(asker, __VA_ARGS__) : pw_##call(&world, __VA_ARGS__))
+
 /* Room for answers is filled first, so that what a call leaves as it was can be told. */
 enum { FILL = 0xa5 };
 

@@ -3,7 +3,7 @@
 #include "expect.h"
 #include "model.h"
 
-enum { MOST_HANDLES = 4 * MOST, BATCH = 8 };
+enum { MOST_HANDLES = 4 * MOST, BATCH = 8, READERS = 4 };
 
 static struct model marked[PW_MOST_MARKS];
 static uint64_t exchanges_when_marked[PW_MOST_MARKS];
@@ -15,8 +15,12 @@ static size_t handle_count;
 
 static pw_world world = PW_WORLD_INIT;
 
+/* Some of them read the world while it is shared: then `asker` is one of these. */
+static pw_reader readers[READERS];
+static pw_reader *asker;
+
 /* How many answers had something in them. */
-static long pairs_seen, over_seen, hits_seen, firsts_seen, meetings_seen, squares_seen, others_seen;
+static long pairs_seen, over_seen, hits_seen, firsts_seen, meetings_seen, squares_seen, others_seen, beyond_seen, each_seen, shares_seen;
 
 /* Random numbers: splitmix64. */
 static uint64_t seed;
@@ -270,7 +274,7 @@ static void try_hits(void) {
         set_way(&q, query.a, query.b);
     }
     memset(out, FILL, sizeof out);
-    pw_status status = pw_hits(&world, &query, out, room, &count);
+    pw_status status = ASKED(hits, &query, out, room, &count);
     if (query.kind == PW_REGION && is_inverted(&q.body)) {
         EXPECT(status == PW_ARGUMENT && count == 0 && is_filled(out, sizeof out));
         return;
@@ -296,7 +300,7 @@ static void expect_place(pw_status status, const pw_hit *out, size_t count, cons
 static pw_status meet(const pw_ray *ray, const pw_cast *cast, pw_handle handle, pw_hit *out, size_t *count) {
     memset(out, FILL, sizeof *out);
     *count = 99;
-    return ray ? pw_ray_meets(&world, ray, handle, out, count) : pw_cast_meets(&world, cast, handle, out, count);
+    return ray ? ASKED(ray_meets, ray, handle, out, count) : ASKED(cast_meets, cast, handle, out, count);
 }
 
 /* Whether one hit comes no later on the way than another. */
@@ -339,12 +343,12 @@ static void try_ray_hits(void) {
     size_t room = below(2) ? MOST : below(5), count = 99;
     set_way(&q, origin, ray.direction);
     memset(out, FILL, sizeof out);
-    pw_status status = pw_ray_hits(&world, &ray, out, room, &count);
+    pw_status status = ASKED(ray_hits, &ray, out, room, &count);
     size_t wanted = model_hits(&q, true, hits);
     expect_hits(status, out, room, count, hits, wanted);
     pw_hit first;
     memset(&first, FILL, sizeof first);
-    status = pw_ray_first(&world, &ray, &first, &count);
+    status = ASKED(ray_first, &ray, &first, &count);
     expect_place(status, &first, count, &q, hits, wanted);
     expect_meetings(&ray, NULL, &q, &first, hits, wanted);
     firsts_seen += wanted > 0;
@@ -359,11 +363,11 @@ static void try_cast_hits(void) {
     size_t room = below(2) ? MOST : below(5), count = 99;
     set_way(&q, origin, cast.by);
     memset(out, FILL, sizeof out);
-    pw_status status = pw_cast_hits(&world, &cast, out, room, &count);
+    pw_status status = ASKED(cast_hits, &cast, out, room, &count);
     size_t first_count = 99;
     pw_hit first;
     memset(&first, FILL, sizeof first);
-    pw_status first_status = pw_cast_first(&world, &cast, &first, &first_count);
+    pw_status first_status = ASKED(cast_first, &cast, &first, &first_count);
     if (is_inverted(&cast.body)) {
         EXPECT(status == PW_INVERTED && count == 0 && is_filled(out, sizeof out));
         EXPECT(first_status == PW_INVERTED && first_count == 0 && is_filled(&first, sizeof first));
@@ -384,14 +388,14 @@ static void expect_squares(const pw_point *at, const struct hit *hits, size_t wa
     pw_square out, before = {0, 0};
     for (size_t k = 0; k < wanted; k++) {
         memset(&out, FILL, sizeof out);
-        EXPECT(pw_square_to(&world, at, handle_of(hits[k].slot), &out) == PW_OK);
+        EXPECT(ASKED(square_to, at, handle_of(hits[k].slot), &out) == PW_OK);
         EXPECT(square_of(&out) == hits[k].number && square_of(&before) <= square_of(&out));
         before = out;
         squares_seen++;
     }
     pw_handle which = some_handle();
     memset(&out, FILL, sizeof out);
-    pw_status status = pw_square_to(&world, at, which, &out);
+    pw_status status = ASKED(square_to, at, which, &out);
     if (is_stale(which)) EXPECT(status == PW_STALE && is_filled(&out, sizeof out));
     else EXPECT(status == PW_OK && square_of(&out) == square_of_distance(&now.live[which.slot].body, at));
 }
@@ -402,10 +406,128 @@ static void try_nearest(void) {
     pw_handle out[MOST];
     size_t room = below(2) ? MOST : below(5), count = 99;
     memset(out, FILL, sizeof out);
-    pw_status status = pw_nearest(&world, &near_to, out, room, &count);
+    pw_status status = ASKED(nearest, &near_to, out, room, &count);
     size_t wanted = model_nearest(&near_to, hits);
     expect_hits(status, out, room, count, hits, wanted);
     expect_squares(&near_to.at, hits, wanted);
+}
+
+/* The squares of the nearest boxes to a box rise, from the one that was asked for on. They are those of the model, as that of any other
+ * box is. */
+static void expect_squares_apart(const pw_near_box *near_to, const struct hit *hits, size_t wanted) {
+    pw_square out, before = near_to->from;
+    for (size_t k = 0; k < wanted; k++) {
+        memset(&out, FILL, sizeof out);
+        EXPECT(ASKED(square_apart, &near_to->body, handle_of(hits[k].slot), &out) == PW_OK);
+        EXPECT(square_of(&out) == hits[k].number && is_at_least(square_of(&out), &before));
+        before = out;
+    }
+    pw_handle which = some_handle();
+    memset(&out, FILL, sizeof out);
+    pw_status status = ASKED(square_apart, &near_to->body, which, &out);
+    if (is_stale(which)) EXPECT(status == PW_STALE && is_filled(&out, sizeof out));
+    else EXPECT(status == PW_OK && square_of(&out) == square_apart(&near_to->body, &now.live[which.slot].body));
+}
+
+/* From 0 on, from the square of some live box on, from just behind it on, or from any. */
+static pw_square some_square(const pw_box *body) {
+    uint32_t kind = below(6);
+    pw_handle which = some_handle();
+    if (kind == 0) return (pw_square){next(), below(2) ? below(3) : next()};
+    if (kind < 3 || is_stale(which) || is_inverted(body)) return (pw_square){0, 0};
+    wide square = square_apart(body, &now.live[which.slot].body) + (kind == 5);
+    return (pw_square){(uint64_t)square, (uint64_t)(square >> 64)};
+}
+
+static void try_nearest_box(void) {
+    pw_near_box near_to = {some_mask(), below(3) ? below(9) : below(2) ? MOST + below(9000) : 0xffffffffu, some_box(), {0, 0}};
+    near_to.from = some_square(&near_to.body);
+    struct hit hits[MOST];
+    pw_handle out[MOST];
+    size_t room = below(2) ? MOST : below(5), count = 99;
+    memset(out, FILL, sizeof out);
+    pw_status status = ASKED(nearest_box, &near_to, out, room, &count);
+    if (is_inverted(&near_to.body)) {
+        pw_square square;
+        EXPECT(status == PW_INVERTED && count == 0 && is_filled(out, sizeof out));
+        memset(&square, FILL, sizeof square);
+        EXPECT(ASKED(square_apart, &near_to.body, some_handle(), &square) == PW_INVERTED && is_filled(&square, sizeof square));
+        return;
+    }
+    size_t wanted = model_nearest_box(&near_to, hits);
+    expect_hits(status, out, room, count, hits, wanted);
+    expect_squares_apart(&near_to, hits, wanted);
+    beyond_seen += wanted > 0 && (near_to.from.low > 0 || near_to.from.high > 0);
+}
+
+/* Many questions at once, each beside the same one alone. Some are none, and end what is answered. */
+
+static pw_query some_query(void) {
+    pw_query query = {below(25) ? below(4) : 4 + below(9), some_mask(), place(), place()};
+    if (query.kind == PW_REGION) {
+        pw_box region = some_box();
+        query.a = region.lo, query.b = region.hi;
+    } else if (query.kind == PW_RAY) {
+        query.b = direction();
+    }
+    return query;
+}
+
+static void try_hits_each(void) {
+    static pw_handle out[BATCH * MOST], wanted[BATCH * MOST];
+    pw_query queries[BATCH];
+    size_t ends[BATCH + 1], len = below(BATCH + 1), room = below(2) ? BATCH * MOST : below(20), ends_room = below(8) ? BATCH : below(BATCH);
+    size_t count = 99, answered = 0, found = 0, more = 0;
+    pw_status status = PW_OK;
+    for (size_t k = 0; k < BATCH; k++) queries[k] = some_query();
+    memset(out, FILL, sizeof out);
+    memset(ends, FILL, sizeof ends);
+    pw_status told_status = ASKED(hits_each, queries, len, out, room, ends, ends_room, &count);
+    if (ends_room < len) {
+        EXPECT(told_status == PW_ARGUMENT && count == 0 && is_filled(out, sizeof out) && is_filled(ends, sizeof ends));
+        return;
+    }
+    for (; answered < len; answered++) {
+        status = ASKED(hits, &queries[answered], wanted + found, MOST, &more);
+        if (status != PW_OK) break;
+        found += more;
+        EXPECT(ends[answered] == found);
+    }
+    EXPECT(told_status == status && count == answered && is_filled(ends + answered, sizeof ends - answered * sizeof *ends));
+    EXPECT(are_copied(out, room, wanted, found, sizeof *out) && is_filled(out + room, sizeof out - room * sizeof *out));
+    each_seen += (long)found;
+}
+
+/* What is told at a place, of which the single question is to tell the same. */
+static void expect_first(const pw_hit *hit, const pw_hit *alone, size_t count) {
+    EXPECT(count == 1 ? pw_has_hit(hit) && same_hit(hit, alone)
+                      : !pw_has_hit(hit) && same_handle(hit->handle, PW_NO_HANDLE) && hit->num == 0 && hit->den == 1 &&
+                            hit->axis == PW_NO_AXIS && hit->side == PW_LOWER);
+    each_seen += count == 1;
+}
+
+/* Rays, or else moved boxes. */
+static void try_first_each(bool are_rays) {
+    pw_ray rays[BATCH];
+    pw_cast casts[BATCH];
+    pw_hit out[BATCH + 1], alone;
+    size_t len = below(BATCH + 1), room = below(8) ? BATCH : below(BATCH), count = 99, answered = 0, met = 0;
+    pw_status status = PW_OK;
+    for (size_t k = 0; k < BATCH; k++) rays[k] = (pw_ray){some_mask(), place(), direction()};
+    for (size_t k = 0; k < BATCH; k++) casts[k] = (pw_cast){some_mask(), some_box(), direction()};
+    memset(out, FILL, sizeof out);
+    pw_status told_status = are_rays ? ASKED(ray_first_each, rays, len, out, room, &count)
+                                     : ASKED(cast_first_each, casts, len, out, room, &count);
+    if (room < len) {
+        EXPECT(told_status == PW_ARGUMENT && count == 0 && is_filled(out, sizeof out));
+        return;
+    }
+    for (; answered < len; answered++) {
+        status = are_rays ? ASKED(ray_first, &rays[answered], &alone, &met) : ASKED(cast_first, &casts[answered], &alone, &met);
+        if (status != PW_OK) break;
+        expect_first(&out[answered], &alone, met);
+    }
+    EXPECT(told_status == status && count == answered && is_filled(out + answered, sizeof out - answered * sizeof *out));
 }
 
 static uint64_t exchanges(void) {
@@ -453,9 +575,44 @@ static void try_info(uint32_t structure) {
     EXPECT(structure == PW_SAP || info.exchanges == 0);
 }
 
+static void try_some_question(void) {
+    switch (below(9)) {
+    case 0: case 1: try_hits(); break;
+    case 2: try_ray_hits(); break;
+    case 3: try_cast_hits(); break;
+    case 4: try_nearest(); break;
+    case 5: try_nearest_box(); break;
+    case 6: try_hits_each(); break;
+    case 7: try_first_each(true); break;
+    default: try_first_each(false); break;
+    }
+}
+
+/* Some readers get the world, ask, and leave one by one: the last one gives it back, with all that it had. */
+static void try_readers(void) {
+    uint32_t reading = 1 + below(READERS), left = reading;
+    pw_world_info info;
+    EXPECT(pw_share(&world, &readers[0]) == PW_OK && pw_info(&world, &info) == PW_CLOSED);
+    for (uint32_t k = 1; k < reading; k++) EXPECT(pw_join(&readers[below(k)], &readers[k]) == PW_OK);
+    for (; left > 0; left--) {
+        for (uint32_t questions = below(4); questions > 0; questions--) {
+            asker = &readers[below(left)];
+            try_some_question();
+        }
+        uint32_t leaving = below(left);
+        EXPECT(pw_unshare(&readers[leaving], &world) == (left == 1 ? PW_OK : PW_SHARED));
+        pw_reader kept = readers[leaving];
+        readers[leaving] = readers[left - 1], readers[left - 1] = kept;
+    }
+    asker = NULL;
+    expect_last_pairs();
+    expect_changes(0, changed_count + 1);
+    shares_seen++;
+}
+
 /* Marks come about as often as they go, so that a long run holds no mark and all that there may be. */
 static void try_some_call(uint32_t structure) {
-    switch (below(20)) {
+    switch (below(22)) {
     case 0: case 1: try_add(); break;
     case 2: case 3: case 4: try_move(); break;
     case 5: below(2) ? try_mask() : try_regroup(); break;
@@ -463,10 +620,8 @@ static void try_some_call(uint32_t structure) {
     case 8: below(2) ? try_get() : try_at(); break;
     case 9: case 10: try_update(); break;
     case 11: below(2) ? try_lists() : try_pairs_now(); break;
-    case 12: case 13: try_hits(); break;
-    case 14: try_ray_hits(); break;
-    case 15: try_cast_hits(); break;
-    case 16: try_nearest(); break;
+    case 12: case 13: case 14: case 15: case 16: case 20: try_some_question(); break;
+    case 21: try_readers(); break;
     case 17: below(8) < 5 ? try_mark() : try_back(); break;
     case 18: below(8) < 3 ? try_mark() : below(8) ? try_back() : try_forget(); break;
     default: try_info(structure); break;
@@ -480,12 +635,17 @@ int main(int count, char **words) {
         now = (struct model){0};
         marks = 0, told_count = changed_count = handle_count = 0;
         EXPECT(pw_open(&world, structure) == PW_OK);
+        for (int k = 0; k < READERS; k++) EXPECT(pw_reader_open(&readers[k]) == PW_OK);
         for (long k = 0; k < calls; k++) try_some_call(structure);
         EXPECT(pw_close(&world) == PW_OK);
+        for (int k = 0; k < READERS; k++) EXPECT(pw_reader_close(&readers[k]) == PW_OK);
     }
     printf("random_calls: %ld pairs, %ld over, %ld hits, %ld first hits\n", pairs_seen, over_seen, hits_seen, firsts_seen);
     printf("random_calls: %ld meetings, %ld squares, %ld times other pairs within a frame\n", meetings_seen, squares_seen, others_seen);
+    printf("random_calls: %ld times some from a distance on, %ld answers of many questions at once, %ld worlds shared\n", beyond_seen,
+           each_seen, shares_seen);
     EXPECT(pairs_seen > 0 && over_seen > 0 && hits_seen > 0 && firsts_seen > 0);
     EXPECT(meetings_seen > 0 && squares_seen > 0 && others_seen > 0);
+    EXPECT(beyond_seen > 0 && each_seen > 0 && shares_seen > 0);
     return tested("random_calls");
 }

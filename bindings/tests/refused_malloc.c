@@ -5,7 +5,7 @@
 #include <stdbool.h>
 #include <stdlib.h>
 
-enum { BOXES = 300, MORE = 30, MOVED = 150, ROOM = 8192, LOG = 1 << 20 };
+enum { BOXES = 300, MORE = 30, MOVED = 150, ROOM = 8192, LOG = 1 << 20, MANY = 4 };
 
 /* The heap, in place of pungwelair_heap.c. */
 struct tried {
@@ -56,9 +56,14 @@ static void answered(const void *answer, size_t size) {
 }
 
 static pw_world world = PW_WORLD_INIT;
+static pw_reader readers[2];
+/* The reader that asks, while the world is shared. */
+static pw_reader *asker;
 static pw_handle handles[BOXES + MORE];
 static bool is_spent;
 static long spent_worlds;
+/* How often some of many questions were answered, and the others weren't. */
+static long cut_short;
 
 /* The lists of the last frame. */
 static pw_pair pairs[ROOM];
@@ -102,29 +107,76 @@ static pw_box box_of(int32_t k, int32_t shift) {
     return (pw_box){{x, y, z}, {x + 100 + k % 3, y + 90 + k % 5 * 5, z + 120}};
 }
 
-/* Where ways meet the first box that lives, and how far off it is: no memory is asked for. A ray that ends at its lower corner comes in
- * there, and so does the corner if it is moved. */
-static void meet(void) {
-    pw_handle handle;
-    pw_live live;
-    uint32_t slot = 0;
-    while (pw_at(&world, slot, &handle, &live) == PW_STALE && slot < PW_SLOTS) slot++;
-    if (slot == PW_SLOTS) return;
-    pw_point lo = live.body.lo, outside = {lo.x - 40, lo.y, lo.z};
+/* Where ways meet a box, and how far off it is: no memory is asked for. A ray that ends at its lower corner comes in there, and so does the
+ * corner if it is moved. */
+static void meet_box(pw_handle handle, pw_point lo) {
+    pw_point outside = {lo.x - 40, lo.y, lo.z};
     pw_ray ray = {0, outside, {40, 0, 0}}, away = {0, outside, {-40, 0, 0}};
     pw_cast cast = {0, {outside, outside}, {80, 0, 0}};
     pw_hit hits[2], none;
     pw_square square;
     size_t count;
-    NEEDS_NONE(pw_ray_meets(&world, &ray, handle, &hits[0], &count));
+    NEEDS_NONE(ASKED(ray_meets, &ray, handle, &hits[0], &count));
     EXPECT(count == 1 && hits[0].num == hits[0].den && hits[0].axis == 0 && hits[0].side == PW_LOWER);
-    NEEDS_NONE(pw_cast_meets(&world, &cast, handle, &hits[1], &count));
+    NEEDS_NONE(ASKED(cast_meets, &cast, handle, &hits[1], &count));
     EXPECT(count == 1 && hits[1].num * 2 == hits[1].den && hits[1].axis == 0 && hits[1].side == PW_LOWER);
     memset(&none, FILL, sizeof none);
-    NEEDS_NONE(pw_ray_meets(&world, &away, handle, &none, &count));
+    NEEDS_NONE(ASKED(ray_meets, &away, handle, &none, &count));
     EXPECT(count == 0 && is_filled(&none, sizeof none));
-    NEEDS_NONE(pw_square_to(&world, &outside, handle, &square));
+    NEEDS_NONE(ASKED(square_to, &outside, handle, &square));
     EXPECT(square.low == 1600 && square.high == 0);
+    NEEDS_NONE(ASKED(square_apart, &cast.body, handle, &square));
+    EXPECT(square.low == 1600 && square.high == 0);
+}
+
+/* The first box that lives, if one does. */
+static bool first_live(pw_handle *handle, pw_live *live) {
+    uint32_t slot = 0;
+    while (slot < PW_SLOTS && pw_at(&world, slot, handle, live) == PW_STALE) slot++;
+    return slot < PW_SLOTS;
+}
+
+static void meet(void) {
+    pw_handle handle;
+    pw_live live;
+    if (first_live(&handle, &live)) meet_box(handle, live.body.lo);
+}
+
+/* Questions of a spent world, also by a reader. */
+static void ask_spent_world(void) {
+    pw_handle handle;
+    pw_hit hit;
+    pw_query query = {PW_POINT, ~0u, {0, 0, 0}, {0, 0, 0}};
+    pw_ray ray = {~0u, {0, 0, 0}, {1, 0, 0}};
+    pw_cast cast = {~0u, box_of(0, 0), {1, 0, 0}};
+    pw_near near_to = {~0u, 1, {0, 0, 0}};
+    pw_near_box near_box = {~0u, 1, box_of(0, 0), {0, 0}};
+    size_t count, end = 99;
+    EXPECT(ASKED(hits, &query, &handle, 1, &count) == PW_NO_MEMORY && count == 0);
+    EXPECT(ASKED(ray_hits, &ray, &handle, 1, &count) == PW_NO_MEMORY && count == 0);
+    EXPECT(ASKED(cast_hits, &cast, &handle, 1, &count) == PW_NO_MEMORY && count == 0);
+    EXPECT(ASKED(nearest, &near_to, &handle, 1, &count) == PW_NO_MEMORY && count == 0);
+    EXPECT(ASKED(nearest_box, &near_box, &handle, 1, &count) == PW_NO_MEMORY && count == 0);
+    EXPECT(ASKED(ray_first, &ray, &hit, &count) == PW_NO_MEMORY && count == 0);
+    EXPECT(ASKED(cast_first, &cast, &hit, &count) == PW_NO_MEMORY && count == 0);
+    EXPECT(ASKED(hits_each, &query, 1, &handle, 1, &end, 1, &count) == PW_NO_MEMORY && count == 0 && end == 99);
+    EXPECT(ASKED(ray_first_each, &ray, 1, &hit, 1, &count) == PW_NO_MEMORY && count == 0);
+    EXPECT(ASKED(cast_first_each, &cast, 1, &hit, 1, &count) == PW_NO_MEMORY && count == 0);
+}
+
+/* It may be shared too, and comes back as spent as it was. */
+static void share_spent_world(void) {
+    pw_handle handle;
+    pw_live live;
+    pw_world_info info;
+    bool has_box = first_live(&handle, &live);
+    EXPECT(pw_reader_open(&readers[0]) == PW_OK && pw_share(&world, &readers[0]) == PW_OK);
+    asker = &readers[0];
+    ask_spent_world();
+    if (has_box) meet_box(handle, live.body.lo);
+    asker = NULL;
+    EXPECT(pw_unshare(&readers[0], &world) == PW_OK && pw_reader_close(&readers[0]) == PW_OK);
+    EXPECT(pw_info(&world, &info) == PW_OK && info.spent);
 }
 
 /* A spent world refuses each change and question, and tells that it is spent. It is closed, and another one takes its boxes. */
@@ -132,12 +184,7 @@ static void leave_spent_world(void) {
     pw_box body = box_of(0, 0);
     pw_new how = pw_seen_by_all();
     pw_handle handle;
-    pw_hit hit;
     pw_counts counts;
-    pw_query query = {PW_POINT, ~0u, {0, 0, 0}, {0, 0, 0}};
-    pw_ray ray = {~0u, {0, 0, 0}, {1, 0, 0}};
-    pw_cast cast = {~0u, body, {1, 0, 0}};
-    pw_near near_to = {~0u, 1, {0, 0, 0}};
     size_t count;
     is_spent = true;
     spent_worlds++;
@@ -146,12 +193,7 @@ static void leave_spent_world(void) {
     EXPECT(pw_remove(&world, handles, 1, &count) == PW_NO_MEMORY && count == 0);
     EXPECT(pw_mask(&world, handles[0], how.masks) == PW_NO_MEMORY && pw_regroup(&world, handles[0], how.group) == PW_NO_MEMORY);
     EXPECT(pw_update(&world, &counts) == PW_NO_MEMORY && counts.pairs == 0 && counts.events == 0 && counts.changes == 0);
-    EXPECT(pw_hits(&world, &query, &handle, 1, &count) == PW_NO_MEMORY && count == 0);
-    EXPECT(pw_ray_hits(&world, &ray, &handle, 1, &count) == PW_NO_MEMORY && count == 0);
-    EXPECT(pw_cast_hits(&world, &cast, &handle, 1, &count) == PW_NO_MEMORY && count == 0);
-    EXPECT(pw_nearest(&world, &near_to, &handle, 1, &count) == PW_NO_MEMORY && count == 0);
-    EXPECT(pw_ray_first(&world, &ray, &hit, &count) == PW_NO_MEMORY && count == 0);
-    EXPECT(pw_cast_first(&world, &cast, &hit, &count) == PW_NO_MEMORY && count == 0);
+    ask_spent_world();
     EXPECT(pw_pairs_now(&world, 0, pairs, ROOM, &count) == PW_NO_MEMORY && count == 0);
     EXPECT(pw_mark(&world) == PW_NO_MEMORY && pw_forget(&world, 0) == PW_NO_MEMORY && pw_back(&world) == PW_NO_MEMORY);
     /* What it had can be read still. */
@@ -159,6 +201,7 @@ static void leave_spent_world(void) {
     EXPECT(pw_events(&world, 0, events, ROOM, &count) == PW_OK);
     expect_same_changes();
     meet();
+    share_spent_world();
     EXPECT(pw_close(&world) == PW_OK && blocks == 0);
     EXPECT(pw_open(&world, PW_PLAIN) == PW_OK);
     EXPECT(pw_add(&world, &body, 1, &how, &handle, 1, &count) == PW_OK && count == 1);
@@ -301,33 +344,110 @@ static void update(void) {
     answered(changes, change_count * sizeof *changes);
 }
 
+/* Many questions, of which a want of memory ends what is answered: those before it are as they are when all are asked again. */
+static void ask_hits_each(const pw_query *queries) {
+    static pw_handle some[MANY * (BOXES + MORE)], all[MANY * (BOXES + MORE)];
+    size_t some_ends[MANY], all_ends[MANY], some_count, count;
+    pw_status status;
+    memset(some_ends, FILL, sizeof some_ends);
+    TELLS(status, ASKED(hits_each, queries, MANY, some, MANY * (BOXES + MORE), some_ends, MANY, &some_count));
+    EXPECT((status == PW_OK) == (some_count == MANY) && is_filled(some_ends + some_count, (MANY - some_count) * sizeof *some_ends));
+    cut_short += some_count > 0 && some_count < MANY;
+    memcpy(all, some, sizeof all);
+    memcpy(all_ends, some_ends, sizeof all_ends);
+    if (status == PW_NO_MEMORY) {
+        status = ASKED(hits_each, queries, MANY, all, MANY * (BOXES + MORE), all_ends, MANY, &count);
+        EXPECT(status == PW_OK && count == MANY && !memcmp(some_ends, all_ends, some_count * sizeof *all_ends));
+        EXPECT(some_count == 0 || !memcmp(some, all, all_ends[some_count - 1] * sizeof *all));
+    }
+    EXPECT(status == PW_OK);
+    answered(all_ends, sizeof all_ends);
+    answered(all, all_ends[MANY - 1] * sizeof *all);
+}
+
+static pw_status ask_firsts(const pw_ray *rays, const pw_cast *casts, pw_hit *hits, size_t *count) {
+    return rays ? ASKED(ray_first_each, rays, MANY, hits, MANY, count) : ASKED(cast_first_each, casts, MANY, hits, MANY, count);
+}
+
+static void ask_first_each(const pw_ray *rays, const pw_cast *casts) {
+    pw_hit some[MANY], all[MANY];
+    size_t some_count, count;
+    pw_status status;
+    memset(some, FILL, sizeof some);
+    TELLS(status, ask_firsts(rays, casts, some, &some_count));
+    EXPECT((status == PW_OK) == (some_count == MANY) && is_filled(some + some_count, (MANY - some_count) * sizeof *some));
+    cut_short += some_count > 0 && some_count < MANY;
+    memcpy(all, some, sizeof all);
+    if (status == PW_NO_MEMORY) {
+        status = ask_firsts(rays, casts, all, &count);
+        EXPECT(status == PW_OK && count == MANY && !memcmp(some, all, some_count * sizeof *all));
+    }
+    EXPECT(status == PW_OK);
+    answered(all, sizeof all);
+}
+
 static void ask(void) {
-    pw_query queries[4] = {{PW_REGION, ~0u, {0, 0, 0}, {300, 300, 300}},
+    pw_query queries[MANY] = {{PW_REGION, ~0u, {0, 0, 0}, {300, 300, 300}},
                            {PW_POINT, 1, {150, 50, 150}, {0, 0, 0}},
                            {PW_RAY, ~0u, {-9, 50, 50}, {3, 1, 2}},
                            {PW_SEGMENT, ~0u, {700, 700, 700}, {0, 0, 0}}};
     pw_ray ray = {~0u, {-9, 50, 50}, {5, 1, 1}};
     pw_cast cast = {~0u, {{0, 0, 0}, {50, 50, 50}}, {900, 900, 900}};
+    pw_ray rays[MANY] = {ray, {~0u, {-9, 50, 50}, {-5, 1, 1}}, {~0u, {0, -9, 30}, {0, 5, 1}}, {1, {900, 900, 900}, {-1, -1, -1}}};
+    pw_cast casts[MANY] = {cast, {~0u, {{-90, 0, 0}, {-80, 1, 1}}, {9, 0, 0}}, {0, cast.body, cast.by}, {~0u, cast.body, {0, 0, 0}}};
     pw_near near_to = {~0u, 50, {350, 350, 350}};
+    pw_near_box near_box = {~0u, 30, {{-90, -90, -90}, {0, 0, 0}}, {90000, 0}};
     pw_handle found[BOXES + MORE];
     pw_hit hits[2];
     size_t count;
-    for (int k = 0; k < 4; k++) {
-        ASK(pw_hits(&world, &queries[k], found, BOXES + MORE, &count));
+    for (int k = 0; k < MANY; k++) {
+        ASK(ASKED(hits, &queries[k], found, BOXES + MORE, &count));
         answered(found, count * sizeof *found);
     }
-    ASK(pw_ray_hits(&world, &ray, found, BOXES + MORE, &count));
+    ASK(ASKED(ray_hits, &ray, found, BOXES + MORE, &count));
     answered(found, count * sizeof *found);
-    ASK(pw_cast_hits(&world, &cast, found, BOXES + MORE, &count));
+    ASK(ASKED(cast_hits, &cast, found, BOXES + MORE, &count));
     answered(found, count * sizeof *found);
-    ASK(pw_nearest(&world, &near_to, found, BOXES + MORE, &count));
+    ASK(ASKED(nearest, &near_to, found, BOXES + MORE, &count));
     EXPECT(count == 50);
     answered(found, count * sizeof *found);
-    ASK(pw_ray_first(&world, &ray, &hits[0], &count));
+    ASK(ASKED(nearest_box, &near_box, found, BOXES + MORE, &count));
+    EXPECT(count == 30);
+    answered(found, count * sizeof *found);
+    ASK(ASKED(ray_first, &ray, &hits[0], &count));
     EXPECT(count == 1);
-    ASK(pw_cast_first(&world, &cast, &hits[1], &count));
+    ASK(ASKED(cast_first, &cast, &hits[1], &count));
     EXPECT(count == 1);
     answered(hits, sizeof hits);
+    ask_hits_each(queries);
+    ask_first_each(rays, NULL);
+    ask_first_each(NULL, casts);
+}
+
+/* Two readers are opened, get the world, and give it back; the one that joined asks all. If sharing is refused the world stays open and may be shared again; to
+ * join, to leave and to close asks for no memory. */
+static void share_and_ask(void) {
+    pw_world_info before = info_now(), info;
+    pw_handle handle;
+    pw_live live;
+    bool has_box = first_live(&handle, &live);
+    long asked;
+    for (int k = 0; k < 2; k++) ASK(pw_reader_open(&readers[k]));
+    ASK(pw_share(&world, &readers[0]));
+    NEEDS_NONE(pw_join(&readers[0], &readers[1]));
+    for (int k = 0; k < 2; k++) {
+        asker = &readers[k];
+        if (has_box) meet_box(handle, live.body.lo);
+    }
+    ask();
+    asker = NULL;
+    asked = requests;
+    EXPECT(pw_unshare(&readers[0], &world) == PW_SHARED && pw_info(&world, &info) == PW_CLOSED && requests == asked);
+    NEEDS_NONE(pw_unshare(&readers[1], &world));
+    for (int k = 0; k < 2; k++) NEEDS_NONE(pw_reader_close(&readers[k]));
+    info = info_now();
+    EXPECT(info.boxes == before.boxes && info.frames == before.frames && info.marks == before.marks);
+    expect_same_changes();
 }
 
 static void see(void) {
@@ -361,8 +481,8 @@ static void empty(void) { remove_some(0, BOXES); }
 /* The way back leads over what came and went behind both marks, so the handles of `fill` name its boxes again. */
 static void (*const steps[])(void) = {
     fill, ask_pairs, update, ask_pairs, ask, meet, mark, move_half, ask_pairs, update, mask_one, mark, forget, move_behind_mark,
-    mask_behind_mark, regroup_behind_mark, update, mark, remove_behind_mark, add_behind_mark, ask_pairs, update, ask, back, ask_pairs, ask,
-    back, update, see, ask, meet, empty, update
+    mask_behind_mark, regroup_behind_mark, update, mark, remove_behind_mark, add_behind_mark, ask_pairs, update, share_and_ask, ask, back,
+    ask_pairs, ask, back, update, see, ask, meet, empty, update
 };
 enum { STEPS = sizeof steps / sizeof *steps };
 
@@ -416,12 +536,12 @@ int main(void) {
         is_first_run = true;
         run(structure);
         is_first_run = false;
-        spent_worlds = 0;
+        spent_worlds = cut_short = 0;
         refused_request = 0;
         do run(structure);
         while (refusals && ++refused_request);
         printf("%s: %ld requests, each refused once; %ld of them spent the world\n", names[structure], refused_request, spent_worlds);
-        EXPECT(refused_request > 0);
+        EXPECT(refused_request > 0 && cut_short > 0);
     }
     ring();
     return tested("refused_malloc");

@@ -16,6 +16,8 @@
 #endif
 
 using pungwelair::event_of;
+using pungwelair::Hit;
+using pungwelair::Reader;
 using pungwelair::Status;
 using pungwelair::Structure;
 using pungwelair::World;
@@ -121,6 +123,129 @@ void meetings(Structure structure) {
     // Twice (2^32 - 1)^2.
     EXPECT(farthest && farthest->high == 1 && farthest->low == 0xfffffffc00000002u && pw_squared(&*farthest) == 8589934588);
     EXPECT(world.try_square_to(origin, pungwelair::no_handle).error() == Status::stale && !World().square_to(origin, *near));
+}
+
+// The nearest to a box, those behind them, and how far they are off.
+void nearest_to_boxes(Structure structure) {
+    World world(structure);
+    auto far = world.add(cube(50)), near = world.add(cube(0)), beside = world.add(cube(15));
+    std::vector<pw_handle> out(4);
+    EXPECT(far && near && beside);
+    EXPECT(world.nearest_box({1, 2, cube(28), {0, 0}}, out).count == 2 && out[0] == *beside && out[1] == *far);
+    EXPECT(world.nearest_box({1, 9, cube(28), {10, 0}}, out).count == 2 && out[0] == *far && out[1] == *near);
+    EXPECT(world.nearest_box({1, 9, cube(28), {0, 1}}, out).count == 0 && world.nearest_box({2, 9, cube(28), {0, 0}}, out).count == 0);
+    auto refused = world.nearest_box({1, 9, inverted, {0, 0}}, out);
+    EXPECT(!refused && refused.status == Status::inverted && World().nearest_box({1, 9, cube(0), {0, 0}}, out).status == Status::closed);
+    auto square = world.square_apart(cube(28), *near), touching = world.square_apart(cube(60), *far);
+    EXPECT(square && square->low == 324 && square->high == 0 && touching && touching->low == 0);
+    EXPECT(world.try_square_apart(inverted, pungwelair::no_handle).error() == Status::inverted && !world.square_apart(inverted, *near));
+    EXPECT(world.try_square_apart(cube(0), pungwelair::no_handle).error() == Status::stale);
+    EXPECT(World().try_square_apart(cube(0), *near).error() == Status::closed);
+}
+
+// Many questions at once, in lists of each form, up to the first that is refused.
+void many_at_once(Structure structure) {
+    World world(structure);
+    auto far = world.add(cube(50)), near = world.add(cube(0));
+    EXPECT(far && near);
+    const pw_query both{PW_REGION, 1, cube(0).lo, cube(50).hi}, one{PW_POINT, 1, {5, 5, 5}, origin}, wrong{9, 1, origin, origin};
+    std::array<pw_handle, 4> out{};
+    std::array<std::size_t, 3> ends{7, 7, 7};
+    auto told = world.hits_each({both, one}, out, ends);
+    EXPECT(told && told.done == 2 && ends[0] == 2 && ends[1] == 3 && ends[2] == 7);
+    EXPECT(out[0] == *far && out[1] == *near && out[2] == *near);
+    std::vector<pw_handle> little(1);
+    told = world.hits_each(std::vector{one, both, wrong}, little, ends);
+    EXPECT(!told && told.status == Status::argument && told.done == 2 && ends[0] == 1 && ends[1] == 3 && little[0] == *near);
+    told = world.hits_each({both, one}, out, {ends.data(), 1});
+    EXPECT(told.status == Status::argument && told.done == 0 && ends[0] == 1);
+
+    const pw_ray ray{1, {100, 5, 5}, {-80, 0, 0}}, away{1, {100, 5, 5}, {80, 0, 0}};
+    const pw_cast cast{1, cube(-20), {20, 0, 0}}, short_of{1, cube(-20), {9, 0, 0}}, none{1, inverted, origin};
+    std::vector<Hit> hits(3);
+    told = world.ray_first_each({ray, away}, hits);
+    EXPECT(told && told.done == 2 && hits[0].has_box() && hits[0].handle == *far && hits[0].place() == 0.5 && !hits[1].has_box());
+    EXPECT(hits[1].handle == pungwelair::no_handle && hits[1].place() == 0 && !hits[1].face() && hits[2].den == 0);
+    told = world.cast_first_each(std::vector{short_of, cast, none}, hits);
+    EXPECT(told.status == Status::inverted && told.done == 2 && !hits[0].has_box() && hits[1].handle == *near && hits[1].place() == 0.5);
+    EXPECT(hits[1].normal() && (*hits[1].normal() == std::array<int, 3>{-1, 0, 0}) && hits[2].den == 0);
+    EXPECT(world.ray_first_each({ray, away}, {hits.data(), 1}).status == Status::argument);
+    EXPECT(World().hits_each({one}, out, ends).status == Status::closed && World().ray_first_each({ray}, hits).status == Status::closed);
+    EXPECT(World().cast_first_each({cast}, hits).done == 0);
+}
+
+// Each question, of what may be asked: of a world, or by a reader.
+template <class Asked>
+void expect_questions(Asked& asked, pw_handle far, pw_handle near) {
+    std::array<pw_handle, 4> out{};
+    std::array<std::size_t, 1> ends{};
+    std::array<Hit, 2> hits{};
+    const pw_query point{PW_POINT, 1, {5, 5, 5}, origin};
+    const pw_ray ray{1, {100, 5, 5}, {-80, 0, 0}};
+    const pw_cast cast{1, cube(-20), {20, 0, 0}};
+    EXPECT(asked.hits({PW_REGION, 1, cube(5).lo, cube(5).hi}, out).count == 1 && out[0] == near);
+    EXPECT(asked.ray_hits(ray, out).count == 2 && out[0] == far && asked.cast_hits(cast, out).count == 1 && out[0] == near);
+    EXPECT(asked.nearest({1, 1, {90, 5, 5}}, out).count == 1 && out[0] == far);
+    EXPECT(asked.nearest_box({1, 9, cube(40), {1, 0}}, out).count == 1 && out[0] == near);
+    EXPECT(asked.hits_each({point}, out, ends).done == 1 && ends[0] == 1 && out[0] == near);
+    EXPECT(asked.ray_first(ray)->handle == far && asked.cast_first(cast)->place() == 0.5 && *asked.first_hit(ray) == far);
+    EXPECT(asked.ray_first_each({ray, ray}, hits).done == 2 && hits[1].handle == far && asked.cast_first_each({cast}, hits).done == 1);
+    EXPECT(asked.ray_meets(ray, near)->place() == 1.125 && asked.cast_meets(cast, near)->handle == near && !*asked.try_cast_meets(cast, far));
+    EXPECT(asked.square_to({13, 14, 10}, near)->low == 25 && asked.square_apart(cube(40), near)->low == 900);
+}
+
+// A world goes to readers, is closed meanwhile, and comes back with the last of them.
+void readers_of_a_world(Structure structure) {
+    World world(structure), other;
+    auto far = world.add(cube(50)), near = world.add(cube(0));
+    EXPECT(far && near && world.mark() == Status::ok);
+    expect_questions(world, *far, *near);
+    Reader first, second, third;
+    EXPECT(!first.is_open() && !first.is_reading() && first.leave(other) == Status::closed && second.join(first) == Status::closed);
+    EXPECT(world.share(first) == Status::ok && first.is_open() && first.is_reading() && !world.is_open() && world.status() == Status::closed);
+    EXPECT(!world.info() && world.share(second) == Status::closed && world.close() == Status::closed);
+    EXPECT(second.join(first) == Status::ok && second.join(first) == Status::shared && third.join(second) == Status::ok);
+    EXPECT(first.join(first) == Status::shared && first.open() == Status::argument && first.close() == Status::shared && first.is_reading());
+    for (Reader* reader : {&first, &second, &third}) expect_questions(*reader, *far, *near);
+
+    EXPECT(other.open(structure) == Status::ok && other.share(first) == Status::shared && other.is_open());
+    EXPECT(first.leave(other) == Status::argument && first.is_reading() && other.close() == Status::ok);
+    EXPECT(second.leave(other) == Status::shared && !second.is_reading() && second.is_open() && !other.is_open() && !third.leave());
+    expect_questions(first, *far, *near);
+    EXPECT(first.leave(other) == Status::ok && other.is_open() && other.info()->boxes == 2 && other.info()->marks == 1);
+    EXPECT(first.ray_hits({1, origin, origin}, {nullptr, 0}).status == Status::closed && !first.leave());
+    expect_questions(other, *far, *near);
+
+    // It is changed, and the same readers read it again.
+    EXPECT(other.back() == Status::ok && other.move(*near, cube(1)) == Status::ok && other.share(second) == Status::ok);
+    EXPECT(first.join(second) == Status::ok && first.square_apart(cube(40), *near)->low == 841);
+    EXPECT(!second.leave() && second.close() == Status::ok && !second.is_open());
+    auto back = first.leave();
+    EXPECT(back && back->is_open() && back->get(*near)->body == cube(1) && first.close() == Status::ok && first.close() == Status::closed);
+}
+
+// What a reader was moved from is closed, and one that ends leaves: the world stays with others, or ends too.
+void readers_that_end() {
+    World world(Structure::tree);
+    EXPECT(world.add(cube(0)));
+    Reader kept;
+    {
+        Reader ends, moved;
+        EXPECT(world.share(ends) == Status::ok && kept.join(ends) == Status::ok);
+        moved = std::move(ends);
+        EXPECT(!ends.is_open() && !ends.is_reading() && ends.leave(world) == Status::closed && moved.is_reading());
+        Reader again(std::move(moved));
+        EXPECT(!moved.is_reading() && again.is_reading() && again.square_to(origin, {0, 0})->low == 0);
+    }
+    EXPECT(kept.square_to({0, 0, 12}, {0, 0})->low == 4);
+    auto back = kept.leave();
+    EXPECT(back && back->info()->boxes == 1);
+    std::vector<Reader> readers(3);
+    EXPECT(back && back->share(readers[0]) == Status::ok && readers[1].join(readers[0]) == Status::ok && readers[2].join(readers[1]) == Status::ok);
+    // An assignment ends what was there, and the last end of all frees the world: a leak would be seen.
+    readers[0] = Reader();
+    EXPECT(!readers[0].is_reading() && readers[1].is_reading() && readers[2].square_to(origin, {0, 0})->low == 0);
+    EXPECT(pw_reader_close(readers[1].native()) == PW_SHARED);
 }
 
 // The pairs of now, of which there may be more than there is room for, beside those of the last frame.
@@ -230,8 +355,8 @@ void reasons() {
 // Status in words, each its own.
 void texts() {
     std::set<std::string_view> words;
-    for (pw_status status = PW_OK; status <= PW_OUT_OF_RANGE; status++) words.insert(text_of(Status(status)));
-    EXPECT(words.size() == PW_OUT_OF_RANGE + 1 && words.count("no memory") == 1 && words.count("no status") == 0);
+    for (pw_status status = PW_OK; status <= PW_SHARED; status++) words.insert(text_of(Status(status)));
+    EXPECT(words.size() == PW_SHARED + 1 && words.count("no memory") == 1 && words.count("no status") == 0);
     static_assert(std::string_view(text_of(Status::stale)) == "stale" && std::string_view(text_of(Status(99))) == "no status");
 }
 
@@ -320,6 +445,14 @@ static_assert(noexcept(World().add(std::declval<std::vector<pw_box>&>(), {}, std
 static_assert(noexcept(World().move(std::declval<std::vector<pw_handle>&>(), std::declval<std::vector<pw_box>&>())));
 static_assert(noexcept(World().ray_first({})) && noexcept(World().try_cast_first({})) && noexcept(pungwelair::Hit{}.normal()));
 static_assert(noexcept(World().ray_meets({}, {})) && noexcept(World().try_cast_meets({}, {})) && noexcept(World().square_to({}, {})));
+static_assert(noexcept(World().nearest_box({}, std::declval<std::vector<pw_handle>&>())) && noexcept(World().square_apart({}, {})));
+static_assert(noexcept(World().hits_each({pw_query{}}, std::declval<std::vector<pw_handle>&>(), std::declval<std::vector<std::size_t>&>())));
+static_assert(noexcept(World().ray_first_each({pw_ray{}}, std::declval<std::vector<Hit>&>())) && noexcept(Hit{}.has_box()));
+static_assert(noexcept(World().share(std::declval<Reader&>())) && noexcept(Reader()) && noexcept(Reader().open()) && noexcept(Reader().close()));
+static_assert(noexcept(Reader().join(std::declval<Reader&>())) && noexcept(Reader().leave()) && noexcept(Reader().leave(std::declval<World&>())));
+static_assert(noexcept(Reader().ray_first({})) && noexcept(Reader().is_reading()) && noexcept(Reader().is_open()) && noexcept(Reader().native()));
+static_assert(std::is_nothrow_move_constructible_v<Reader> && std::is_nothrow_move_assignable_v<Reader>);
+static_assert(!std::is_copy_constructible_v<Reader> && !std::is_copy_assignable_v<Reader>);
 static_assert(noexcept(World().pairs_now(0, std::declval<std::vector<pw_pair>&>())));
 static_assert(noexcept(World().mask({}, {})) && noexcept(World().regroup({}, {})));
 static_assert(noexcept(World().remove(pw_handle{})) && noexcept(World().remove({pw_handle{}, pw_handle{}})));
@@ -395,6 +528,35 @@ void several_threads() {
     for (std::size_t count : pairs) EXPECT(count == 499 + 498);
 }
 
+// Threads ask one world, each by a reader, and leave at once: one of them has the world.
+void several_readers() {
+    World world(Structure::grid);
+    std::vector<pw_handle> handles;
+    for (int32_t x = 0; x < 300; x++) handles.push_back(world.add(cube(x * 20)).value_or(pungwelair::no_handle));
+    std::vector<Reader> readers(4);
+    for (int round = 0; round < 20; round++) {
+        std::vector<std::thread> threads;
+        std::array<std::optional<World>, 4> back;
+        std::array<long, 4> wrong{};
+        EXPECT(world.share(readers[0]) == Status::ok);
+        for (std::size_t k = 1; k < readers.size(); k++) EXPECT(readers[k].join(readers[0]) == Status::ok);
+        for (std::size_t k = 0; k < readers.size(); k++)
+            threads.emplace_back([&handles, &back = back[k], &wrong = wrong[k], &reader = readers[k]] {
+                for (std::size_t slot = 0; slot < handles.size(); slot++) {
+                    auto hit = reader.ray_first({1, {int32_t(slot) * 20 + 5, 5, 30}, {0, 0, -1}});
+                    wrong += !hit || hit->handle != handles[slot];
+                }
+                back = reader.leave();
+            });
+        for (auto& thread : threads) thread.join();
+        long worlds = 0;
+        for (auto& one : back)
+            if (one) worlds++, world = std::move(*one);
+        EXPECT(worlds == 1 && world.is_open() && world.info()->boxes == 300);
+        for (long count : wrong) EXPECT(count == 0);
+    }
+}
+
 }  // namespace
 
 int main() {
@@ -403,8 +565,12 @@ int main() {
         questions(structure);
         first_hits(structure);
         meetings(structure);
+        nearest_to_boxes(structure);
+        many_at_once(structure);
+        readers_of_a_world(structure);
         pairs_within_a_frame(structure);
     }
+    readers_that_end();
     marks_and_refusals();
     forgotten_marks();
     boxes_by_slots();
@@ -419,5 +585,6 @@ int main() {
     moved_worlds();
     floats();
     several_threads();
+    several_readers();
     return tested("verbs of C++");
 }

@@ -7,6 +7,7 @@
 enum { BOXES = 3, ROOM = 8 };
 
 static pw_world world = PW_WORLD_INIT;
+static pw_reader reader = PW_READER_INIT;
 static pw_handle handles[BOXES];
 
 /* Boxes 0 and 1 meet, and box 2 is alone. */
@@ -63,18 +64,57 @@ static pw_box inverted_on(int axis) {
     return body;
 }
 
+/* Each question, of the closed world, and of the reader, which isn't open or reads no world. */
+#define CLOSED_TO(call, count, out, ...)                                             \
+    do {                                                                             \
+        EMPTY(pw_##call(&world, __VA_ARGS__), PW_CLOSED, count, out);                \
+        EMPTY(pw_reader_##call(&reader, __VA_ARGS__), PW_CLOSED, count, out);        \
+    } while (0)
+
+static void closed_to_questions(void) {
+    pw_handle out[ROOM], none = {0, 0};
+    pw_hit hit[ROOM];
+    pw_square square[1];
+    size_t ends[ROOM], count;
+    pw_box inverted_box = inverted_on(1);
+    pw_query query = {PW_POINT, ~0u, origin, origin};
+    pw_ray ray = {~0u, origin, origin};
+    pw_cast cast = {~0u, boxes[0], origin}, inverted = {~0u, inverted_box, origin};
+    pw_near near_to = {~0u, 1, origin};
+    pw_near_box near_box = {~0u, 1, boxes[0], {0, 0}}, near_none = {~0u, 1, inverted_box, {0, 0}};
+    CLOSED_TO(hits, count, out, &query, out, ROOM, &count);
+    CLOSED_TO(ray_hits, count, out, &ray, out, ROOM, &count);
+    CLOSED_TO(cast_hits, count, out, &cast, out, ROOM, &count);
+    CLOSED_TO(nearest, count, out, &near_to, out, ROOM, &count);
+    CLOSED_TO(nearest_box, count, out, &near_box, out, ROOM, &count);
+    CLOSED_TO(nearest_box, count, out, &near_none, out, ROOM, &count);
+    CLOSED_TO(ray_first, count, hit, &ray, hit, &count);
+    CLOSED_TO(cast_first, count, hit, &cast, hit, &count);
+    CLOSED_TO(ray_meets, count, hit, &ray, none, hit, &count);
+    CLOSED_TO(cast_meets, count, hit, &cast, none, hit, &count);
+    CLOSED_TO(cast_meets, count, hit, &inverted, none, hit, &count);
+    CLOSED_TO(ray_first_each, count, hit, &ray, 1, hit, ROOM, &count);
+    CLOSED_TO(ray_first_each, count, hit, &ray, 1, hit, 0, &count);
+    CLOSED_TO(cast_first_each, count, hit, &inverted, 1, hit, ROOM, &count);
+    CLOSED_TO(cast_first_each, count, hit, &cast, 0, hit, ROOM, &count);
+    memset(ends, FILL, sizeof ends);
+    CLOSED_TO(hits_each, count, out, &query, 1, out, ROOM, ends, ROOM, &count);
+    CLOSED_TO(hits_each, count, out, &query, 1, out, ROOM, ends, 0, &count);
+    EXPECT(is_filled(ends, sizeof ends));
+    memset(square, FILL, sizeof square);
+    EXPECT(pw_square_to(&world, &origin, none, square) == PW_CLOSED && pw_reader_square_to(&reader, &origin, none, square) == PW_CLOSED);
+    EXPECT(pw_square_apart(&world, boxes, none, square) == PW_CLOSED && pw_reader_square_apart(&reader, boxes, none, square) == PW_CLOSED);
+    EXPECT(pw_square_apart(&world, &inverted_box, none, square) == PW_CLOSED);
+    EXPECT(pw_reader_square_apart(&reader, &inverted_box, none, square) == PW_CLOSED && is_filled(square, sizeof square));
+}
+
 static void closed_world(void) {
     pw_new how = pw_seen_by_all();
     pw_handle out[ROOM], none = {0, 0};
     pw_pair pairs[ROOM];
     pw_told events[ROOM];
     pw_live live[1];
-    pw_hit hit[1];
-    pw_square square[1];
-    pw_query query = {PW_POINT, ~0u, origin, origin};
     pw_ray ray = {~0u, origin, origin};
-    pw_cast cast = {~0u, boxes[0], origin}, inverted = {~0u, inverted_on(0), origin};
-    pw_near near_to = {~0u, 1, origin};
     pw_counts counts = {99, 99, 99};
     pw_world_info info[1];
     size_t count;
@@ -97,18 +137,13 @@ static void closed_world(void) {
     EMPTY(pw_pairs_now(&world, 0, pairs, 0, &count), PW_CLOSED, count, pairs);
     EMPTY(pw_events(&world, 0, events, ROOM, &count), PW_CLOSED, count, events);
     EMPTY(pw_changes(&world, 0, events, ROOM, &count), PW_CLOSED, count, events);
-    EMPTY(pw_hits(&world, &query, out, ROOM, &count), PW_CLOSED, count, out);
-    EMPTY(pw_ray_hits(&world, &ray, out, ROOM, &count), PW_CLOSED, count, out);
-    EMPTY(pw_cast_hits(&world, &cast, out, ROOM, &count), PW_CLOSED, count, out);
-    EMPTY(pw_nearest(&world, &near_to, out, ROOM, &count), PW_CLOSED, count, out);
-    EMPTY(pw_ray_first(&world, &ray, hit, &count), PW_CLOSED, count, hit);
-    EMPTY(pw_cast_first(&world, &cast, hit, &count), PW_CLOSED, count, hit);
     EMPTY(pw_first_hit(&world, &ray, out, &count), PW_CLOSED, count, out);
-    EMPTY(pw_ray_meets(&world, &ray, none, hit, &count), PW_CLOSED, count, hit);
-    EMPTY(pw_cast_meets(&world, &cast, none, hit, &count), PW_CLOSED, count, hit);
-    EMPTY(pw_cast_meets(&world, &inverted, none, hit, &count), PW_CLOSED, count, hit);
-    memset(square, FILL, sizeof square);
-    EXPECT(pw_square_to(&world, &origin, none, square) == PW_CLOSED && is_filled(square, sizeof square));
+    closed_to_questions();
+    EXPECT(pw_reader_close(&reader) == PW_CLOSED && pw_reader_open(&reader) == PW_OK && pw_reader_open(&reader) == PW_ARGUMENT);
+    closed_to_questions();
+    EXPECT(pw_share(&world, &reader) == PW_CLOSED && pw_unshare(&reader, &world) == PW_CLOSED);
+    EXPECT(pw_reader_close(&reader) == PW_OK && pw_reader_close(&reader) == PW_CLOSED);
+    EXPECT(pw_share(&world, &reader) == PW_CLOSED && pw_unshare(&reader, &world) == PW_CLOSED);
     EXPECT(pw_mark(&world) == PW_CLOSED && pw_forget(&world, 0) == PW_CLOSED && pw_back(&world) == PW_CLOSED);
     memset(info, FILL, sizeof info);
     EXPECT(pw_info(&world, info) == PW_CLOSED && is_filled(info, sizeof info));
@@ -161,10 +196,14 @@ static void no_meetings(pw_handle stale) {
     STAYS(EMPTY(pw_cast_meets(&world, &cast, stale, hit, &count), PW_STALE, count, hit));
     memset(square, FILL, sizeof square);
     REFUSED(pw_square_to(&world, &origin, stale, square), PW_STALE);
+    REFUSED(pw_square_apart(&world, boxes, stale, square), PW_STALE);
     EXPECT(is_filled(square, sizeof square));
-    /* A moved box that is none is refused first, of a live box too. */
+    /* A box that is none is refused first, of a live box too. */
     for (int axis = 0; axis < 3; axis++) {
         cast.body = inverted_on(axis);
+        REFUSED(pw_square_apart(&world, &cast.body, stale, square), PW_INVERTED);
+        REFUSED(pw_square_apart(&world, &cast.body, handles[0], square), PW_INVERTED);
+        EXPECT(is_filled(square, sizeof square));
         STAYS(EMPTY(pw_cast_meets(&world, &cast, stale, hit, &count), PW_INVERTED, count, hit));
         STAYS(EMPTY(pw_cast_meets(&world, &cast, handles[0], hit, &count), PW_INVERTED, count, hit));
     }
@@ -298,6 +337,58 @@ static void wrong_questions(void) {
         STAYS(EMPTY(pw_hits(&world, &region, out, ROOM, &count), PW_ARGUMENT, count, out));
         STAYS(EMPTY(pw_cast_hits(&world, &cast, out, ROOM, &count), PW_INVERTED, count, out));
         STAYS(EMPTY(pw_cast_first(&world, &cast, hit, &count), PW_INVERTED, count, hit));
+        pw_near_box near_to = {~0u, ROOM, body, {0, 0}}, nobody = {0, 0, body, {0, 0}};
+        STAYS(EMPTY(pw_nearest_box(&world, &near_to, out, ROOM, &count), PW_INVERTED, count, out));
+        STAYS(EMPTY(pw_nearest_box(&world, &nobody, out, ROOM, &count), PW_INVERTED, count, out));
+    }
+}
+
+/* Of many questions each is the wrong one in turn, and there is room for all of them or for one less. Those before it are answered. */
+static void wrong_among_many(void) {
+    enum { MANY = 4 };
+    pw_query right = {PW_REGION, ~0u, origin, {9, 9, 9}}, wrong[2] = {{4, ~0u, origin, origin}, {PW_REGION, ~0u, {1, 0, 0}, origin}};
+    pw_cast cast = {~0u, boxes[0], origin}, inverted = {~0u, inverted_on(2), origin};
+    pw_ray rays[MANY] = {{~0u, {-5, 1, 1}, {1, 0, 0}}, {~0u, {-5, 1, 1}, {-1, 0, 0}}, {0, origin, origin}, {~0u, {55, 0, 55}, {0, 1, 0}}};
+    pw_handle out[2 * MANY + 1];
+    pw_hit hit[MANY + 1];
+    size_t ends[MANY + 1], count;
+    for (size_t at = 0; at <= MANY; at++) {
+        pw_query queries[MANY] = {right, right, right, right};
+        pw_cast casts[MANY] = {cast, cast, cast, cast};
+        pw_status wanted = at < MANY ? PW_ARGUMENT : PW_OK;
+        if (at < MANY) queries[at] = wrong[at % 2], casts[at] = inverted;
+        for (size_t room = 0; room <= 2 * MANY + 1; room++) {
+            size_t copied = room < 2 * at ? room : 2 * at;
+            memset(out, FILL, sizeof out);
+            memset(ends, FILL, sizeof ends);
+            count = 99;
+            STAYS(EXPECT(pw_hits_each(&world, queries, MANY, out, room, ends, MANY, &count) == wanted && count == at));
+            for (size_t k = 0; k < at; k++) EXPECT(ends[k] == 2 * (k + 1));
+            for (size_t k = 0; k < copied; k++) EXPECT(!memcmp(&out[k], &handles[k % 2], sizeof *out));
+            EXPECT(is_filled(out + copied, sizeof out - copied * sizeof *out) && is_filled(ends + at, sizeof ends - at * sizeof *ends));
+        }
+        memset(hit, FILL, sizeof hit);
+        count = 99;
+        STAYS(EXPECT(pw_cast_first_each(&world, casts, MANY, hit, MANY, &count) == (at < MANY ? PW_INVERTED : PW_OK) && count == at));
+        for (size_t k = 0; k < at; k++) EXPECT(!memcmp(&hit[k].handle, &handles[0], sizeof *handles) && hit[k].axis == PW_NO_AXIS);
+        EXPECT(is_filled(hit + at, sizeof hit - at * sizeof *hit));
+        /* Too little room is told first, whatever the questions are, and no question needs no room. */
+        memset(ends, FILL, sizeof ends);
+        STAYS(EMPTY(pw_hits_each(&world, queries, MANY, out, 2 * MANY, ends, MANY - 1, &count), PW_ARGUMENT, count, out));
+        STAYS(EMPTY(pw_hits_each(&world, queries, 0, out, 0, ends, 0, &count), PW_OK, count, out));
+        EXPECT(is_filled(ends, sizeof ends));
+        STAYS(EMPTY(pw_cast_first_each(&world, casts, MANY, hit, MANY - 1, &count), PW_ARGUMENT, count, hit));
+        STAYS(EMPTY(pw_ray_first_each(&world, rays, MANY, hit, MANY - 1, &count), PW_ARGUMENT, count, hit));
+        STAYS(EMPTY(pw_cast_first_each(&world, casts, 0, hit, 0, &count), PW_OK, count, hit));
+        STAYS(EMPTY(pw_ray_first_each(&world, rays, 0, hit, 0, &count), PW_OK, count, hit));
+    }
+    memset(hit, FILL, sizeof hit);
+    STAYS(EXPECT(pw_ray_first_each(&world, rays, MANY, hit, MANY + 1, &count) == PW_OK && count == MANY && is_filled(hit + MANY, sizeof *hit)));
+    EXPECT(pw_has_hit(&hit[0]) && !memcmp(&hit[0].handle, &handles[0], sizeof *handles) && pw_fraction(&hit[0]) == 5 && hit[0].axis == 0);
+    EXPECT(pw_has_hit(&hit[3]) && !memcmp(&hit[3].handle, &handles[2], sizeof *handles) && pw_fraction(&hit[3]) == 50 && hit[3].axis == 1);
+    for (int k = 1; k < 3; k++) {
+        EXPECT(!pw_has_hit(&hit[k]) && !memcmp(&hit[k].handle, &PW_NO_HANDLE, sizeof PW_NO_HANDLE) && hit[k].num == 0 && hit[k].den == 1);
+        EXPECT(hit[k].axis == PW_NO_AXIS && hit[k].side == PW_LOWER);
     }
 }
 
@@ -307,16 +398,18 @@ static void room_for_hits(void) {
     pw_ray entering = {~0u, {-5, 1, 1}, {1, 0, 0}};
     pw_cast cast = {~0u, boxes[0], {1, 0, 0}};
     pw_near near_to = {~0u, 2, origin};
+    pw_near_box near_box = {~0u, 2, {{-9, 0, 0}, {-1, 1, 1}}, {1, 0}};
     for (size_t room = 0; room <= ROOM; room++) {
         pw_handle out[ROOM];
-        for (int call = 0; call < 5; call++) {
+        for (int call = 0; call < 6; call++) {
             size_t count = 99, copied = room < 2 ? room : 2;
             memset(out, FILL, sizeof out);
             pw_status status = call == 0   ? pw_hits(&world, &region, out, room, &count)
                                : call == 1 ? pw_hits(&world, &ray, out, room, &count)
                                : call == 2 ? pw_ray_hits(&world, &entering, out, room, &count)
                                : call == 3 ? pw_cast_hits(&world, &cast, out, room, &count)
-                                           : pw_nearest(&world, &near_to, out, room, &count);
+                               : call == 4 ? pw_nearest(&world, &near_to, out, room, &count)
+                                           : pw_nearest_box(&world, &near_box, out, room, &count);
             EXPECT(status == PW_OK && count == 2 && !memcmp(out, handles, copied * sizeof *out));
             EXPECT(is_filled(out + copied, sizeof out - copied * sizeof *out));
         }
@@ -383,6 +476,36 @@ static void meetings(void) {
     EXPECT(pw_squared(square) > 3221225622 && pw_squared(square) < 3221225623);
 }
 
+/* The nearest to a box, from each square on: box 1 is 4 off, box 0 is 3 and 4 off along two axes, and box 2 is far off. */
+static void nearest_to_a_box(void) {
+    const pw_box body = {{12, 13, 0}, {20, 30, 9}}, touching = {{20, 9, 9}, {30, 30, 30}};
+    const struct {
+        pw_square from;
+        size_t count;
+        uint32_t first;
+    } asked[] = {{{0, 0}, 3, 1}, {{16, 0}, 3, 1}, {{17, 0}, 2, 0}, {{25, 0}, 2, 0}, {{26, 0}, 1, 2}, {{2981, 0}, 1, 2},
+                 {{2982, 0}, 0, 0}, {{0, 1}, 0, 0}, {{~(uint64_t)0, ~(uint64_t)0}, 0, 0}};
+    pw_handle out[ROOM];
+    pw_square square[1];
+    size_t count;
+    for (size_t k = 0; k < sizeof asked / sizeof *asked; k++) {
+        pw_near_box near_to = {~0u, ~0u, body, asked[k].from};
+        memset(out, FILL, sizeof out);
+        STAYS(EXPECT(pw_nearest_box(&world, &near_to, out, ROOM, &count) == PW_OK && count == asked[k].count));
+        EXPECT(count == 0 || !memcmp(&out[0], &handles[asked[k].first], sizeof *out));
+        EXPECT(is_filled(out + count, sizeof out - count * sizeof *out));
+        near_to.want = 0;
+        STAYS(EMPTY(pw_nearest_box(&world, &near_to, out, ROOM, &count), PW_OK, count, out));
+        near_to.want = 1, near_to.mask = 0;
+        STAYS(EMPTY(pw_nearest_box(&world, &near_to, out, ROOM, &count), PW_OK, count, out));
+    }
+    STAYS(EXPECT(pw_square_apart(&world, &body, handles[0], square) == PW_OK && square->low == 25 && square->high == 0));
+    EXPECT(pw_square_apart(&world, &body, handles[1], square) == PW_OK && square->low == 16 && square->high == 0);
+    EXPECT(pw_square_apart(&world, &body, handles[2], square) == PW_OK && square->low == 2981 && square->high == 0);
+    EXPECT(pw_square_apart(&world, &touching, handles[1], square) == PW_OK && square->low == 0 && square->high == 0);
+    EXPECT(pw_square_apart(&world, boxes, handles[0], square) == PW_OK && square->low == 0 && square->high == 0);
+}
+
 /* The greatest square that there is takes two bits of the second word. */
 static void farthest(void) {
     const int32_t least = INT32_MIN, most = INT32_MAX;
@@ -393,6 +516,13 @@ static void farthest(void) {
     EXPECT(pw_move(&world, &handles[2], 1, &corner, 1, &done) == PW_OK);
     EXPECT(pw_square_to(&world, &from, handles[2], square) == PW_OK && square->high == 2 && square->low == 0xfffffffa00000003u);
     EXPECT(pw_squared(square) == 12884901882);
+    pw_box flat = {from, from};
+    EXPECT(pw_square_apart(&world, &flat, handles[2], square) == PW_OK && square->high == 2 && square->low == 0xfffffffa00000003u);
+    pw_near_box near_to = {~0u, ROOM, flat, *square};
+    pw_handle out[ROOM];
+    EXPECT(pw_nearest_box(&world, &near_to, out, ROOM, &done) == PW_OK && done == 1 && out[0].slot == 2);
+    near_to.from.low++;
+    EXPECT(pw_nearest_box(&world, &near_to, out, ROOM, &done) == PW_OK && done == 0);
     EXPECT(pw_move(&world, &handles[2], 1, &boxes[2], 1, &done) == PW_OK);
 }
 
@@ -596,9 +726,11 @@ int main(void) {
         room_for_pairs_now();
         pair_that_stays();
         wrong_questions();
+        wrong_among_many();
         room_for_hits();
         first_hits();
         meetings();
+        nearest_to_a_box();
         farthest();
         no_group();
         questions_at_the_ends();
