@@ -5,10 +5,11 @@
 //!
 //! Every call takes `&mut self`, those that only ask too. The library has a buffer of its own in each world for what a question
 //! finds, and its exports say that one call at a time has a world. So a `World` is `Send` and not `Sync`. Each thread may have
-//! worlds of its own, and a world that several threads are to ask stands behind a lock.
+//! worlds of its own. Several threads ask one world at once by a [`Reader`] each: [`World::share`] gives the world to the first of them,
+//! and who leaves last has it back.
 //!
 //! An answer goes into a slice of the caller's, and its call takes no memory of this side. The call whose name begins with `all_` gives a
-//! `Vec` with the whole of it, and `NoMemory` if there is no memory for it.
+//! list with the whole of it, and `NoMemory` if there is no memory for it. The calls whose names end in `_each` ask many questions at once.
 //!
 //! ```no_run
 //! # fn main() -> Result<(), pungwelair::Error> {
@@ -35,13 +36,17 @@
 
 #![deny(missing_docs)]
 
+mod asking;
 mod library;
+mod reader;
 mod values;
 mod world;
 
+pub use reader::{NotShared, Reader, Room};
 pub use values::{
-    box_around, box_around_cut, box_around_cut_f64, box_around_f64, fix_above, fix_above_f64, fix_below, fix_below_f64, Body, Cast, Error,
-    Event, Frame, Group, Handle, Hit, How, Info, Live, Masks, Near, Pair, Point, Query, Ray, Side, Stopped, Structure, Told,
+    box_around, box_around_cut, box_around_cut_f64, box_around_f64, fix_above, fix_above_f64, fix_below, fix_below_f64, Answers, Body,
+    Cast, Error, Event, Frame, Group, Handle, Hit, How, Info, Live, Masks, Near, NearBox, Pair, Point, Query, Question, Ray, Side, Stopped,
+    Structure, Told,
 };
 pub use world::World;
 

@@ -3,7 +3,9 @@
 //! A reference or a slice's pointer leads to what it says, aligned and not null: that of an empty slice too, which is all that the
 //! header asks of a pointer before a length of 0. What `&mut` leads to overlaps nothing else in the same call.
 
-use crate::values::{Body, Cast, Frame, Group, Handle, Hit, How, Info, Live, Masks, Near, Pair, Point, RawQuery, Ray, Square, Told};
+use crate::values::{
+    Body, Cast, Frame, Group, Handle, Hit, How, Info, Live, Masks, Near, Pair, Point, Question, RawNearBox, Ray, Square, Told,
+};
 use std::ffi::c_void;
 
 /// A world as the library has it. Zero is a closed one.
@@ -15,6 +17,17 @@ pub struct Held {
 
 impl Held {
     pub const CLOSED: Held = Held { state: 0, held: std::ptr::null_mut() };
+}
+
+/// A reader as the library has it. Zero is a closed one.
+#[repr(C)]
+pub struct HeldReader {
+    state: u32,
+    held: *mut c_void,
+}
+
+impl HeldReader {
+    pub const CLOSED: HeldReader = HeldReader { state: 0, held: std::ptr::null_mut() };
 }
 
 /// The bits of three floats or doubles.
@@ -41,7 +54,7 @@ extern "C" {
     pub fn pw_pairs_now(world: &mut Held, from: usize, out: *mut Pair, out_len: usize, count: &mut usize) -> u32;
     pub fn pw_events(world: &mut Held, from: usize, out: *mut Told, out_len: usize, copied: &mut usize) -> u32;
     pub fn pw_changes(world: &mut Held, from: usize, out: *mut Told, out_len: usize, copied: &mut usize) -> u32;
-    pub fn pw_hits(world: &mut Held, query: &RawQuery, out: *mut Handle, out_len: usize, count: &mut usize) -> u32;
+    pub fn pw_hits(world: &mut Held, query: &Question, out: *mut Handle, out_len: usize, count: &mut usize) -> u32;
     pub fn pw_ray_hits(world: &mut Held, ray: &Ray, out: *mut Handle, out_len: usize, count: &mut usize) -> u32;
     pub fn pw_cast_hits(world: &mut Held, cast: &Cast, out: *mut Handle, out_len: usize, count: &mut usize) -> u32;
     pub fn pw_ray_first(world: &mut Held, ray: &Ray, out: &mut Hit, count: &mut usize) -> u32;
@@ -49,15 +62,60 @@ extern "C" {
     pub fn pw_ray_meets(world: &mut Held, ray: &Ray, handle: Handle, out: &mut Hit, count: &mut usize) -> u32;
     pub fn pw_cast_meets(world: &mut Held, cast: &Cast, handle: Handle, out: &mut Hit, count: &mut usize) -> u32;
     pub fn pw_square_to(world: &mut Held, at: &Point, handle: Handle, out: &mut Square) -> u32;
+    pub fn pw_square_apart(world: &mut Held, body: &Body, handle: Handle, out: &mut Square) -> u32;
     pub fn pw_nearest(world: &mut Held, near_to: &Near, out: *mut Handle, out_len: usize, count: &mut usize) -> u32;
+    pub fn pw_nearest_box(world: &mut Held, near_to: &RawNearBox, out: *mut Handle, out_len: usize, count: &mut usize) -> u32;
+    pub fn pw_hits_each(world: &mut Held, queries: *const Question, queries_len: usize, out: *mut Handle, out_len: usize, ends: *mut usize, ends_len: usize, count: &mut usize) -> u32;
+    pub fn pw_ray_first_each(world: &mut Held, rays: *const Ray, rays_len: usize, out: *mut Hit, out_len: usize, count: &mut usize) -> u32;
+    pub fn pw_cast_first_each(world: &mut Held, casts: *const Cast, casts_len: usize, out: *mut Hit, out_len: usize, count: &mut usize) -> u32;
     pub fn pw_mark(world: &mut Held) -> u32;
     pub fn pw_forget(world: &mut Held, count: u32) -> u32;
     pub fn pw_back(world: &mut Held) -> u32;
     pub fn pw_info(world: &mut Held, out: &mut Info) -> u32;
+    pub fn pw_reader_open(reader: &mut HeldReader) -> u32;
+    pub fn pw_reader_close(reader: &mut HeldReader) -> u32;
+    pub fn pw_share(world: &mut Held, reader: &mut HeldReader) -> u32;
+    pub fn pw_join(reader: &mut HeldReader, other: &mut HeldReader) -> u32;
+    pub fn pw_unshare(reader: &mut HeldReader, world: &mut Held) -> u32;
+    pub fn pw_reader_hits(reader: &mut HeldReader, query: &Question, out: *mut Handle, out_len: usize, count: &mut usize) -> u32;
+    pub fn pw_reader_ray_hits(reader: &mut HeldReader, ray: &Ray, out: *mut Handle, out_len: usize, count: &mut usize) -> u32;
+    pub fn pw_reader_cast_hits(reader: &mut HeldReader, cast: &Cast, out: *mut Handle, out_len: usize, count: &mut usize) -> u32;
+    pub fn pw_reader_ray_first(reader: &mut HeldReader, ray: &Ray, out: &mut Hit, count: &mut usize) -> u32;
+    pub fn pw_reader_cast_first(reader: &mut HeldReader, cast: &Cast, out: &mut Hit, count: &mut usize) -> u32;
+    pub fn pw_reader_ray_meets(reader: &mut HeldReader, ray: &Ray, handle: Handle, out: &mut Hit, count: &mut usize) -> u32;
+    pub fn pw_reader_cast_meets(reader: &mut HeldReader, cast: &Cast, handle: Handle, out: &mut Hit, count: &mut usize) -> u32;
+    pub fn pw_reader_square_to(reader: &mut HeldReader, at: &Point, handle: Handle, out: &mut Square) -> u32;
+    pub fn pw_reader_square_apart(reader: &mut HeldReader, body: &Body, handle: Handle, out: &mut Square) -> u32;
+    pub fn pw_reader_nearest(reader: &mut HeldReader, near_to: &Near, out: *mut Handle, out_len: usize, count: &mut usize) -> u32;
+    pub fn pw_reader_nearest_box(reader: &mut HeldReader, near_to: &RawNearBox, out: *mut Handle, out_len: usize, count: &mut usize) -> u32;
+    pub fn pw_reader_hits_each(reader: &mut HeldReader, queries: *const Question, queries_len: usize, out: *mut Handle, out_len: usize, ends: *mut usize, ends_len: usize, count: &mut usize) -> u32;
+    pub fn pw_reader_ray_first_each(reader: &mut HeldReader, rays: *const Ray, rays_len: usize, out: *mut Hit, out_len: usize, count: &mut usize) -> u32;
+    pub fn pw_reader_cast_first_each(reader: &mut HeldReader, casts: *const Cast, casts_len: usize, out: *mut Hit, out_len: usize, count: &mut usize) -> u32;
     pub fn pw_fix_below_32(bits: u32, out: &mut i32) -> u32;
     pub fn pw_fix_above_32(bits: u32, out: &mut i32) -> u32;
     pub fn pw_fix_below_64(bits: u64, out: &mut i32) -> u32;
     pub fn pw_fix_above_64(bits: u64, out: &mut i32) -> u32;
     pub fn pw_box_around_32(lo: &Bits<u32>, hi: &Bits<u32>, out: &mut Body) -> u32;
     pub fn pw_box_around_64(lo: &Bits<u64>, hi: &Bits<u64>, out: &mut Body) -> u32;
+}
+
+/// The questions to a world.
+pub mod of_world {
+    pub use super::{
+        pw_cast_first as cast_first, pw_cast_first_each as cast_first_each, pw_cast_hits as cast_hits, pw_cast_meets as cast_meets,
+        pw_hits as hits, pw_hits_each as hits_each, pw_nearest as nearest, pw_nearest_box as nearest_box, pw_ray_first as ray_first,
+        pw_ray_first_each as ray_first_each, pw_ray_hits as ray_hits, pw_ray_meets as ray_meets, pw_square_apart as square_apart,
+        pw_square_to as square_to,
+    };
+}
+
+/// The same questions to a reader.
+pub mod of_reader {
+    pub use super::{
+        pw_reader_cast_first as cast_first, pw_reader_cast_first_each as cast_first_each, pw_reader_cast_hits as cast_hits,
+        pw_reader_cast_meets as cast_meets, pw_reader_hits as hits, pw_reader_hits_each as hits_each, pw_reader_nearest as nearest,
+        pw_reader_nearest_box as nearest_box, pw_reader_ray_first as ray_first, pw_reader_ray_first_each as ray_first_each,
+        pw_reader_ray_hits as ray_hits, pw_reader_ray_meets as ray_meets, pw_reader_square_apart as square_apart,
+        pw_reader_square_to as square_to,
+    };
 }

@@ -15,7 +15,7 @@ pub enum Error {
     NoMemory,
     /// A lower corner is above the upper one.
     Inverted,
-    /// The world isn't open. No `World` of this crate is so.
+    /// The world isn't open. No `World` of this crate is so, and no `Reader` is without one.
     Closed,
     /// A region whose lower corner is above the upper one, or lengths that don't agree.
     Argument,
@@ -347,24 +347,65 @@ pub enum Query {
     },
 }
 
-/// The same as the library takes it, for the boxes of the groups of `mask`.
+/// A question by a shape for the boxes of the groups of a mask, as the library takes it: one of many that are asked by one call.
 #[repr(C)]
-pub struct RawQuery {
+#[derive(Clone, Copy, Debug, PartialEq, Eq, Hash)]
+pub struct Question {
     kind: u32,
     mask: u32,
     a: Point,
     b: Point,
 }
 
-impl Query {
-    pub(crate) fn raw(self, mask: u32) -> RawQuery {
-        let (kind, a, b) = match self {
+impl Question {
+    /// Of a shape and a mask. It keeps any numbers: a region that is inverted is refused by the call that it comes to.
+    pub const fn new(query: Query, mask: u32) -> Question {
+        let (kind, a, b) = match query {
             Query::Region(body) => (0, body.lo, body.hi),
             Query::Point(at) => (1, at, at),
             Query::Ray { from, direction } => (2, from, direction),
             Query::Segment { from, to } => (3, from, to),
         };
-        RawQuery { kind, mask, a, b }
+        Question { kind, mask, a, b }
+    }
+}
+
+impl From<(Query, u32)> for Question {
+    /// Of a shape and a mask.
+    fn from((query, mask): (Query, u32)) -> Question {
+        Question::new(query, mask)
+    }
+}
+
+/// The answers to many questions, those to one behind those to another. It has all of them, or isn't given.
+#[derive(Clone, Debug, Default, PartialEq, Eq, Hash)]
+pub struct Answers {
+    pub(crate) handles: Vec<Handle>,
+    // How many handles there are up to the end of each answer.
+    pub(crate) ends: Vec<usize>,
+}
+
+impl Answers {
+    /// How many questions were asked.
+    pub fn len(&self) -> usize {
+        self.ends.len()
+    }
+
+    /// Whether none was asked.
+    pub fn is_empty(&self) -> bool {
+        self.ends.is_empty()
+    }
+
+    /// What the question of this number found, the first being number 0. `None` if fewer were asked.
+    pub fn get(&self, number: usize) -> Option<&[Handle]> {
+        let end = *self.ends.get(number)?;
+        let start = number.checked_sub(1).map_or(0, |last| self.ends[last]);
+        self.handles.get(start..end)
+    }
+
+    /// What each question found, in order.
+    pub fn iter(&self) -> impl Iterator<Item = &[Handle]> + '_ {
+        (0..self.len()).filter_map(|number| self.get(number))
     }
 }
 
@@ -404,6 +445,38 @@ pub struct Near {
     pub at: Point,
 }
 
+/// The boxes that are nearest to a box, of those that are at least so far from it: at most `want`, of the groups of `mask`.
+///
+/// To go on behind an answer, ask from the square of its last box on, which [`World::square_apart`](crate::World::square_apart) tells:
+/// boxes that are just as near are told again.
+#[derive(Clone, Copy, Debug, PartialEq, Eq, Hash)]
+pub struct NearBox {
+    /// The groups whose boxes are looked at.
+    pub mask: u32,
+    /// How many are wanted at most.
+    pub want: u32,
+    /// The box.
+    pub body: Body,
+    /// The least square of a distance that is looked at, in raw units squared: 0 for all boxes, as those that meet `body` have 0.
+    pub from: u128,
+}
+
+/// The same as the library takes it.
+#[repr(C)]
+pub struct RawNearBox {
+    mask: u32,
+    want: u32,
+    body: Body,
+    from: Square,
+}
+
+impl NearBox {
+    pub(crate) fn raw(self) -> RawNearBox {
+        let from = Square { low: self.from as u64, high: (self.from >> 64) as u64 };
+        RawNearBox { mask: self.mask, want: self.want, body: self.body, from }
+    }
+}
+
 /// Which side of a box, along an axis.
 #[derive(Clone, Copy, Debug, PartialEq, Eq, PartialOrd, Ord, Hash)]
 pub enum Side {
@@ -429,7 +502,13 @@ pub struct Hit {
 }
 
 impl Hit {
-    pub(crate) const NONE: Hit = Hit { handle: Handle::NONE, num: 0, den: 1, axis: 3, side: 0 };
+    /// What stands in the place of a way that meets no box: its handle is that of no box.
+    pub const NONE: Hit = Hit { handle: Handle::NONE, num: 0, den: 1, axis: 3, side: 0 };
+
+    /// This hit, and `None` if it stands in the place of a way that meets no box.
+    pub fn met(self) -> Option<Hit> {
+        (self.handle != Handle::NONE).then_some(self)
+    }
 
     /// The place as the double that is nearest to its fraction.
     pub fn place(&self) -> f64 {
@@ -456,8 +535,14 @@ impl Hit {
 #[repr(C)]
 #[derive(Default)]
 pub struct Square {
-    pub low: u64,
-    pub high: u64,
+    low: u64,
+    high: u64,
+}
+
+impl Square {
+    pub(crate) fn number(&self) -> u128 {
+        u128::from(self.high) << 64 | u128::from(self.low)
+    }
 }
 
 /// What a world is. `exchanges` are those of the endpoint lists since the last frame if it is sweep and prune, and else 0.
@@ -499,8 +584,8 @@ impl Info {
 const _: () = {
     use std::mem::size_of;
     assert!(size_of::<Body>() == 24 && size_of::<How>() == 16 && size_of::<Live>() == 40 && size_of::<Told>() == 20);
-    assert!(size_of::<RawQuery>() == 32 && size_of::<Ray>() == 28 && size_of::<Cast>() == 40 && size_of::<Near>() == 20);
-    assert!(size_of::<Square>() == 16);
+    assert!(size_of::<Question>() == 32 && size_of::<Ray>() == 28 && size_of::<Cast>() == 40 && size_of::<Near>() == 20);
+    assert!(size_of::<Square>() == 16 && size_of::<RawNearBox>() == 48 && size_of::<library::HeldReader>() == 16);
     assert!(size_of::<Hit>() == 32 && size_of::<Info>() == 32 && size_of::<Frame>() == 24 && size_of::<library::Held>() == 16);
 };
 

@@ -1,17 +1,15 @@
 //! The owner of a world.
 
+use crate::asking::counted;
 use crate::library::{self, Held};
-use crate::values::{
-    told, Body, Cast, Error, Frame, Group, Handle, Hit, How, Info, Live, Masks, Near, Pair, Point, Query, Ray, Square, Stopped, Structure,
-    Told,
-};
+use crate::values::{told, Body, Error, Frame, Group, Handle, How, Info, Live, Masks, Pair, Stopped, Structure, Told};
 use crate::SLOTS;
 
 /// Moving boxes under handles. It is open for as long as it lives, and closed when it is dropped.
 pub struct World {
-    held: Held,
+    pub(crate) held: Held,
     // What the last update counted, which is how much room a list of its answers takes.
-    counts: Frame,
+    pub(crate) counts: Frame,
 }
 
 // SAFETY: a world's memory is reached by its two words alone, is plain data of no thread, and comes from a heap that any thread may
@@ -19,13 +17,8 @@ pub struct World {
 unsafe impl Send for World {}
 
 // What a batch came to.
-fn ended(status: u32, done: usize) -> Result<(), Stopped> {
+pub(crate) fn ended(status: u32, done: usize) -> Result<(), Stopped> {
     told(status).map_err(|error| Stopped { done, error })
-}
-
-// A count, if the call that told it was answered.
-fn counted(status: u32, count: usize) -> Result<usize, Error> {
-    told(status).map(|()| count)
 }
 
 // All that a call copies, if so many are expected: one call if no more are there, and else again for those behind, since the pairs
@@ -47,18 +40,6 @@ fn listed<Item: Copy + Default>(
         }
         room = all.len();
     }
-}
-
-// All that a question finds, which is asked once: there is room for any answer.
-fn found(ask: impl FnOnce(*mut Handle, &mut usize) -> u32) -> Result<Vec<Handle>, Error> {
-    let mut all = Vec::new();
-    all.try_reserve_exact(SLOTS).map_err(|_| Error::NoMemory)?;
-    let mut count = 0;
-    told(ask(all.as_mut_ptr(), &mut count))?;
-    // SAFETY: the list has room for so many, and the call wrote the first `count` of them.
-    unsafe { all.set_len(count.min(SLOTS)) };
-    all.shrink_to_fit();
-    Ok(all)
 }
 
 impl World {
@@ -221,111 +202,6 @@ impl World {
     /// All that the last update told of pairs that didn't stay, in a list of its own. `NoMemory` if there is no memory for it.
     pub fn all_changes(&mut self) -> Result<Vec<Told>, Error> {
         listed(self.counts.changes, |from, out| self.changes(from, out))
-    }
-
-    /// Tells how many boxes of the groups of `mask` meet a question, and copies the first of their handles, by slots. `Argument`
-    /// comes for an inverted region.
-    pub fn hits(&mut self, query: Query, mask: u32, out: &mut [Handle]) -> Result<usize, Error> {
-        let mut count = 0;
-        // SAFETY: the words are those that the last call left; the pointer leads to as many items as the length says.
-        let status = unsafe { library::pw_hits(&mut self.held, &query.raw(mask), out.as_mut_ptr(), out.len(), &mut count) };
-        counted(status, count)
-    }
-
-    /// All boxes of the groups of `mask` that meet a question, by slots, in a list of their own. Beside what `hits` refuses `NoMemory`
-    /// comes if there is no memory for the list.
-    pub fn all_hits(&mut self, query: Query, mask: u32) -> Result<Vec<Handle>, Error> {
-        // SAFETY: the words are those that the last call left; the pointer leads to room for as many items as the length says.
-        found(|out, count| unsafe { library::pw_hits(&mut self.held, &query.raw(mask), out, SLOTS, count) })
-    }
-
-    /// Tells how many boxes a ray meets, and copies the first of their handles, in the order in which it meets them.
-    pub fn ray_hits(&mut self, ray: Ray, out: &mut [Handle]) -> Result<usize, Error> {
-        let mut count = 0;
-        // SAFETY: the words are those that the last call left; the pointer leads to as many items as the length says.
-        let status = unsafe { library::pw_ray_hits(&mut self.held, &ray, out.as_mut_ptr(), out.len(), &mut count) };
-        counted(status, count)
-    }
-
-    /// All boxes that a ray meets, in the order in which it meets them, in a list of their own.
-    pub fn all_ray_hits(&mut self, ray: Ray) -> Result<Vec<Handle>, Error> {
-        // SAFETY: the words are those that the last call left; the pointer leads to room for as many items as the length says.
-        found(|out, count| unsafe { library::pw_ray_hits(&mut self.held, &ray, out, SLOTS, count) })
-    }
-
-    /// What a ray meets first, and where: `None` if it meets no box. It looks for no other hit.
-    pub fn ray_first(&mut self, ray: Ray) -> Result<Option<Hit>, Error> {
-        let (mut hit, mut count) = (Hit::NONE, 0);
-        // SAFETY: the words are those that the last call left; `hit` and `count` are values of their own.
-        let status = unsafe { library::pw_ray_first(&mut self.held, &ray, &mut hit, &mut count) };
-        Ok((counted(status, count)? > 0).then_some(hit))
-    }
-
-    /// The box that a ray meets first, and `None` if it meets no box.
-    pub fn first_hit(&mut self, ray: Ray) -> Result<Option<Handle>, Error> {
-        Ok(self.ray_first(ray)?.map(|hit| hit.handle))
-    }
-
-    /// Tells how many boxes a moved box meets, and copies the first of their handles, in the order in which it meets them on its way.
-    /// `Inverted` if its corners are.
-    pub fn cast_hits(&mut self, cast: Cast, out: &mut [Handle]) -> Result<usize, Error> {
-        let mut count = 0;
-        // SAFETY: the words are those that the last call left; the pointer leads to as many items as the length says.
-        let status = unsafe { library::pw_cast_hits(&mut self.held, &cast, out.as_mut_ptr(), out.len(), &mut count) };
-        counted(status, count)
-    }
-
-    /// All boxes that a moved box meets, in the order in which it meets them, in a list of their own. `Inverted` if its corners are.
-    pub fn all_cast_hits(&mut self, cast: Cast) -> Result<Vec<Handle>, Error> {
-        // SAFETY: the words are those that the last call left; the pointer leads to room for as many items as the length says.
-        found(|out, count| unsafe { library::pw_cast_hits(&mut self.held, &cast, out, SLOTS, count) })
-    }
-
-    /// What a moved box meets first, and where: `None` if it meets no box. `Inverted` if its corners are.
-    pub fn cast_first(&mut self, cast: Cast) -> Result<Option<Hit>, Error> {
-        let (mut hit, mut count) = (Hit::NONE, 0);
-        // SAFETY: the words are those that the last call left; `hit` and `count` are values of their own.
-        let status = unsafe { library::pw_cast_first(&mut self.held, &cast, &mut hit, &mut count) };
-        Ok((counted(status, count)? > 0).then_some(hit))
-    }
-
-    /// Where a ray meets one live box, whatever groups it asks for: `None` if it doesn't meet it. It looks at no other box. `Stale`.
-    pub fn ray_meets(&mut self, ray: Ray, handle: Handle) -> Result<Option<Hit>, Error> {
-        let (mut hit, mut count) = (Hit::NONE, 0);
-        // SAFETY: the words are those that the last call left; `hit` and `count` are values of their own.
-        let status = unsafe { library::pw_ray_meets(&mut self.held, &ray, handle, &mut hit, &mut count) };
-        Ok((counted(status, count)? > 0).then_some(hit))
-    }
-
-    /// The same for a moved box. `Inverted` if its corners are, which is asked first, and `Stale`.
-    pub fn cast_meets(&mut self, cast: Cast, handle: Handle) -> Result<Option<Hit>, Error> {
-        let (mut hit, mut count) = (Hit::NONE, 0);
-        // SAFETY: the words are those that the last call left; `hit` and `count` are values of their own.
-        let status = unsafe { library::pw_cast_meets(&mut self.held, &cast, handle, &mut hit, &mut count) };
-        Ok((counted(status, count)? > 0).then_some(hit))
-    }
-
-    /// The square of the distance of a place from a live box, in raw units squared, exactly: 0 if the box holds it. `Stale`. Its root,
-    /// over 65,536, is the distance in units.
-    pub fn square_to(&mut self, at: Point, handle: Handle) -> Result<u128, Error> {
-        let mut out = Square::default();
-        // SAFETY: the words are those that the last call left; `out` is a value of its own.
-        told(unsafe { library::pw_square_to(&mut self.held, &at, handle, &mut out) })?;
-        Ok(u128::from(out.high) << 64 | u128::from(out.low))
-    }
-
-    /// The nearest boxes to a place, the nearest one first: tells how many they are, and copies the first of their handles.
-    pub fn nearest(&mut self, near: Near, out: &mut [Handle]) -> Result<usize, Error> {
-        let mut count = 0;
-        // SAFETY: the words are those that the last call left; the pointer leads to as many items as the length says.
-        let status = unsafe { library::pw_nearest(&mut self.held, &near, out.as_mut_ptr(), out.len(), &mut count) };
-        counted(status, count)
-    }
-
-    /// The nearest boxes to a place, the nearest one first, in a list of their own.
-    pub fn all_nearest(&mut self, near: Near) -> Result<Vec<Handle>, Error> {
-        // SAFETY: the words are those that the last call left; the pointer leads to room for as many items as the length says.
-        found(|out, count| unsafe { library::pw_nearest(&mut self.held, &near, out, SLOTS, count) })
     }
 
     /// Marks the world as it stands, for rollback. `Full` if 64 marks are held.

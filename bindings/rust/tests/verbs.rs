@@ -2,7 +2,8 @@
 
 use pungwelair::{
     box_around, box_around_cut, box_around_cut_f64, box_around_f64, fix_above, fix_above_f64, fix_below, fix_below_f64, Body, Cast, Error,
-    Event, Frame, Group, Handle, How, Info, Live, Masks, Near, Pair, Point, Query, Ray, Side, Stopped, Structure, Told, World,
+    Event, Frame, Group, Handle, Hit, How, Info, Live, Masks, Near, NearBox, Pair, Point, Query, Question, Ray, Side, Stopped, Structure,
+    Told, World,
 };
 use std::collections::{BTreeSet, HashSet};
 use std::hash::Hash;
@@ -329,6 +330,39 @@ fn values_are_keys() {
     assert_eq!(hashed([Query::Point(ORIGIN), Query::Segment { from: ORIGIN, to: ORIGIN }]), 2);
     let (ray, cast) = (Ray { mask: 1, from: ORIGIN, direction: ORIGIN }, Cast { mask: 1, body: cube(0), by: ORIGIN });
     assert_eq!((hashed([ray, ray]), hashed([cast, cast]), hashed([Near { mask: 1, want: 2, at: ORIGIN }])), (1, 1, 1));
+    let near = NearBox { mask: 1, want: 2, body: cube(0), from: 0 };
+    assert_eq!((hashed([near, near, NearBox { from: 1 << 64, ..near }]), hashed([Hit::NONE, Hit::NONE])), (2, 1));
+    assert_eq!(hashed([Question::new(Query::Point(ORIGIN), 1), (Query::Point(ORIGIN), 2).into(), (Query::Point(ORIGIN), 1).into()]), 2);
+}
+
+// The nearest to a box in parts: each goes on from the square of the last one, which it tells again.
+#[test]
+fn nearest_to_a_box_in_parts() {
+    for structure in STRUCTURES {
+        let mut world = World::new(structure).unwrap();
+        let handles: Vec<Handle> = (0..9).map(|k| world.add(cube(20 * k), How::default()).unwrap()).collect();
+        let near = NearBox { mask: 1, want: 3, body: cube(-5), from: 0 };
+        let (mut parts, mut from): (Vec<Handle>, u128) = (Vec::new(), 0);
+        loop {
+            let part = world.all_nearest_box(NearBox { from, ..near }).unwrap();
+            let told_again = usize::from(parts.last() == part.first());
+            parts.extend(&part[told_again..]);
+            if part.len() < 3 {
+                break;
+            }
+            from = world.square_apart(near.body, part[2]).unwrap();
+        }
+        assert_eq!((parts, from), (handles.clone(), 155 * 155));
+
+        // At the ends of the range, whose square is above 64 bits.
+        let corners = [i32::MIN, i32::MAX].map(|end| Body::from(([end; 3], [end; 3])));
+        let side = u128::from(u32::MAX);
+        world.shift(handles[8], corners[1]).unwrap();
+        assert_eq!(world.square_apart(corners[0], handles[8]), Ok(3 * side * side));
+        let ends = NearBox { mask: 1, want: 9, body: corners[0], from: 3 * side * side };
+        assert_eq!(world.all_nearest_box(ends), Ok(vec![handles[8]]));
+        assert_eq!(world.all_nearest_box(NearBox { from: ends.from + 1, ..ends }), Ok(vec![]));
+    }
 }
 
 // What each call with a slice gives, in a list with no more than that.
