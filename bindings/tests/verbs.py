@@ -7,6 +7,7 @@ import gc
 import inspect
 import os
 import pickle
+import random
 import struct
 import subprocess
 import sys
@@ -14,12 +15,14 @@ import threading
 import time
 import tracemalloc
 import warnings
+from concurrent.futures import ThreadPoolExecutor
+from fractions import Fraction
 from pathlib import Path
 
 import pungwelair
 from pungwelair import (
-    ALL, BEGIN, LOWER, MOST_MARKS, NO_HANDLE, OVER, PLAIN, SLOTS, STAY, TREE, UPPER, Box, Event, Handle, Hit, Live, Pair, Point, Ray,
-    Refused, Segment, Status, Stopped, Structure, Told, World, box_around, box_around_cut, fix_above, fix_below, library,
+    ALL, BEGIN, LOWER, MOST_MARKS, NO_HANDLE, OVER, PLAIN, SLOTS, STAY, TREE, UPPER, Box, Cast, Event, Handle, Hit, Live, Pair, Point, Ray,
+    Reader, Refused, Segment, Status, Stopped, Structure, Told, World, box_around, box_around_cut, fix_above, fix_below, library,
 )  # fmt: skip
 
 try:
@@ -150,7 +153,7 @@ def live_boxes(world):
     for call in (
         world.get, world.remove, lambda gone: world.move(gone, cube(0)), lambda gone: world.mask(gone, 1, 1),
         lambda gone: world.ray_meets((0, 0, 0), (0, 0, 0), gone), lambda gone: world.cast_meets(cube(0), (0, 0, 0), gone),
-        lambda gone: world.square_to((0, 0, 0), gone),
+        lambda gone: world.square_to((0, 0, 0), gone), lambda gone: world.square_apart(cube(0), gone),
     ):  # fmt: skip
         refused(Status.STALE, call, handle)
         refused(Status.STALE, call, NO_HANDLE)
@@ -158,6 +161,9 @@ def live_boxes(world):
     refused(Status.INVERTED, world.add, inverted)
     refused(Status.INVERTED, world.move, handle, inverted)
     refused(Status.INVERTED, world.cast_meets, inverted, (0, 0, 0), handle)
+    refused(Status.INVERTED, world.square_apart, inverted, handle)
+    refused(Status.INVERTED, world.nearest_box, inverted)
+    refused(Status.INVERTED, world.nearest_box_into, bytearray(8), inverted)
     assert str(raises(Refused, world.remove, handle)) == "stale"
 
 
@@ -169,6 +175,10 @@ def wrong_types(world):
         raises(TypeError, world.move, handle, wrong)
         raises(TypeError, world.cast_hits, wrong, (0, 0, 0))
         raises(TypeError, world.cast_meets, wrong, (0, 0, 0), handle)
+        raises(TypeError, world.square_apart, wrong, handle)
+        raises(TypeError, world.nearest_box, wrong)
+        raises(TypeError, world.cast_first_each, [wrong])
+        raises(TypeError, world.ray_first_each, [wrong])
         raises(TypeError, world.add_all, [box, wrong])
         raises(TypeError, world.move_all, [handle], [wrong])
     for wrong in (None, 0, box, tuple(handle), "handle", b"x" * 8, Point(0, 0, 0), Pair(handle, handle)):
@@ -178,11 +188,13 @@ def wrong_types(world):
         raises(TypeError, world.ray_meets, (0, 0, 0), (1, 0, 0), wrong)
         raises(TypeError, world.cast_meets, box, (1, 0, 0), wrong)
         raises(TypeError, world.square_to, (0, 0, 0), wrong)
+        raises(TypeError, world.square_apart, box, wrong)
         raises(TypeError, world.move, wrong, box)
         raises(TypeError, world.remove_all, [handle, wrong])
     raises(TypeError, world.move_all, [box], [handle])
     for wrong in (None, handle, (0, 0, 0), "hits"):
         raises(TypeError, world.hits, wrong)
+        raises(TypeError, world.hits_each, [box, wrong])
     assert world.info().boxes == 1 and world.get(handle).box == box
 
 
@@ -205,6 +217,13 @@ def wrong_numbers(world):
         raises(kind, world.ray_meets, (0, 0, 0), (1, 0, 0), Handle(wrong, 0))
         raises(kind, world.cast_meets, raw(0), (1, 0, 0), Handle(0, wrong))
         raises(kind, world.square_to, (0, 0, 0), Handle(wrong, 0))
+        raises(kind, world.square_apart, raw(0), Handle(wrong, 0))
+        raises(kind, world.nearest_box, raw(0), wrong)
+        raises(kind, world.nearest_box, raw(0), 1, wrong)
+        raises(kind, world.hits_each, [raw(0)], wrong)
+        raises(kind, world.hits_each, [], wrong)
+        raises(kind, world.ray_first_each, [Ray((0, 0, 0), (1, 0, 0))], wrong)
+        raises(kind, world.cast_first_each_into, out, [Cast(raw(0), (1, 0, 0))], wrong)
         raises(kind, world.remove, Handle(wrong, 0))
         raises(kind, world.remove_all, [Handle(0, wrong)])
         raises(kind, World, wrong)
@@ -222,6 +241,13 @@ def wrong_numbers(world):
         raises(kind, world.cast_meets, raw(0), place, handle)
         raises(kind, world.square_to, place, handle)
         raises(kind, world.nearest, place)
+        raises(kind, world.nearest_box, Box((0, 0, 0), place))
+        raises(kind, world.square_apart, Box(place, place), handle)
+        raises(kind, world.hits_each, [raw(0), Point(*place)])
+        raises(kind, world.ray_first_each, [Ray(place, (0, 0, 0))])
+        raises(kind, world.cast_first_each, [Cast(raw(0), place)])
+    for wrong, kind in ((-1, ValueError), (2**128, ValueError), (1.0, TypeError), ("1", TypeError)):
+        raises(kind, world.nearest_box, raw(0), 1, ALL, wrong)
     for wrong in ((0, 0), (0, 0, 0, 0)):
         raises(ValueError, Box, wrong, (0, 0, 0))
         raises(ValueError, world.hits, Ray(wrong, (0, 0, 0)))
@@ -289,6 +315,395 @@ def questions(world):
     assert world.hits_into(array.array("I"), line, 2) == 0
 
 
+# Nearest to a box, many questions at once, and readers.
+
+INVERTED = Box((0, 1, 0), (0, 0, 0))
+
+
+class ThreeNumbers(ctypes.Structure):
+    _fields_ = [("x", ctypes.c_int32), ("yz", ctypes.c_int32 * 2)]
+
+
+class TwoCorners(ctypes.Structure):
+    _fields_ = [("lo", ThreeNumbers), ("hi", ThreeNumbers)]
+
+
+class SlotAndGeneration(ctypes.Structure):
+    _fields_ = [("slot", ctypes.c_uint32), ("generation", ctypes.c_uint32)]
+
+
+def nearest_to_boxes(world):
+    handles = world.add_all([raw(20 * k) for k in range(9)])
+    assert world.nearest_box(raw(-5)) == handles[:1] and world.nearest_box(raw(35), 2) == [handles[2], handles[1]]
+    assert world.nearest_box(raw(0), 9) == handles and world.nearest_box(raw(0), 9, mask=2) == world.nearest_box(raw(0), 0) == []
+    assert [world.square_apart(raw(-5), handle) for handle in handles[:3]] == [0, 15**2, 35**2]
+    assert world.square_apart(Box((13, 14, 12), (14, 15, 13)), handles[0]) == 9 + 16 + 4
+    # In parts, each from the last one of the part before, which is told again.
+    found, least = [], 0
+    while True:
+        part = world.nearest_box(raw(-5), 3, least=least)
+        found += part[found[-1:] == part[:1] :]
+        if len(part) < 3:
+            break
+        least = world.square_apart(raw(-5), part[-1])
+    assert found == handles and least == 155**2
+    # From end to end, whose square is above 64 bits.
+    ends = [Box(*[[end] * 3] * 2) for end in (-(2**31), 2**31 - 1)]
+    world.move(handles[8], ends[1])
+    far = 3 * (2**32 - 1) ** 2
+    assert world.square_apart(ends[0], handles[8]) == far and world.nearest_box(ends[0], 9, least=far) == [handles[8]]
+    assert world.nearest_box(ends[0], 9, least=far + 1) == world.nearest_box(ends[0], 9, least=2**128 - 1) == []
+    for room in range(4):
+        out = array.array("I", [7] * 2 * room)
+        assert world.nearest_box_into(out, raw(0), 2, least=1) == 2
+        assert list(out) == [*handles[1], *handles[2], 7, 7][: 2 * room]
+
+
+def many_questions(world):
+    far, near = world.add(raw(50), groups=2), world.add(raw(0))
+    asked = [raw(5), Point(100, 0, 0), Ray((-5, 5, 5), (2, 0, 0)), Segment((-5, 5, 5), (0, 5, 5)), Box((0, 0, 0), (50, 0, 0))]
+    assert world.hits_each(asked) == [[near], [], [far, near], [near], [far, near]] == [world.hits(one) for one in asked]
+    assert world.hits_each(iter(asked), mask=2) == [[], [], [far], [], [far]] and world.hits_each([]) == []
+    fault = stopped(Status.ARGUMENT, 2, world.hits_each, [*asked[:2], INVERTED, raw(5)])
+    assert fault.handles == [] and str(fault) == "argument, after 2 were done"
+    assert len(world.hits_each([asked[4]] * 5000)) == 5000 and set(map(tuple, world.hits_each([asked[4]] * 5000))) == {(far, near)}
+    rays = [Ray((100, 5, 5), (-80, 0, 0)), Ray((100, 5, 5), (1, 0, 0)), Ray(Point(5, 5, 5), Point())]
+    first = world.ray_first_each(rays)
+    assert first == [world.ray_first(*ray) for ray in rays] and first[0].handle == far and first[1] is None and first[2].axis is None
+    assert [hit and hit.handle for hit in world.ray_first_each(rays, mask=1)] == [near, None, near] and world.ray_first_each([]) == []
+    casts = [Cast(raw(-20), (60, 0, 0)), Cast(raw(-20), Point(9, 0, 0)), Cast(raw(45), (0, 0, 0))]
+    met = world.cast_first_each(casts)
+    assert met == [world.cast_first(*cast) for cast in casts] and met[0].normal == (-1, 0, 0) and met[1] is None and met[2].handle == far
+    assert world.cast_first_each(casts, 2)[0].handle == far and world.cast_first_each(()) == []
+    stopped(Status.INVERTED, 2, world.cast_first_each, [*casts[:2], Cast(INVERTED, (0, 0, 0)), casts[0]])
+
+
+def packed_questions(asked, masks):
+    kinds = {Box: 0, Point: 1, Ray: 2, Segment: 3}
+    places = [(*one, *one) if type(one) is Point else one if type(one) is Box else (*one[0], *one[1]) for one in asked]
+    return b"".join(struct.pack("=2I6i", kinds[type(one)], mask, *numbers) for one, mask, numbers in zip(asked, masks, places))
+
+
+class NumbersOfQuestion(ctypes.Structure):
+    _fields_ = [("kind", ctypes.c_uint32), ("mask", ctypes.c_uint32), ("a", ThreeNumbers), ("b", ThreeNumbers)]
+
+
+class NumbersOfHit(ctypes.Structure):
+    _fields_ = [
+        ("handle", SlotAndGeneration), ("num", ctypes.c_int64), ("den", ctypes.c_int64), ("axis", ctypes.c_uint32),
+        ("side", ctypes.c_uint32),
+    ]  # fmt: skip
+
+
+def many_questions_of_buffers(world):
+    far, near = world.add(raw(50), groups=2), world.add(raw(0))
+    asked = [Box((0, 0, 0), (50, 0, 0)), Point(100, 0, 0), Ray((-5, 5, 5), (2, 0, 0)), Segment((-5, 5, 5), (60, 5, 5))]
+    packed, answers = packed_questions(asked, [3, ALL, 1, 2]), [[far, near], [], [near], [far]]
+    flat = array.array("i", packed)
+    rows = [packed, bytearray(packed), flat, array.array("I", packed), memoryview(flat).cast("B").cast("i", [4, 8])]
+    rows += [memoryview(flat).toreadonly(), (NumbersOfQuestion * 4).from_buffer_copy(packed)]
+    written = [number for handle in (far, near, near, far) for number in handle]
+    for buffer in rows:
+        assert world.hits_each(buffer) == answers
+        for room in range(6):
+            out, ends = array.array("I", [7] * 2 * room), array.array("Q", [7] * 5)
+            assert world.hits_each_into(out, ends, buffer) == 4 and ends.tolist() == [2, 2, 3, 4, 7]
+            assert list(out) == (written + [7, 7])[: 2 * room]
+    for ends in (bytearray(32), (ctypes.c_size_t * 4)(), array.array("L", [0] * 4), memoryview(bytearray(32)).cast("N")):
+        assert world.hits_each_into(bytearray(), ends, packed) == 4 and bytes(ends)[24:] == struct.pack("=Q", 4)
+    # What was answered before the first that is refused stands there.
+    out, ends = array.array("I", [7] * 4), array.array("Q", [7] * 4)
+    stopped(Status.ARGUMENT, 1, world.hits_each_into, out, ends, [asked[2], INVERTED, asked[0]])
+    assert ends.tolist() == [2, 7, 7, 7] and list(out) == [*far, *near]
+    stopped(Status.ARGUMENT, 1, world.hits_each_into, out, ends, packed[64:96] + struct.pack("=2I6i", 9, *[1] * 7))
+    assert ends.tolist() == [1, 7, 7, 7] and list(out[:2]) == [*near]
+    stopped(Status.ARGUMENT, 0, world.hits_each_into, out, ends[:2], packed)
+    assert world.hits_each_into(bytearray(), bytearray(), []) == 0
+
+    rays = [Ray((100, 5, 5), (-80, 0, 0)), Ray((100, 5, 5), (1, 0, 0))]
+    packed = b"".join(struct.pack("=I6i", mask, *ray.origin, *ray.direction) for ray, mask in zip(rays, (1, ALL)))
+    first, kept = world.ray_first(*rays[0], mask=1), (7).to_bytes(8, "little") * 4
+    expected = struct.pack("=2I2q2I", *near, *first[1:]) + struct.pack("=2I2q2I", *NO_HANDLE, 0, 1, 3, 0) + kept
+    for buffer in (packed, array.array("i", packed), memoryview(packed).cast("I", [2, 7])):
+        assert world.ray_first_each(buffer) == [first, None]
+        for hits in (bytearray(kept * 3), (NumbersOfHit * 3).from_buffer_copy(kept * 3)):
+            assert world.ray_first_each_into(hits, buffer) == 2 and bytes(hits) == expected
+    assert world.ray_first_each_into(hits, rays, 1) == 2 and bytes(hits) == expected
+    casts = [Cast(raw(-20), (60, 0, 0)), Cast(INVERTED, (0, 0, 0))]
+    packed = b"".join(struct.pack("=I9i", 2, *cast.box, *cast.by) for cast in casts)
+    moved, hits = world.cast_first(*casts[0], mask=2), bytearray(kept * 3)
+    stopped(Status.INVERTED, 1, world.cast_first_each_into, hits, array.array("I", packed))
+    assert bytes(hits) == struct.pack("=2I2q2I", *far, *moved[1:]) + kept * 2
+    assert world.cast_first_each_into(hits, packed[:40]) == 1 and world.cast_first_each(packed[:40]) == [moved]
+    stopped(Status.ARGUMENT, 0, world.ray_first_each_into, bytearray(32), rays)
+    stopped(Status.ARGUMENT, 0, world.cast_first_each_into, bytearray(), casts)
+
+    # A mask beside a buffer, what doesn't fit, and what is shared.
+    raises(ValueError, world.hits_each, flat, 1)
+    raises(ValueError, world.hits_each_into, out, ends, flat, 1)
+    raises(ValueError, world.ray_first_each, packed[:28], 1)
+    raises(ValueError, world.cast_first_each, packed, 2)
+    assert world.hits_each(flat, ALL) == answers
+    for kind, wrong in ((ValueError, flat[:31]), (ValueError, bytes(33)), (TypeError, array.array("q", flat)), (TypeError, "questions")):
+        raises(kind, world.hits_each, wrong)
+        raises(kind, world.hits_each_into, out, ends, wrong)
+    for kind, wrong in (
+        (TypeError, array.array("i", [7] * 8)), (TypeError, array.array("I", [7] * 8)), (TypeError, array.array("d", [7] * 4)),
+        (TypeError, bytes(32)), (ValueError, bytearray(33)), (ValueError, memoryview(bytearray(40))[4:36]), (TypeError, None),
+        (TypeError, [7] * 4),
+    ):  # fmt: skip
+        raises(kind, world.hits_each_into, out, wrong, flat)
+    for kind, wrong in (
+        (TypeError, array.array("I", [7] * 16)), (TypeError, array.array("q", [7] * 8)), (TypeError, bytes(64)),
+        (ValueError, bytearray(65)), (ValueError, memoryview(bytearray(72))[4:68]), (TypeError, (NumbersOfQuestion * 2)()), (TypeError, None),
+    ):  # fmt: skip
+        raises(kind, world.ray_first_each_into, wrong, rays)
+        raises(kind, world.cast_first_each_into, wrong, casts)
+    common = memoryview(bytearray(packed_questions(asked, [ALL] * 4) + bytes(32)))
+    raises(ValueError, world.hits_each_into, common[96:], ends, common[:128])
+    raises(ValueError, world.hits_each_into, out, common[120:152], common[:128])
+    raises(ValueError, world.hits_each_into, common[128:136], common[128:], flat)
+    raises(ValueError, world.ray_first_each_into, common[:64], common[:28])
+    grown = array.array("i", packed_questions([INVERTED], [1]))
+    fault = stopped(Status.ARGUMENT, 0, world.hits_each, grown)
+    grown.append(0)
+    assert len(grown) == 9 and fault.done == 0
+
+
+def asks_of(handle):
+    """Each call that asks, by its name and what it is given."""
+    box, ray, cast = raw(-5), Ray((-20, 5, 5), (1, 0, 0)), Cast(raw(-20), (60, 0, 0))
+    question = packed_questions([box], [ALL])
+    yield from (("hits", box), ("hits", Point(5, 5, 5), 2), ("hits", ray), ("hits", INVERTED), ("ray_hits", *ray), ("ray_handles", *ray))
+    yield from (("ray_first", *ray), ("ray_first", *ray, 4), ("first_hit", *ray), ("cast_first", *cast), ("cast_hits", *cast))
+    yield from (("ray_meets", *ray, handle), ("ray_meets", *ray, NO_HANDLE), ("cast_meets", *cast, handle))
+    yield from (("cast_first", INVERTED, ray[1]), ("square_to", (9, 99, 9), handle))
+    yield from (("square_apart", box, handle), ("square_apart", box, NO_HANDLE))
+    yield from (("nearest", (9, 9, 9), 3), ("nearest_box", box, 3), ("nearest_box", box, 3, ALL, 1), ("nearest_box", INVERTED))
+    yield from (("hits_each", [box, ray]), ("hits_each", question), ("hits_each", [box, INVERTED]), ("ray_first_each", [ray] * 3))
+    yield from (("cast_first_each", [cast] * 3), ("cast_first_each", [cast, Cast(INVERTED, ray[1])]))
+    yield from (("hits_into", bytearray(24), box), ("ray_handles_into", bytearray(24), *ray), ("cast_hits_into", bytearray(24), *cast))
+    yield from (("nearest_into", bytearray(24), (9, 9, 9), 3), ("nearest_box_into", bytearray(24), box, 3))
+    yield from (("hits_each_into", bytearray(24), bytearray(16), [box, ray]), ("ray_first_each_into", bytearray(64), [ray] * 2))
+    yield ("cast_first_each_into", bytearray(64), [cast] * 2)
+
+
+def answer_to(asked, name, *given):
+    """What a call answers or refuses, and what it writes."""
+    given = [copy.copy(one) for one in given]
+    try:
+        answer = getattr(asked, name)(*given)
+    except Stopped as fault:
+        answer = fault.status, fault.done
+    except Refused as fault:
+        answer = fault.status
+    return answer, [one for one in given if type(one) is bytearray]
+
+
+def readers_answer_as_worlds(world):
+    handles = world.add_all([raw(30 * k) for k in range(5)])
+    world.mask(handles[2], 2, ALL)
+    asks = list(asks_of(handles[1]))
+    names = {name for name in dir(Reader) if not name.startswith("_")} - {"join", "leave", "closed"}
+    assert names == {name for name, *_ in asks}, names ^ {name for name, *_ in asks}
+    answers = [answer_to(world, *ask) for ask in asks]
+    assert answers[0][0] == handles[:1] and answers[3][0] is Status.ARGUMENT and len({str(answer) for answer in answers}) > 15
+    with world.share() as first, first.join() as second:
+        for reader in (first, second, first):
+            assert [answer_to(reader, *ask) for ask in asks] == answers
+        # The world is nobody's until they left.
+        assert {str(answer_to(world, *ask)[0]) for ask in asks} == {str(Status.CLOSED), str((Status.CLOSED, 0))}
+    assert [answer_to(world, *ask) for ask in asks] == answers
+    for reader in (first, second):
+        assert {str(answer_to(reader, *ask)[0]) for ask in asks} == {str(Status.CLOSED), str((Status.CLOSED, 0))}
+
+
+def the_last_reader(world):
+    kept = world.add_all([raw(0)] * 2)
+    world.end_frame()
+    world.mark()
+    world.remove(kept[1])
+    told = (world.info(), world.pairs(), list(world.boxes()))
+    first = world.share()
+    assert world.closed and not first.closed
+    for call in (world.share, world.info, world.end_frame, world.mark, lambda: world.add(raw(0)), lambda: list(world.boxes())):
+        refused(Status.CLOSED, call)
+    refused(Status.CLOSED, Reader, world)
+    second = first.join()
+    third = second.join()
+    assert first.leave() is False and first.closed and first.leave() is False and world.closed
+    refused(Status.CLOSED, first.join)
+    raises(TypeError, copy.copy, second)
+    raises(TypeError, pickle.dumps, second)
+    assert second.hits(raw(0)) == kept[:1] == third.hits(raw(0))
+    # One that is dropped leaves, and the last one that leaves opens the world.
+    held = second._held
+    del second
+    gc.collect()
+    assert not held.state and not held.held and world.closed
+    assert third.leave() is True and third.leave() is False and not world.closed
+    assert told == (world.info(), world.pairs(), list(world.boxes()))
+    world.back()
+    assert world.get(kept[1]).box == raw(0)
+    # As often as one likes, also if an exception ends the block.
+    for _ in range(3):
+        with world.share() as alone:
+            assert alone.hits(raw(0)) == kept
+        world.move(kept[0], raw(0))
+    try:
+        with world.share():
+            raise KeyError
+    except KeyError:
+        assert not world.closed
+    Reader.__new__(Reader)
+
+
+def ends_of_shared_worlds(world):
+    structure, handle = world.info().structure, world.add(raw(0))
+
+    # One that is closed answers its readers, and ends with the last.
+    with world.share() as first, first.join() as second:
+        world.close()
+        assert first.leave() is False and second.hits(raw(0)) == [handle] and second.leave() is False
+    assert world.closed and not world._held.held
+    refused(Status.CLOSED, world.share)
+
+    # Who has a reader alone has the world still.
+    world = World(structure)
+    world.add(raw(0))
+    reader, held = world.share(), world._held
+    del world
+    gc.collect()
+    assert reader.hits(raw(0)) == [handle] and not held.state
+    reader._world.__dict__["open_again"] = opened = []
+    del reader
+    gc.collect()
+    assert not held.state and not held.held and opened == []
+
+    # In a ring of garbage both ends come in some order.
+    for order in range(2):
+        world = World(structure)
+        ring = [world, world.share()][:: 1 - 2 * order]
+        held, words = world._held, ring[order - 1]._held
+        ring.append(ring)
+        world.ring = ring
+        del world, ring
+        gc.collect()
+        assert not held.state and not held.held and not words.state and not words.held
+
+
+def readers_at_once(world):
+    """A call of a reader waits for the one before it, and not for one of another reader of the same world."""
+    within, most, both, asks = [], [], threading.Barrier(2), Reader._asks
+
+    def alone(*_):
+        within.append(0)
+        most.append(len(within))
+        time.sleep(0.001)
+        within.pop()
+        return Status.OK
+
+    def together(*_):
+        both.wait(30)
+        return Status.OK
+
+    with world.share() as first, first.join() as second:
+        hits = asks.hits
+        try:
+            asks.hits = alone
+            played_at_once(lambda number: [first.hits(raw(0)) for _ in range(5)])
+            assert most == [1] * 20
+            asks.hits = together
+            played_at_once(lambda number: (first, second)[number].hits(raw(0)), 2)
+        finally:
+            asks.hits = hits
+
+
+def entry_of(origin, way, box, ends):
+    """Where a way first meets a box, if it does, by fractions."""
+    enters, leaves = Fraction(0), Fraction(1) if ends else None
+    for at, step, lo, hi in zip(origin, way, box.lo, box.hi):
+        if step == 0:
+            if not lo <= at <= hi:
+                return None
+            continue
+        near, far = sorted((Fraction(lo - at, step), Fraction(hi - at, step)))
+        enters, leaves = max(enters, near), far if leaves is None else min(leaves, far)
+    return enters if leaves is None or enters <= leaves else None
+
+
+def less(a, b):
+    """Where a displacement brings one box so that it meets the other."""
+    return Box((low - high for low, high in zip(a.lo, b.hi)), (high - low for high, low in zip(a.hi, b.lo)))
+
+
+def square_between(a, b):
+    gaps = (max(0, low - high, other_low - other_high) for low, high, other_low, other_high in zip(b.lo, a.hi, a.lo, b.hi))
+    return sum(gap * gap for gap in gaps)
+
+
+def compared(asked, model, seed, rounds):
+    """Each question beside a model that tests every box: pairs of a handle and a box, with the groups of each."""
+    dice = random.Random(seed)
+
+    def place(reach=300):
+        return Point(*(dice.randint(-reach, reach) for _ in range(3)))
+
+    for _ in range(rounds):
+        mask, region, origin, way, want = dice.choice((1, 2, 3)), raw_at(place(), dice), place(500), place(3), dice.randint(0, 9)
+        seen = [(handle, box) for handle, box, groups in model if groups & mask]
+        touched = [handle for handle, box in seen if square_between(region, box) == 0]
+        holders = [handle for handle, box in seen if square_between(Box(origin, origin), box) == 0]
+        assert asked.hits(region, mask) == touched and asked.hits_each([region, origin], mask) == [touched, holders]
+        by = place(600)
+        starts = [(entry_of(origin, way, box, False), handle) for handle, box in seen]
+        moves = [(entry_of((0, 0, 0), by, less(box, region), True), handle) for handle, box in seen]
+        on_ray, on_cast = (sorted(entry for entry in entries if entry[0] is not None) for entries in (starts, moves))
+        assert asked.ray_handles(origin, way, mask) == [handle for _, handle in on_ray]
+        assert asked.cast_hits(region, by, mask) == [handle for _, handle in on_cast]
+        on_rays, on_casts = asked.ray_first_each([Ray(origin, way)] * 2, mask), asked.cast_first_each([Cast(region, by)], mask)
+        for found, told in ((on_ray, on_rays), (on_cast, on_casts)):
+            assert {hit and (Fraction(hit.num, hit.den), hit.handle) for hit in told} == {found[0] if found else None}
+        least = dice.choice((0, square_between(region, model[0][1])))
+        apart = sorted((square_between(region, box), handle) for handle, box in seen)
+        assert asked.nearest_box(region, want, mask, least) == [handle for square, handle in apart if square >= least][:want]
+        assert asked.square_apart(region, model[0][0]) == square_between(region, model[0][1])
+
+
+def raw_at(lo, dice):
+    return Box(lo, (number + dice.randint(0, 60) for number in lo))
+
+
+def readers_of_threads(world):
+    """Four threads ask one world at once by a reader each, in several ticks between which it changes."""
+    dice = random.Random(5)
+    model = []
+    for _ in range(60):
+        box, groups = raw_at([dice.randint(-300, 300) for _ in range(3)], dice), dice.randint(0, 3)
+        model.append((world.add(box, groups=groups), box, groups))
+    with ThreadPoolExecutor(4) as pool:
+        for tick in range(2):
+            moved = [(handle, raw_at([dice.randint(-300, 300) for _ in range(3)], dice), groups) for handle, _, groups in model[:20]]
+            model[:20] = moved
+            world.move_all([handle for handle, _, _ in moved], [box for _, box, _ in moved])
+            world.end_frame()
+            compared(world, model, tick, 3)
+            all_asked = threading.Barrier(4)
+
+            def job(number, reader):
+                try:
+                    compared(reader, model, 10 * tick + number, 8)
+                finally:
+                    all_asked.wait(60)
+                return reader.leave()
+
+            first = world.share()
+            readers = [first, *(first.join() for _ in range(3))]
+            # Just one of those that leave at once opens the world.
+            assert sorted(pool.map(job, range(4), readers)) == [False, False, False, True] and not world.closed
+    played_at_once(lambda number: [world.hits(raw(0)) for _ in range(5)])
+
+
 # Batches.
 
 
@@ -314,18 +729,6 @@ def batches_of_values(world):
     out = bytearray(8 * 3)
     stopped(Status.INVERTED, 1, world.add_all_into, out, [raw(0), inverted, raw(0)])
     assert list(struct.iter_unpack("=2I", out)) == [Handle(0, 1), (0, 0), (0, 0)]
-
-
-class ThreeNumbers(ctypes.Structure):
-    _fields_ = [("x", ctypes.c_int32), ("yz", ctypes.c_int32 * 2)]
-
-
-class TwoCorners(ctypes.Structure):
-    _fields_ = [("lo", ThreeNumbers), ("hi", ThreeNumbers)]
-
-
-class SlotAndGeneration(ctypes.Structure):
-    _fields_ = [("slot", ctypes.c_uint32), ("generation", ctypes.c_uint32)]
 
 
 def buffers_of(numbers, letter, columns, row):
@@ -521,12 +924,16 @@ def closed_worlds(world):
         lambda: world.ray_hits((0, 0, 0), (1, 0, 0)), lambda: world.first_hit((0, 0, 0), (1, 0, 0)), lambda: world.cast_hits(cube(0), (0, 0, 0)), lambda: world.nearest((0, 0, 0)),
         lambda: world.ray_first((0, 0, 0), (1, 0, 0)), lambda: world.cast_first(cube(0), (0, 0, 0)),
         lambda: world.ray_meets((0, 0, 0), (1, 0, 0), handle), lambda: world.cast_meets(cube(0), (0, 0, 0), handle),
-        lambda: world.square_to((0, 0, 0), handle), world.pairs_now, lambda: world.pairs_now_into(bytearray(16)),
+        lambda: world.square_to((0, 0, 0), handle), lambda: world.square_apart(cube(0), handle), world.share, world.pairs_now,
+        lambda: world.pairs_now_into(bytearray(16)),
         lambda: world.hits_into(bytearray(16), cube(0)), world.mark, world.forget, world.back, world.info,
-        lambda: world.at(0), lambda: list(world.boxes()), lambda: world.regroup(handle),
+        lambda: world.at(0), lambda: list(world.boxes()), lambda: world.regroup(handle), lambda: world.nearest_box(cube(0)),
     ):  # fmt: skip
         refused(Status.CLOSED, call)
-    for call in (lambda: world.add_all([cube(0)]), lambda: world.move_all([handle], [cube(0)]), lambda: world.remove_all([handle])):
+    for call in (
+        lambda: world.add_all([cube(0)]), lambda: world.move_all([handle], [cube(0)]), lambda: world.remove_all([handle]),
+        lambda: world.hits_each([cube(0)]), lambda: world.ray_first_each([]), lambda: world.cast_first_each([Cast(cube(0), (0, 0, 0))]),
+    ):  # fmt: skip
         stopped(Status.CLOSED, 0, call)
 
 
@@ -712,7 +1119,7 @@ def values():
     assert box == Box(box.lo, box.hi) != Box() and hash(box) == hash(Box(box.lo, box.hi)) and repr(Box()).startswith("Box(lo=Point(")
     told = Told(OVER, a, b)
     assert told.pair == Pair(a, b) and told == Told(Event.OVER, *Pair(a, b))
-    for value in (box, a, told, Pair(a, b), Point(1, 2, 3), Ray(box.lo, box.hi), Live(box, 1, 2, 3, False)):
+    for value in (box, a, told, Pair(a, b), Point(1, 2, 3), Ray(box.lo, box.hi), Cast(box, box.lo), Live(box, 1, 2, 3, False)):
         assert pickle.loads(pickle.dumps(value)) == copy.deepcopy(value) == value and type(copy.copy(value)) is type(value)
         assert len({value, copy.copy(value)}) == 1
         for name in ("slot", "lo", "event", "a", "x", "origin", "box", "other"):
@@ -770,9 +1177,9 @@ def types_of_the_library():
         if line.startswith("pw_status pw_"):
             function = getattr(library, line[len("pw_status ") : line.index("(")])
             assert function.argtypes and function.restype is ctypes.c_uint32, line
-    structs = "Point Box New Handle Live Pair Told Counts Query Ray Cast Near Hit Square Info World".split()
+    structs = "Point Box New Handle Live Pair Told Counts Query Ray Cast Near NearBox Hit Square Info World Reader".split()
     sizes = [ctypes.sizeof(getattr(pungwelair._library, f"Raw{name}")) for name in structs]
-    assert sizes == [12, 24, 16, 8, 40, 16, 20, 24, 32, 28, 40, 20, 32, 16, 32, 16] or ctypes.sizeof(ctypes.c_void_p) != 8
+    assert sizes == [12, 24, 16, 8, 40, 16, 20, 24, 32, 28, 40, 20, 48, 32, 16, 32, 16, 16] or ctypes.sizeof(ctypes.c_void_p) != 8
     pungwelair.call("pw_close", held)
     refused(Status.CLOSED, pungwelair.call, "pw_close", held)
 
@@ -800,8 +1207,8 @@ def docs_and_types():
         for path in Path(pungwelair.__file__).parent.glob("*.py"):
             assert compile(path.read_text(), str(path), "exec", dont_inherit=True)
     public = [getattr(pungwelair, name) for name in pungwelair.__all__]
-    methods = [getattr(World, name) for name in vars(World) if not name.startswith("_")]
-    for one in [one for one in public if inspect.isfunction(one)] + [World.__init__] + methods:
+    methods = [getattr(kind, name) for kind in (World, Reader) for name in dir(kind) if not name.startswith("_")]
+    for one in [one for one in public if inspect.isfunction(one)] + [World.__init__, Reader.__init__] + methods:
         call = one.fget if isinstance(one, property) else one
         assert call.__doc__, call
         signature = inspect.signature(call)
@@ -840,14 +1247,22 @@ def arrays_of_numpy():
         world.end_frame()
         told = numpy.zeros(3, [("event", "u4"), ("a", "u4", 2), ("b", "u4", 2)])
         assert world.pair_changes_into(told) == 3 and told["b"][2].tolist() == list(same[2])
+        rays = numpy.array([[-1, 505, 900, 5, 0, -1, 0], [-1, 0, 0, -1, 0, 0, -1]], numpy.int32)
+        hits = numpy.zeros(2, [("handle", "u4", 2), ("num", "i8"), ("den", "i8"), ("axis", "u4"), ("side", "u4")])
+        assert world.ray_first_each_into(hits, rays) == 2 and hits["handle"].tolist() == [list(same[0]), list(NO_HANDLE)]
+        assert hits[0].tolist()[1:] == world.ray_first_each(rays)[0][1:] and hits["axis"].tolist() == [1, 3]
+        asked = numpy.zeros(2, [("kind", "u4"), ("mask", "u4"), ("a", "i4", 3), ("b", "i4", 3)])
+        asked["mask"], asked["b"], ends = ALL, 2000, numpy.zeros(2, numpy.uintp)
+        assert world.hits_each_into(handles, ends, asked) == 16 and ends.tolist() == [8, 16] and len(world.hits_each(asked)[1]) == 8
         pairs = numpy.zeros((3, 2, 2), numpy.uint32)
         assert world.pairs_into(pairs) == 3 and pairs[0].tolist() == [list(same[0]), list(same[1])]
 
 
 OVER_EACH_STRUCTURE = (
-    slots_of_frames, handles_of_frames, long_lists, pairs_within_a_frame, live_boxes, wrong_types, wrong_numbers, questions, batches_of_values,
-    batches_of_buffers, wrong_buffers, nothing_is_copied, marks, forgotten_marks, boxes_by_slots, regrouped, closed_worlds, ends_of_worlds, threads,
-    threads_with_batches, turns, finalizers,
+    slots_of_frames, handles_of_frames, long_lists, pairs_within_a_frame, live_boxes, wrong_types, wrong_numbers, questions,
+    nearest_to_boxes, many_questions, many_questions_of_buffers, readers_answer_as_worlds, the_last_reader, ends_of_shared_worlds,
+    readers_at_once, readers_of_threads, batches_of_values, batches_of_buffers, wrong_buffers, nothing_is_copied, marks, forgotten_marks,
+    boxes_by_slots, regrouped, closed_worlds, ends_of_worlds, threads, threads_with_batches, turns, finalizers,
 )  # fmt: skip
 ONCE = (a_full_world, values, refusals, floats, types_of_the_library, imports, docs_and_types, arrays_of_numpy)
 

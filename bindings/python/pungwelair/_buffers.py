@@ -1,4 +1,4 @@
-"""Rows of boxes, handles, pairs and events in the memory of the caller.
+"""Rows of boxes, handles, questions and what is told in the memory of the caller.
 
 A buffer is anything that `memoryview` takes: an array of numpy, an `array.array`, a `memoryview`, bytes, an array of ctypes. It is
 read and written where it stands. A list is packed first.
@@ -13,39 +13,51 @@ import sys
 from ctypes import c_char_p, c_int, c_size_t, c_ssize_t, c_void_p
 from functools import lru_cache
 from math import prod
-from typing import TYPE_CHECKING, Any, Iterable, NamedTuple, Tuple, Union
+from typing import TYPE_CHECKING, Any, Callable, Iterable, NamedTuple, Optional, Tuple, Union
 
-from ._library import BOX, HANDLE, SLOTS, RawBox, RawHandle, RawPair, RawTold
-from ._values import Box, Handle, refuse_kind, refuse_places, refuse_words
+from ._library import BOX, HANDLE, SLOTS, RawBox, RawCast, RawHandle, RawHit, RawPair, RawQuery, RawRay, RawTold
+from ._values import Box, Cast, Handle, Question, Ray, refuse_kind, refuse_places, refuse_words
 
 if TYPE_CHECKING:
     from typing_extensions import Buffer
 
-#: Boxes and handles, as batches take them.
+#: Boxes and handles, as batches take them, and questions, as many are asked at once.
 Boxes = Union["Buffer", Iterable[Box]]
 Handles = Union["Buffer", Iterable[Handle]]
+Questions = Union["Buffer", Iterable[Question]]
+Rays = Union["Buffer", Iterable[Ray]]
+Casts = Union["Buffer", Iterable[Cast]]
 
 
 class Kind(NamedTuple):
-    """What a row of a buffer is: so many whole numbers of 32 bits, whose letter is that of `struct`, and so many bytes."""
+    """What a row of a buffer is, and how many bytes it has."""
 
     name: str
     raw: Any
-    letter: str
-    numbers: int
-
+    #: Rows of whole numbers of 32 bits have such letters of `struct`, each of them.
+    letters: str
+    #: Other rows stand in a buffer as one item each, whose letters are one of these.
+    items: Tuple[str, ...]
+    #: The rows in words.
+    said: str
     size: int
     #: How many of them a workspace has room for.
     found: c_size_t
 
 
-def _kind(name: str, raw: Any, letter: str) -> Kind:
+def _kind(name: str, raw: Any, letters: str, items: Tuple[str, ...] = (), said: str = "") -> Kind:
     size = ctypes.sizeof(raw)
-    return Kind(name, raw, letter, size // 4, size, c_size_t(SLOTS * HANDLE.size // size))
+    sign = {"i": "int32", "I": "uint32", "iI": "32 bits"}.get(letters)
+    return Kind(name, raw, letters, items, said or f"rows of {size // 4} numbers of {sign}", size, c_size_t(SLOTS * HANDLE.size // size))
 
 
 BOXES, HANDLES = _kind("boxes", RawBox, "i"), _kind("handles", RawHandle, "I")
 PAIRS, EVENTS = _kind("pairs", RawPair, "I"), _kind("events", RawTold, "I")
+# Their masks are above the numbers of a place, so either sign is taken.
+QUESTIONS, RAYS, CASTS = _kind("questions", RawQuery, "iI"), _kind("rays", RawRay, "iI"), _kind("casts", RawCast, "iI")
+# A long of 8 bytes has the letter of a number of 32 bits here, and is told from it by the size of the item.
+HITS = _kind("hits", RawHit, "", ("IIqqII", "IIiiII"), "structs of two numbers of uint32, two of int64 and two of uint32")
+ENDS = _kind("ends", c_size_t, "", ("I", "Q", "N"), "numbers of size_t")
 
 
 class Rows:
@@ -57,8 +69,8 @@ class Rows:
         self.count, self.first, self._holder = count, first, holder
         self.start = ctypes.addressof(first)
         self.end = self.start + count * kind.size
-        if self.start % 4:
-            raise ValueError(f"the buffer of {kind.name} doesn't stand at a multiple of 4")
+        if self.start % ctypes.alignment(kind.raw):
+            raise ValueError(f"the buffer of {kind.name} doesn't stand at a multiple of {ctypes.alignment(kind.raw)}")
 
     def refuse_common(self, other: Rows) -> None:
         """Raises if both have a byte, of which the library would read what it has just written."""
@@ -112,18 +124,18 @@ def _count(kind: Kind, view: memoryview) -> int:
     """How many rows a buffer has."""
     if not view.c_contiguous:
         raise ValueError(f"the buffer of {kind.name} has gaps: copy it first")
-    letters = _letters(view.format)
+    letters, wanted = _letters(view.format), kind.said
     if letters in ("B", "b", "c"):
         row = kind.size if view.nbytes % kind.size == 0 else 0
         wanted = f"a multiple of {kind.size} bytes"
-    elif letters and not letters.strip(kind.letter) and view.itemsize == 4 * len(letters):
+    elif letters in kind.items and view.itemsize == kind.size:
         row = view.itemsize * prod(view.shape[1:])
-        wanted = f"rows of {kind.numbers} numbers"
+    elif kind.letters and letters and not letters.strip(kind.letters) and view.itemsize == 4 * len(letters):
+        row = view.itemsize * prod(view.shape[1:])
         if view.ndim == 1 and view.nbytes % kind.size == 0 and len(letters) == 1:
             row = kind.size
     else:
-        sign = "int32" if kind.letter == "i" else "uint32"
-        raise TypeError(f"{kind.name} are rows of {kind.numbers} numbers of {sign}, not of the format {view.format!r}")
+        raise TypeError(f"{kind.name} are {kind.said}, not of the format {view.format!r}")
     if row != kind.size:
         raise ValueError(f"a buffer of {kind.name} has {wanted}, not the shape {view.shape} of {view.format!r}")
     return view.nbytes // kind.size
@@ -162,17 +174,23 @@ def packed_handle(handle: Any) -> bytes:
         raise
 
 
-def rows_of(kind: Kind, items: Any) -> Rows:
-    """The rows of a buffer that is read, or of boxes or handles one by one."""
-    if not isinstance(items, (list, tuple)):
-        try:
-            view = memoryview(items)
-        except TypeError:
-            pass
-        else:
-            return _rows(kind, view)
-    packed = bytearray().join(map(packed_box if kind is BOXES else packed_handle, items))
-    return _rows(kind, memoryview(packed))
+def view_of(items: Any) -> Optional[memoryview]:
+    """A view of a buffer, and None of what comes one by one."""
+    if isinstance(items, (list, tuple)):
+        return None
+    try:
+        return memoryview(items)
+    except TypeError:
+        return None
+
+
+def rows_of(kind: Kind, items: Any, pack: Optional[Callable[[Any], bytes]] = None) -> Rows:
+    """The rows of a buffer that is read, or of what comes one by one: boxes and handles, or what `pack` makes a row of."""
+    view = view_of(items)
+    if view is None:
+        pack = pack or (packed_box if kind is BOXES else packed_handle)
+        view = memoryview(bytearray().join(map(pack, items)))
+    return _rows(kind, view)
 
 
 def room_of(kind: Kind, out: Any) -> Rows:

@@ -10,7 +10,7 @@ import os
 import struct
 from ctypes import POINTER, c_double, c_int32, c_int64, c_size_t, c_uint32, c_uint64, c_void_p
 from pathlib import Path
-from typing import Any, List
+from typing import Any, Dict, List, Tuple
 
 #: The most boxes that live at once. Slots are below it, so a buffer of as many handles has room for the answer to any question.
 SLOTS = 8192
@@ -76,12 +76,16 @@ class RawNear(ctypes.Structure):
     _fields_ = [("mask", c_uint32), ("want", c_uint32), ("at", RawPoint)]
 
 
-class RawHit(ctypes.Structure):
-    _fields_ = [("handle", RawHandle), ("num", c_int64), ("den", c_int64), ("axis", c_uint32), ("side", c_uint32)]
-
-
 class RawSquare(ctypes.Structure):
     _fields_ = [("low", c_uint64), ("high", c_uint64)]
+
+
+class RawNearBox(ctypes.Structure):
+    _fields_ = [("mask", c_uint32), ("want", c_uint32), ("box", RawBox), ("least", RawSquare)]
+
+
+class RawHit(ctypes.Structure):
+    _fields_ = [("handle", RawHandle), ("num", c_int64), ("den", c_int64), ("axis", c_uint32), ("side", c_uint32)]
 
 
 class RawInfo(ctypes.Structure):
@@ -104,6 +108,12 @@ class RawDoubles(ctypes.Structure):
 
 class RawWorld(ctypes.Structure):
     """The two words of a world. Zeros are a closed one."""
+
+    _fields_ = [("state", c_uint32), ("held", c_void_p)]
+
+
+class RawReader(ctypes.Structure):
+    """The two words of a reader. Zeros are a closed one."""
 
     _fields_ = [("state", c_uint32), ("held", c_void_p)]
 
@@ -144,7 +154,8 @@ class _To:
 
 
 _WORLD, _BOX, _HANDLE, _NUMBER, _COUNT = _To(RawWorld), _To(RawBox), _To(RawHandle), _To(c_int32), _To(c_size_t)
-_FOUND = (_HANDLE, c_size_t, _COUNT)
+_READER, _QUERY, _RAY, _CAST, _HIT, _SQUARE = map(_To, (RawReader, RawQuery, RawRay, RawCast, RawHit, RawSquare))
+_FOUND, _FIRSTS = (_HANDLE, c_size_t, _COUNT), (_HIT, c_size_t, _COUNT)
 _takes("pw_open", _WORLD, c_uint32)
 _takes("pw_close", _WORLD)
 _takes("pw_add", _WORLD, _BOX, c_size_t, _To(RawNew), _HANDLE, c_size_t, _COUNT)
@@ -159,19 +170,15 @@ _takes("pw_pairs", _WORLD, c_size_t, _To(RawPair), c_size_t, _COUNT)
 _takes("pw_pairs_now", _WORLD, c_size_t, _To(RawPair), c_size_t, _COUNT)
 _takes("pw_events", _WORLD, c_size_t, _To(RawTold), c_size_t, _COUNT)
 _takes("pw_changes", _WORLD, c_size_t, _To(RawTold), c_size_t, _COUNT)
-_takes("pw_hits", _WORLD, _To(RawQuery), *_FOUND)
-_takes("pw_ray_hits", _WORLD, _To(RawRay), *_FOUND)
-_takes("pw_cast_hits", _WORLD, _To(RawCast), *_FOUND)
-_takes("pw_ray_first", _WORLD, _To(RawRay), _To(RawHit), _COUNT)
-_takes("pw_cast_first", _WORLD, _To(RawCast), _To(RawHit), _COUNT)
-_takes("pw_ray_meets", _WORLD, _To(RawRay), RawHandle, _To(RawHit), _COUNT)
-_takes("pw_cast_meets", _WORLD, _To(RawCast), RawHandle, _To(RawHit), _COUNT)
-_takes("pw_square_to", _WORLD, _To(RawPoint), RawHandle, _To(RawSquare))
-_takes("pw_nearest", _WORLD, _To(RawNear), *_FOUND)
 _takes("pw_mark", _WORLD)
 _takes("pw_forget", _WORLD, c_uint32)
 _takes("pw_back", _WORLD)
 _takes("pw_info", _WORLD, _To(RawInfo))
+_takes("pw_reader_open", _READER)
+_takes("pw_reader_close", _READER)
+_takes("pw_share", _WORLD, _READER)
+_takes("pw_join", _READER, _READER)
+_takes("pw_unshare", _READER, _WORLD)
 _takes("pw_fix_below_32", c_uint32, _NUMBER)
 _takes("pw_fix_above_32", c_uint32, _NUMBER)
 _takes("pw_fix_below_64", c_uint64, _NUMBER)
@@ -179,12 +186,33 @@ _takes("pw_fix_above_64", c_uint64, _NUMBER)
 _takes("pw_box_around_32", _To(RawFloats), _To(RawFloats), _BOX)
 _takes("pw_box_around_64", _To(RawDoubles), _To(RawDoubles), _BOX)
 
+#: The calls that ask, and what each takes behind the words of a world (`pw_hits`) or a reader (`pw_reader_hits`).
+ASKS: Dict[str, Tuple[Any, ...]] = {
+    "hits": (_QUERY, *_FOUND),
+    "ray_hits": (_RAY, *_FOUND),
+    "cast_hits": (_CAST, *_FOUND),
+    "ray_first": (_RAY, _HIT, _COUNT),
+    "cast_first": (_CAST, _HIT, _COUNT),
+    "ray_meets": (_RAY, RawHandle, _HIT, _COUNT),
+    "cast_meets": (_CAST, RawHandle, _HIT, _COUNT),
+    "square_to": (_To(RawPoint), RawHandle, _SQUARE),
+    "square_apart": (_BOX, RawHandle, _SQUARE),
+    "nearest": (_To(RawNear), *_FOUND),
+    "nearest_box": (_To(RawNearBox), *_FOUND),
+    "hits_each": (_QUERY, c_size_t, _HANDLE, c_size_t, _COUNT, c_size_t, _COUNT),
+    "ray_first_each": (_RAY, c_size_t, *_FIRSTS),
+    "cast_first_each": (_CAST, c_size_t, *_FIRSTS),
+}
+for _name, _types in ASKS.items():
+    _takes(f"pw_{_name}", _WORLD, *_types)
+    _takes(f"pw_reader_{_name}", _READER, *_types)
+
 
 def unchecked(name: str) -> Any:
     """The same function without a look at its arguments, which would double the time of a short call.
 
-    It is for pointers to a world's own memory or a workspace's, for structs and numbers of ctypes, and for bytes that a `struct.Struct`
-    below has just packed.
+    It is for pointers to the own memory of a world, a reader or a workspace, for structs and numbers of ctypes, and for bytes that a
+    `struct.Struct` below has just packed.
     """
     function = library[name]
     function.restype = c_uint32
@@ -228,4 +256,4 @@ def workspace() -> Workspace:
 BOX, HANDLE, PAIR, TOLD = (struct.Struct(form) for form in ("=6i", "=2I", "=4I", "=5I"))
 NEW, LIVE, HIT, INFO = (struct.Struct(form) for form in ("=4I", "=6i4I", "=2I2q2I", "=4I2Q"))
 QUERY, RAY, CAST, NEAR, DOUBLES = (struct.Struct(form) for form in ("=2I6i", "=I6i", "=I9i", "=2I3i", "=3d"))
-POINT, SQUARE = struct.Struct("=3i"), struct.Struct("=2Q")
+POINT, SQUARE, NEAR_BOX = (struct.Struct(form) for form in ("=3i", "=2Q", "=2I6i2Q"))

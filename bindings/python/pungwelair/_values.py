@@ -20,12 +20,13 @@ class Status(enum.IntEnum):
     #: Memory ran out, and what ran out wasn't done. A world over PLAIN or SAP may be spent then, which `World.info` tells.
     NO_MEMORY = 3
     INVERTED = 4  #: a lower corner is above the upper one
-    CLOSED = 5  #: the world is closed
+    CLOSED = 5  #: the world is closed, as it is while readers read it, or the reader left
     ARGUMENT = 6  #: no such structure, an inverted region, or lengths that don't agree
     EXHAUSTED = 7  #: a number of the world is at its end, which no game comes to
     NO_MARK = 8  #: no mark is held to go back to, or fewer are than are to be given up
     NOT_A_NUMBER = 9  #: a float is a NaN
     OUT_OF_RANGE = 10  #: a float is below -32,768 or above 32,767.99998, or an infinity
+    SHARED = 11  #: a reader reads a world already, or others still read it; no call of a World or a Reader is refused so
 
 
 #: The text of each status.
@@ -180,6 +181,13 @@ class Segment(NamedTuple):
 
     a: Point
     b: Point
+
+
+class Cast(NamedTuple):
+    """A box that is moved by a displacement."""
+
+    box: Box
+    by: Point
 
 
 #: What `World.hits` answers: which boxes meet a box, hold a point, or meet a ray or a segment.

@@ -8,14 +8,16 @@ from ctypes import byref, c_size_t, c_uint32
 from operator import index
 from typing import TYPE_CHECKING, Any, Callable, Iterable, Iterator, List, NoReturn, Optional, Tuple, TypeVar
 
+from ._asking import Asker, checked, counted, handles_of
 from ._buffers import BOXES, EVENTS, HANDLES, PAIRS, Boxes, Handles, Kind, Rows, new_rows, packed_handle, room_of, rows_of
 from ._library import (
-    ALL, BOX, CAST, HANDLE, HIT, INFO, LIVE, MOST, NEAR, NEW, NONE, ONE, PAIR, POINT, QUERY, RAY, SLOTS, SQUARE, TOLD, RawCast, RawCounts,
-    RawGroup, RawHandle, RawMasks, RawNear, RawNew, RawQuery, RawRay, RawWorld, Workspace, kept, library, unchecked, workspace,
+    ALL, BOX, HANDLE, INFO, LIVE, NEW, NONE, ONE, PAIR, SLOTS, TOLD, RawCounts, RawGroup, RawHandle, RawMasks, RawNew, RawWorld, kept,
+    library, unchecked, workspace,
 )  # fmt: skip
+from ._reader import Reader
 from ._values import (
-    BEGIN, LOWER, OVER, STAY, TREE, UPPER, Box, Event, Frame, Handle, Hit, Info, Live, Pair, Point, Question, Ray, Refused, Segment, Side,
-    Status, Stopped, Structure, Told, made, refuse_kind, refuse_places, refuse_words,
+    BEGIN, OVER, STAY, TREE, Box, Event, Frame, Handle, Info, Live, Pair, Refused, Status, Stopped, Structure, Told, made, refuse_kind,
+    refuse_places, refuse_words,
 )  # fmt: skip
 
 if TYPE_CHECKING:
@@ -24,20 +26,15 @@ if TYPE_CHECKING:
 _Value = TypeVar("_Value")
 
 _EVENTS: Tuple[Event, ...] = (BEGIN, STAY, OVER)
-_SIDES: Tuple[Side, ...] = (LOWER, UPPER)
-_SLOT, _SLOTS_TOLD = struct.Struct("=I4x"), struct.Struct("=II4xI4x")
+_SLOTS_TOLD = struct.Struct("=II4xI4x")
 
-_pack_box, _pack_handle, _pack_new, _pack_query = BOX.pack, HANDLE.pack, NEW.pack, QUERY.pack
-_pack_ray, _pack_cast, _pack_near, _handle_from = RAY.pack, CAST.pack, NEAR.pack, HANDLE.unpack_from
+_pack_box, _pack_handle, _pack_new, _handle_from = BOX.pack, HANDLE.pack, NEW.pack, HANDLE.unpack_from
 
 _pw_open, _pw_close, _pw_info, _pw_at = map(unchecked, ("pw_open", "pw_close", "pw_info", "pw_at"))
 _pw_mark, _pw_forget, _pw_back = map(unchecked, ("pw_mark", "pw_forget", "pw_back"))
 _pw_add, _pw_move, _pw_remove, _pw_get = map(unchecked, ("pw_add", "pw_move", "pw_remove", "pw_get"))
 _pw_mask, _pw_regroup = map(unchecked, ("pw_mask", "pw_regroup"))
 _pw_update, _pw_pairs, _pw_events, _pw_changes = map(unchecked, ("pw_update", "pw_pairs", "pw_events", "pw_changes"))
-_pw_hits, _pw_ray_hits, _pw_cast_hits, _pw_nearest = map(unchecked, ("pw_hits", "pw_ray_hits", "pw_cast_hits", "pw_nearest"))
-_pw_ray_first, _pw_cast_first = map(unchecked, ("pw_ray_first", "pw_cast_first"))
-_pw_ray_meets, _pw_cast_meets, _pw_square_to = map(unchecked, ("pw_ray_meets", "pw_cast_meets", "pw_square_to"))
 
 
 def _from(start: int) -> int:
@@ -47,18 +44,11 @@ def _from(start: int) -> int:
     return min(index(start), 2**31)
 
 
-def _checked(status: int, count: int) -> int:
-    """A count, if the call that told it wasn't refused. A frame that raises holds no buffer of the caller: its traceback would."""
-    if status:
-        raise Refused(status)
-    return count
-
-
-class World:
+class World(Asker, calls="pw_"):
     """Moving boxes under handles, and what they meet.
 
-    Calls of several threads take turns, and other worlds answer meanwhile. If a world isn't closed it ends with its last
-    reference. A closed world refuses: CLOSED.
+    Calls of several threads take turns, and other worlds answer meanwhile. So that several threads ask one world at once, `share` gives it
+    to readers. If a world isn't closed it ends with its last reference. A closed world refuses: CLOSED.
 
     Boxes and handles go in as values, or many at once as a list or a buffer, which is read where it stands: rows of six int32 for
     boxes, of two uint32 for handles. Answers are lists of values. The calls that end in `_into` write them to a buffer of the caller
@@ -67,36 +57,48 @@ class World:
     """
 
     # Of a world that didn't come to be, for `__del__`: a closed one.
-    _world: Any = byref(RawWorld())
+    _held_at: Any = byref(RawWorld())
+    # Whether it is at its end, so that it isn't open again when its last reader leaves.
+    _ended = False
 
     def __init__(self, structure: int = TREE) -> None:
         """An open world with no box, over one of the five structures. NO_MEMORY, or ARGUMENT if there is no such structure."""
         structure = index(structure)
         refuse_words(structure=structure)
         self._held = RawWorld()
-        self._world = byref(self._held)
+        self._held_at = byref(self._held)
         # A lock that its holder may take again: a collector's finalizer may call in the middle of a call.
         self._lock = threading.RLock()
         # What the calls of one box write to and nobody reads, since it is 1 if they aren't refused.
         self._done = byref(c_size_t())
         self._counts = RawCounts()
         self._counts_at = byref(self._counts)
-        status = _pw_open(self._world, c_uint32(structure))
+        status = _pw_open(self._held_at, c_uint32(structure))
         if status:
             raise Refused(status)
 
     def close(self) -> None:
-        """Frees the world's memory. A world that is closed stays so."""
+        """Frees the world's memory. A world that is closed stays so. One that readers read answers them until the last one leaves."""
         with self._lock:
-            _pw_close(self._world)
+            self._ended = True
+            _pw_close(self._held_at)
 
     def __del__(self, close: Any = _pw_close) -> None:
-        close(self._world)
+        # In a ring of garbage a reader may leave later.
+        self._ended = True
+        close(self._held_at)
 
     @property
     def closed(self) -> bool:
-        """Whether it is closed."""
+        """Whether it is closed, as it is while readers read it."""
         return not self._held.state
+
+    def share(self) -> Reader:
+        """Gives the world to its first reader, so that several threads ask it at once. CLOSED, NO_MEMORY.
+
+        The world refuses every call, CLOSED, until its last reader leaves, and then goes on as it was.
+        """
+        return Reader(self)
 
     def __enter__(self) -> World:
         return self
@@ -124,7 +126,7 @@ class World:
             raise
         work = workspace()
         with self._lock:
-            status = _pw_add(self._world, body, ONE, how, work.handle_at, ONE, self._done)
+            status = _pw_add(self._held_at, body, ONE, how, work.handle_at, ONE, self._done)
         handle: Handle = made(Handle, _handle_from(work.handle))
         kept.append(work)
         if status:
@@ -145,7 +147,7 @@ class World:
             refuse_places(*box)
             raise
         with self._lock:
-            status = _pw_move(self._world, name, ONE, body, ONE, self._done)
+            status = _pw_move(self._held_at, name, ONE, body, ONE, self._done)
         if status:
             raise Refused(status)
 
@@ -159,7 +161,7 @@ class World:
             refuse_words(slot=handle.slot, generation=handle.generation)
             raise
         with self._lock:
-            status = _pw_remove(self._world, name, ONE, self._done)
+            status = _pw_remove(self._held_at, name, ONE, self._done)
         if status:
             raise Refused(status)
 
@@ -168,7 +170,7 @@ class World:
         name = RawHandle.from_buffer_copy(packed_handle(handle))
         refuse_words(groups=groups, sees=sees)
         with self._lock:
-            status = _pw_mask(self._world, name, RawMasks(index(groups), index(sees)))
+            status = _pw_mask(self._held_at, name, RawMasks(index(groups), index(sees)))
         if status:
             raise Refused(status)
 
@@ -177,7 +179,7 @@ class World:
         name = RawHandle.from_buffer_copy(packed_handle(handle))
         refuse_words(owner=owner)
         with self._lock:
-            status = _pw_regroup(self._world, name, RawGroup(index(owner), bool(fixed)))
+            status = _pw_regroup(self._held_at, name, RawGroup(index(owner), bool(fixed)))
         if status:
             raise Refused(status)
 
@@ -185,7 +187,7 @@ class World:
         """The live box that has a handle. STALE."""
         name, work = RawHandle.from_buffer_copy(packed_handle(handle)), workspace()
         with self._lock:
-            status = _pw_get(self._world, name, work.live_at)
+            status = _pw_get(self._held_at, name, work.live_at)
         numbers = LIVE.unpack_from(work.live)
         kept.append(work)
         if status:
@@ -197,7 +199,7 @@ class World:
         refuse_words(slot=slot)
         work = workspace()
         with self._lock:
-            status = _pw_at(self._world, c_uint32(slot), work.handle_at, work.live_at)
+            status = _pw_at(self._held_at, c_uint32(slot), work.handle_at, work.live_at)
         handle, numbers = made(Handle, _handle_from(work.handle)), LIVE.unpack_from(work.live)
         kept.append(work)
         if status:
@@ -227,7 +229,7 @@ class World:
         rows = rows_of(BOXES, boxes)
         memory, out = new_rows(HANDLES, rows.count)
         status, done = self._add_rows(rows, out, *how)
-        return status, _handles(memory, done)
+        return status, handles_of(memory, done)
 
     def add_all_into(self, out: Buffer, boxes: Boxes, groups: int = 1, sees: int = ALL, owner: int = 0, fixed: bool = False) -> int:
         """The same, with the handles written to a buffer, and how many boxes were added.
@@ -247,7 +249,7 @@ class World:
         work = workspace()
         with self._lock:
             status = library.pw_add(self._held, boxes.first, boxes.count, how, out.first, out.count, work.count)
-        return status, _counted(work)
+        return status, counted(work)
 
     def move_all(self, handles: Handles, boxes: Boxes) -> None:
         """Moves boxes in order, each with its handle. `Stopped` if one is refused, and with ARGUMENT if the lengths differ."""
@@ -261,7 +263,7 @@ class World:
         work = workspace()
         with self._lock:
             status = library.pw_move(self._held, bodies.first, bodies.count, places.first, places.count, work.count)
-        return status, _counted(work)
+        return status, counted(work)
 
     def remove_all(self, handles: Handles) -> None:
         """Removes boxes in order. `Stopped` if one is refused."""
@@ -273,7 +275,7 @@ class World:
         rows, work = rows_of(HANDLES, handles), workspace()
         with self._lock:
             status = library.pw_remove(self._held, rows.first, rows.count, work.count)
-        return status, _counted(work)
+        return status, counted(work)
 
     def update(self) -> List[Tuple[int, int, int]]:
         """Ends the frame, and gives what became of each pair: an event and the two slots. Take `end_frame` and `pair_changes`."""
@@ -287,7 +289,7 @@ class World:
         EXHAUSTED, NO_MEMORY: all is as before.
         """
         with self._lock:
-            status = _pw_update(self._world, self._counts_at)
+            status = _pw_update(self._held_at, self._counts_at)
         if status:
             raise Refused(status)
 
@@ -310,7 +312,7 @@ class World:
         room = self._counts.pairs + self._counts.pairs // 8 + 8
         while True:
             memory, rows = new_rows(PAIRS, room)
-            count = _checked(*self._copied(library.pw_pairs_now, 0, rows))
+            count = checked(*self._copied(library.pw_pairs_now, 0, rows))
             if count <= room:
                 return _pairs(memory[: count * PAIRS.size])
             room = count
@@ -337,7 +339,7 @@ class World:
         if expected < room.value:
             work = workspace()
             with self._lock:
-                status = short(self._world, NONE, work.found_at, room, work.count_at)
+                status = short(self._held_at, NONE, work.found_at, room, work.count_at)
             if status:
                 raise Refused(status)
             count = work.count.value
@@ -352,7 +354,7 @@ class World:
         start, room, parts = 0, expected + 1, []
         while True:
             memory, rows = new_rows(kind, room)
-            copied = _checked(*self._copied(copies, start, rows))
+            copied = checked(*self._copied(copies, start, rows))
             parts.append(memory[: copied * kind.size])
             if copied < room:
                 return values(bytearray().join(parts))
@@ -362,143 +364,28 @@ class World:
         work = workspace()
         with self._lock:
             status = copies(self._held, start, rows.first, rows.count, work.count)
-        return status, _counted(work)
+        return status, counted(work)
 
     def pairs_into(self, out: Buffer, start: int = 0) -> int:
         """Writes the pairs from number `start` on, as many as there is room for, and tells how many those are."""
-        return _checked(*self._copied(library.pw_pairs, _from(start), room_of(PAIRS, out)))
+        return checked(*self._copied(library.pw_pairs, _from(start), room_of(PAIRS, out)))
 
     def pairs_now_into(self, out: Buffer, start: int = 0) -> int:
         """Writes those of `pairs_now` from number `start` on, as many as there is room for, and tells how many all of them are."""
-        return _checked(*self._copied(library.pw_pairs_now, _from(start), room_of(PAIRS, out)))
+        return checked(*self._copied(library.pw_pairs_now, _from(start), room_of(PAIRS, out)))
 
     def pair_events_into(self, out: Buffer, start: int = 0) -> int:
         """Writes the events from number `start` on, as many as there is room for, and tells how many those are."""
-        return _checked(*self._copied(library.pw_events, _from(start), room_of(EVENTS, out)))
+        return checked(*self._copied(library.pw_events, _from(start), room_of(EVENTS, out)))
 
     def pair_changes_into(self, out: Buffer, start: int = 0) -> int:
         """Writes the changes from number `start` on, as many as there is room for, and tells how many those are."""
-        return _checked(*self._copied(library.pw_changes, _from(start), room_of(EVENTS, out)))
-
-    def hits(self, question: Question, mask: int = ALL) -> List[Handle]:
-        """The live boxes of the groups of `mask` that meet a box, hold a point, or meet a ray or a segment, in order of their slots.
-
-        ARGUMENT if a box is inverted, NO_MEMORY.
-        """
-        return self._found(_pw_hits, _query(question, mask))
-
-    def hits_into(self, out: Buffer, question: Question, mask: int = ALL) -> int:
-        """Writes the first of them to a buffer, and tells how many there are, which may be more than it has room for."""
-        return self._found_into(library.pw_hits, RawQuery.from_buffer_copy(_query(question, mask)), out)
-
-    def ray_hits(self, origin: Iterable[int], direction: Iterable[int], mask: int = ALL) -> List[int]:
-        """The slots of the boxes that a ray of raw numbers meets, in the order in which it meets them. `ray_handles` gives handles."""
-        work = self._asked(_pw_ray_hits, _ray(origin, direction, mask))
-        slots = [slot for (slot,) in _SLOT.iter_unpack(work.found[: 8 * work.count.value])]
-        kept.append(work)
-        return slots
-
-    def ray_handles(self, origin: Iterable[int], direction: Iterable[int], mask: int = ALL) -> List[Handle]:
-        """The boxes that a ray without end meets, in the order in which it first meets them, and then of their slots. NO_MEMORY."""
-        return self._found(_pw_ray_hits, _ray(origin, direction, mask))
-
-    def ray_handles_into(self, out: Buffer, origin: Iterable[int], direction: Iterable[int], mask: int = ALL) -> int:
-        """Writes the first of them to a buffer, and tells how many there are, which may be more than it has room for."""
-        return self._found_into(library.pw_ray_hits, RawRay.from_buffer_copy(_ray(origin, direction, mask)), out)
-
-    def ray_first(self, origin: Iterable[int], direction: Iterable[int], mask: int = ALL) -> Optional[Hit]:
-        """The box that a ray meets first, where, and by which side, or None if it meets no box. It looks for no other hit. NO_MEMORY."""
-        return self._first(_pw_ray_first, _ray(origin, direction, mask))
-
-    def cast_first(self, box: Box, by: Iterable[int], mask: int = ALL) -> Optional[Hit]:
-        """The same for a box that is moved by a displacement. INVERTED, NO_MEMORY."""
-        return self._first(_pw_cast_first, _cast(box, by, mask))
-
-    def ray_meets(self, origin: Iterable[int], direction: Iterable[int], handle: Handle) -> Optional[Hit]:
-        """Where a ray meets one live box, and by which side, or None if it doesn't meet it. STALE.
-
-        The box may be in any group. With `ray_handles` it tells where each box is met.
-        """
-        return self._first(_pw_ray_meets, _ray(origin, direction, ALL), RawHandle.from_buffer_copy(packed_handle(handle)))
-
-    def cast_meets(self, box: Box, by: Iterable[int], handle: Handle) -> Optional[Hit]:
-        """The same for a box that is moved by a displacement. INVERTED, which is asked first, STALE."""
-        return self._first(_pw_cast_meets, _cast(box, by, ALL), RawHandle.from_buffer_copy(packed_handle(handle)))
-
-    def _first(self, asks: Any, *question: Any) -> Optional[Hit]:
-        work = workspace()
-        with self._lock:
-            status = asks(self._world, *question, work.hit_at, work.count_at)
-        hit = _hit(HIT.unpack_from(work.hit)) if not status and work.count.value else None
-        kept.append(work)
-        if status:
-            raise Refused(status)
-        return hit
-
-    def square_to(self, at: Iterable[int], handle: Handle) -> int:
-        """The square of the distance of a place from a live box, in raw units squared, exactly: 0 if the box holds it. STALE.
-
-        Its root, over 65,536, is the distance in units.
-        """
-        place, name, work = _point(at), RawHandle.from_buffer_copy(packed_handle(handle)), workspace()
-        with self._lock:
-            status = _pw_square_to(self._world, place, name, work.square_at)
-        low, high = SQUARE.unpack_from(work.square)
-        kept.append(work)
-        if status:
-            raise Refused(status)
-        return high << 64 | low
-
-    def first_hit(self, origin: Iterable[int], direction: Iterable[int], mask: int = ALL) -> Optional[Handle]:
-        """The box that a ray meets first, or None if it meets no box. NO_MEMORY."""
-        first = self.ray_first(origin, direction, mask)
-        return first.handle if first else None
-
-    def cast_hits(self, box: Box, by: Iterable[int], mask: int = ALL) -> List[Handle]:
-        """The boxes that a box meets while it is moved by a displacement, in the order in which it first meets them, and then of their
-        slots. INVERTED, NO_MEMORY.
-        """
-        return self._found(_pw_cast_hits, _cast(box, by, mask))
-
-    def cast_hits_into(self, out: Buffer, box: Box, by: Iterable[int], mask: int = ALL) -> int:
-        """Writes the first of them to a buffer, and tells how many there are, which may be more than it has room for."""
-        return self._found_into(library.pw_cast_hits, RawCast.from_buffer_copy(_cast(box, by, mask)), out)
-
-    def nearest(self, at: Iterable[int], want: int = 1, mask: int = ALL) -> List[Handle]:
-        """The boxes that are nearest to a place, at most `want`, in order of their distance and then of their slots. NO_MEMORY."""
-        return self._found(_pw_nearest, _near(at, want, mask))
-
-    def nearest_into(self, out: Buffer, at: Iterable[int], want: int = 1, mask: int = ALL) -> int:
-        """Writes the first of them to a buffer, and tells how many there are, which may be more than it has room for."""
-        return self._found_into(library.pw_nearest, RawNear.from_buffer_copy(_near(at, want, mask)), out)
-
-    def _asked(self, asks: Any, question: bytes) -> Workspace:
-        work = workspace()
-        with self._lock:
-            status = asks(self._world, question, work.found_at, MOST, work.count_at)
-        if status:
-            raise Refused(status)
-        return work
-
-    def _found(self, asks: Any, question: bytes) -> List[Handle]:
-        work = self._asked(asks, question)
-        handles = _handles(work.found, work.count.value)
-        kept.append(work)
-        return handles
-
-    def _found_into(self, asks: Any, question: Any, out: Buffer) -> int:
-        return _checked(*self._asked_into(asks, question, room_of(HANDLES, out)))
-
-    def _asked_into(self, asks: Any, question: Any, rows: Rows) -> Tuple[int, int]:
-        work = workspace()
-        with self._lock:
-            status = asks(self._held, question, rows.first, rows.count, work.count)
-        return status, _counted(work)
+        return checked(*self._copied(library.pw_changes, _from(start), room_of(EVENTS, out)))
 
     def mark(self) -> None:
         """Marks the world as it stands, for rollback. FULL if MOST_MARKS are held."""
         with self._lock:
-            status = _pw_mark(self._world)
+            status = _pw_mark(self._held_at)
         if status:
             raise Refused(status)
 
@@ -506,7 +393,7 @@ class World:
         """Gives up the oldest marks, so many of them: the world as it stands and the newer marks are as before. NO_MARK if fewer are held."""
         refuse_words(count=count)
         with self._lock:
-            status = _pw_forget(self._world, c_uint32(count))
+            status = _pw_forget(self._held_at, c_uint32(count))
         if status:
             raise Refused(status)
 
@@ -516,7 +403,7 @@ class World:
         NO_MARK, NO_MEMORY. Forget the handles of boxes that came since: they are given again. What `events` and `changes` tell stays.
         """
         with self._lock:
-            status = _pw_back(self._world)
+            status = _pw_back(self._held_at)
         if status:
             raise Refused(status)
 
@@ -524,7 +411,7 @@ class World:
         """What the world is."""
         work = workspace()
         with self._lock:
-            status = _pw_info(self._world, work.info_at)
+            status = _pw_info(self._held_at, work.info_at)
         if status:
             raise Refused(status)
         structure, spent, *others = INFO.unpack_from(work.info)
@@ -532,25 +419,9 @@ class World:
         return Info(Structure(structure), spent != 0, *others)
 
 
-def _counted(work: Workspace) -> int:
-    count = work.count.value
-    kept.append(work)
-    return count
-
-
 def _live(numbers: Tuple[int, ...]) -> Live:
     groups, sees, owner, fixed = numbers[6:]
     return Live(made(Box, numbers[:6]), groups, sees, owner, fixed != 0)
-
-
-def _hit(numbers: Tuple[int, ...]) -> Hit:
-    slot, generation, num, den, axis, side = numbers
-    handle = made(Handle, (slot, generation))
-    return Hit(handle, num, den, axis, _SIDES[side]) if axis < 3 else Hit(handle, num, den, None, None)
-
-
-def _handles(memory: bytearray, count: int) -> List[Handle]:
-    return [made(Handle, numbers) for numbers in HANDLE.iter_unpack(memory[: 8 * count])]
 
 
 def _pairs(read: bytearray) -> List[Pair]:
@@ -563,64 +434,3 @@ def _told(read: bytearray) -> List[Told]:
 
 def _slots_told(read: bytearray) -> List[Tuple[int, int, int]]:
     return list(_SLOTS_TOLD.iter_unpack(read))  # type: ignore[arg-type]
-
-
-def _query(question: Question, mask: int) -> bytes:
-    numbers: Tuple[int, ...]
-    if isinstance(question, Box):
-        kind, numbers = 0, question
-    elif isinstance(question, Point):
-        kind, numbers = 1, (*question, *question)
-    elif isinstance(question, (Ray, Segment)):
-        (x, y, z), (u, v, w) = question
-        kind, numbers = 2 if isinstance(question, Ray) else 3, (x, y, z, u, v, w)
-    else:
-        raise TypeError(f"{question!r} isn't a Box, a Point, a Ray or a Segment")
-    try:
-        return _pack_query(kind, mask, *numbers)
-    except struct.error:
-        refuse_words(mask=mask)
-        refuse_places(*numbers)
-        raise
-
-
-def _ray(origin: Iterable[int], direction: Iterable[int], mask: int) -> bytes:
-    x, y, z = origin
-    u, v, w = direction
-    try:
-        return _pack_ray(mask, x, y, z, u, v, w)
-    except struct.error:
-        refuse_words(mask=mask)
-        refuse_places(x, y, z, u, v, w)
-        raise
-
-
-def _cast(box: Box, by: Iterable[int], mask: int) -> bytes:
-    if not isinstance(box, Box):
-        refuse_kind(box, Box)
-    x, y, z = by
-    try:
-        return _pack_cast(mask, *box, x, y, z)
-    except struct.error:
-        refuse_words(mask=mask)
-        refuse_places(*box, x, y, z)
-        raise
-
-
-def _point(at: Iterable[int]) -> bytes:
-    x, y, z = at
-    try:
-        return POINT.pack(x, y, z)
-    except struct.error:
-        refuse_places(x, y, z)
-        raise
-
-
-def _near(at: Iterable[int], want: int, mask: int) -> bytes:
-    x, y, z = at
-    try:
-        return _pack_near(mask, want, x, y, z)
-    except struct.error:
-        refuse_words(mask=mask, want=want)
-        refuse_places(x, y, z)
-        raise
