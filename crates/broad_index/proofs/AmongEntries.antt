@@ -9,10 +9,10 @@ use Rattle.std.proofs.lemmas.List.Folds.{Any-from_list_any, list_any_at}
 use Rattle.fixed_box.specs.Bounds.{Bounds, meets}
 use Rattle.broad_index.specs.declared.query.Query.{Query}
 use Rattle.broad_index.specs.Found.{found_of, query_meets}
-use Rattle.broad_index.specs.Members.{has_slot, both_meet, meets_query, is_found, is_reached}
+use Rattle.broad_index.specs.Members.{has_slot, both_meet, passes, meets_query, is_found, is_reached}
 use Rattle.broad_index.specs.Reach.{reach_of}
 use Rattle.broad_index.specs.Held.{Holds}
-use Rattle.broad_index.proofs.MapMembers.{passes, slots_where, has_cons}
+use Rattle.broad_index.proofs.MapMembers.{slots_where, has_cons}
 use Rattle.fixed_box.proofs.Bools.{and_false}
 
 -- slots of which a test holds, one after another

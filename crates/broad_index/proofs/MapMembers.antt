@@ -12,12 +12,12 @@ use Rattle.std.proofs.lemmas.List.Folds.{list_any-append}
 use Rattle.fixed_box.specs.Bounds.{Bounds, meets}
 use Rattle.broad_index.specs.declared.pair.Pair.{Pair}
 use Rattle.broad_index.specs.declared.query.Query.{Query}
-use Rattle.broad_index.specs.Found.{found, query_meets}
+use Rattle.broad_index.specs.Found.{found, listed, query_meets}
 use Rattle.slot_lists.specs.RisingLaws.{filtered_rise, mapped_rise}
 use Rattle.broad_index.specs.Near.{partners, near_of, near}
 use Rattle.broad_index.specs.NearRises.{slot_lt, entries_rise}
 use Rattle.fixed_box.proofs.Bools.{true_from, or_false, and_false, and_true}
-use Rattle.broad_index.specs.Members.{same_pair, has_pair, has_slot, slots_rise, both_meet, is_near, meets_query, is_found, is_reached}
+use Rattle.broad_index.specs.Members.{same_pair, has_pair, has_slot, slots_rise, both_meet, is_near, passes, is_listed, meets_query, is_found, is_reached}
 use Rattle.broad_index.specs.Reach.{reach, reach_of}
 use Rattle.fixed_box.proofs.Numbers.{lt_from, eq_cmp, eq_le}
 
@@ -46,11 +46,6 @@ none_below k x (e ∷ es) le h =
     let lt : x < e.0 = lt_from x e.0 (first_so _ _ h) in
     let ne : (k == e.0) ≡ false = grind (arith, nat_tests) in
     at_cons k e es ∙ ap (λ b. cond b (Some e.1) (at k es)) ne ∙ none_below k x es le (second_so _ _ h)
-
--- a test of an entry, of a slot whose box may be absent
-abbrev pub passes : (ℕ × Bounds → Bool) → ℕ → Option Bounds → Bool
-passes p k None = false
-passes p k (Some b) = p (k, b)
 
 abbrev pub slots_where : (ℕ × Bounds → Bool) → List (ℕ × Bounds) → List ℕ
 slots_where p es = map (λ e. e.0) (filter p es)
@@ -171,6 +166,12 @@ module _ (bodies : FinMap nat_cmp Bounds) where
       ∙ sym
       (ap (λ o. nat_lt p.a p.b && both_meet o (get bodies p.b)) (get-entries bodies p.a)
       ∙ ap (λ o. nat_lt p.a p.b && both_meet (at p.a (entries bodies)) o) (get-entries bodies p.b))
+
+  pub listed_members : (p : ℕ × Bounds → Bool) (k : ℕ) → has_slot (listed p bodies) k ≡ is_listed p bodies k
+  listed_members p k = has_where p k (entries bodies) sorted ∙ sym (ap (passes p k) (get-entries bodies k))
+
+  pub listed_rises : (p : ℕ × Bounds → Bool) → slots_rise (listed p bodies) ≡ true
+  listed_rises p = where_rise p (entries bodies) sorted
 
   pub found_members : (query : Query) (k : ℕ) → has_slot (found bodies query) k ≡ is_found bodies query k
   found_members query k =

@@ -32,6 +32,10 @@ kind_of (Swept cast) = kind.Swept
 abbrev pub found_of : List (ℕ × Bounds) → Query → List ℕ
 found_of es query = map (λ e. e.0) (filter (λ e. query_meets query e.1) es)
 
+-- the present slots whose entries pass a test, rising
+abbrev pub listed : (ℕ × Bounds → Bool) → FinMap nat_cmp Bounds → List ℕ
+listed p bodies = map (λ e. e.0) (filter p (entries bodies))
+
 -- All present slots whose boxes meet the query, rising.
 abbrev pub found : FinMap nat_cmp Bounds → Query → List ℕ
 found bodies query = found_of (entries bodies) query

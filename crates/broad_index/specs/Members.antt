@@ -34,6 +34,15 @@ abbrev pub meets_query : Query → Option Bounds → Bool
 meets_query query None = false
 meets_query query (Some b) = query_meets query b
 
+-- a box that is there, and passes a test with its slot
+abbrev pub passes : (ℕ × Bounds → Bool) → ℕ → Option Bounds → Bool
+passes p slot None = false
+passes p slot (Some b) = p (slot, b)
+
+-- present, and its entry passes a test
+abbrev pub is_listed : (ℕ × Bounds → Bool) → FinMap nat_cmp Bounds → ℕ → Bool
+is_listed p bodies slot = passes p slot (get bodies slot)
+
 -- present, and its box meets the query
 abbrev pub is_found : FinMap nat_cmp Bounds → Query → ℕ → Bool
 is_found bodies query slot = meets_query query (get bodies slot)

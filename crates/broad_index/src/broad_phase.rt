@@ -156,8 +156,9 @@ pub trait BroadPhase {
 
     /// Shows the present boxes to a visitor, except those that need not be shown. After an `Err` nothing is said of the visitor.
     ///
-    /// A structure whose `descends` is true passes by what the visitor doesn't admit, and looks into what it prefers first. The
-    /// others ask for the visitor's query and show what that finds, in order of slots, for which a list is taken from `alloc`.
+    /// A structure whose `descends` is true passes by what the visitor doesn't admit, or doesn't ask for any more, and looks into
+    /// what it prefers first. The others ask for the visitor's query and show what that finds, in order of slots. All except trees
+    /// take a list from `alloc` for what they find.
     fn visit<V: Visitor>(&self, alloc: Global, visitor: &mut V) -> Result<(), NoMemory>
         ensures sound { OnOk result (spent self.now ≡ false) }
         ensures seen { OnOk result ((seen : List (ℕ × Bounds)) → V.saw visitor.old seen → V.saw visitor.new (seen ++ map.entries (bodies self.now))) }

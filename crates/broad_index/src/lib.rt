@@ -15,6 +15,8 @@ mod renewal;
 mod rising;
 mod seeker;
 mod sharing;
+mod showing;
+mod slot_entries;
 mod slot_search;
 mod visitor;
 
@@ -29,6 +31,7 @@ pub use renewal::renew_pairs;
 pub use rising::{push_rising_pairs, push_rising_slots, settle_pairs, settle_slots_from};
 pub use seeker::Seeker;
 pub use sharing::{FEWEST_SOUGHT, pays_threads};
+pub use showing::{listed_law, show_slots};
 pub use slot_search::seek_many;
 pub use visitor::Visitor;
 pub use work_pieces::{Gate, NoGate};

@@ -4,7 +4,7 @@ ghost use Rattle.std.specs.Prelude.{◌≡◌, true, false, if◌then◌else◌,
 ghost use Rattle.std.specs.FinMap as map;
 ghost use Rattle.broad_index.specs.Fresh.{IsFresh};
 
-use crate::entries::Entries;
+use crate::slot_entries::Entries;
 use crate::{BroadPhase, NoSeeker, Pair, Query};
 use fixed_box::{FBox, NoMemory};
 use std::alloc::Global;

@@ -1,6 +1,6 @@
 //! Pairs and slots put in order, each once.
 
-ghost use Rattle.std.specs.Prelude.{◌≡◌, ℕ, ◌≤◌, true, ◌++◌, drop, length, take, vec_len, OnOk, OnErr};
+ghost use Rattle.std.specs.Prelude.{◌≡◌, ℕ, ◌≤◌, Bool, true, ◌++◌, drop, length, take, vec_len, OnOk, OnErr};
 ghost use Rattle.std.specs.List.{dedup};
 ghost use Rattle.std.specs.Prelude.{eqb};
 ghost use Rattle.broad_index.specs.declared.pair.Pair.{Pair};
@@ -8,9 +8,9 @@ ghost use Rattle.broad_index.specs.declared.query.Query.{Query};
 ghost use Rattle.std.specs.Ordering.{nat_cmp};
 ghost use Rattle.std.specs.FinMap.{FinMap};
 ghost use Rattle.fixed_box.specs.Bounds.{Bounds};
-ghost use Rattle.broad_index.specs.Found.{found};
+ghost use Rattle.broad_index.specs.Found.{found, listed};
 ghost use Rattle.broad_index.specs.Near.{near, rises};
-ghost use Rattle.broad_index.specs.Members.{has_pair, has_slot, slots_rise, is_near, is_found, is_reached};
+ghost use Rattle.broad_index.specs.Members.{has_pair, has_slot, slots_rise, is_near, is_listed, is_found, is_reached};
 ghost use Rattle.broad_index.specs.Reach.{reach};
 
 use crate::Pair;
@@ -63,6 +63,8 @@ pub fn push_rising_slots(slots: &mut Vec<u32>, out: &mut Vec<u32>) -> Result<(),
 /// Puts the slots from one place of a list on in rising order, each once. What stands before stays. It takes no memory.
 pub fn settle_slots_from(from: usize, slots: &mut Vec<u32>)
     requires within { from ≤ vec_len slots.old }
+    ensures listed { (bodies : FinMap nat_cmp Bounds) (p : ℕ × Bounds → Bool) → ((k : ℕ) → has_slot (drop from slots.old.items) k ≡ is_listed p bodies k)
+        → slots.new.items ≡ take from slots.old.items ++ listed p bodies }
     ensures found { (bodies : FinMap nat_cmp Bounds) (query : Query) → ((k : ℕ) → has_slot (drop from slots.old.items) k ≡ is_found bodies query k)
         → slots.new.items ≡ take from slots.old.items ++ found bodies query }
     ensures reach { (bodies : FinMap nat_cmp Bounds) (slot : ℕ) → ((k : ℕ) → has_slot (drop from slots.old.items) k ≡ is_reached bodies slot k)

@@ -3,7 +3,7 @@ use Rattle.std.proofs.Common.{◌≡◌, ℕ, ◌+◌, ◌-◌, ◌++◌, List, 
 use Rattle.std.proofs.lemmas.Grind.{common_steps}
 use Rattle.std.proofs.Math.Seq.{take-append-add}
 use Rattle.broad_index.specs.Members.{has_slot}
-use Rattle.broad_index.proofs.Answering.{found_is, reach_is}
+use Rattle.broad_index.proofs.Answering.{listed_is, found_is, reach_is}
 use Rattle.broad_index.proofs.rising.settle_slots_from.Goals as goal
 
 module _ (c : goal.After-truncate) where
@@ -28,6 +28,11 @@ module _ (c : goal.After-truncate) where
       grind (arith, common_steps)
       in
       c.settle_front-kept.ensures.members k ∙ ap (λ ks. has_slot ks k) tail
+
+pub returns-clause-listed : goal.returns-clause-listed
+returns-clause-listed c bodies p is =
+    left c ∙ ap (λ ks. take c.args.from c.args.slots.now.items ++ ks)
+    (listed_is bodies p (front c) c.settle_front-kept.ensures.rises (λ k. members c k ∙ is k))
 
 pub returns-clause-found : goal.returns-clause-found
 returns-clause-found c bodies query is =

@@ -4,7 +4,7 @@ use Rattle.std.specs.FinMap.{entries}
 use Rattle.std.proofs.Common.{append-nil}
 use Rattle.std.proofs.lemmas.List.{drop_all}
 use Rattle.broad_index.proofs.PlainEntries.{entries_are, zip_long}
-use Rattle.broad_index.proofs.entries.Entries.push_each.Goals as goal
+use Rattle.broad_index.proofs.slot_entries.Entries.push_each.Goals as goal
 
 pub push_partners-requires : goal.push_partners-requires
 push_partners-requires c =

@@ -4,7 +4,7 @@ use Rattle.std.specs.Ordering.{nat_cmp}
 use Rattle.std.specs.FinMap.{FinMap, contains_key, insert as insert_key}
 use Rattle.fixed_box.specs.Bounds.{Bounds}
 use Rattle.broad_index.proofs.PlainEntries.{inserted_are, inserted_map, placed, zip_long}
-use Rattle.broad_index.proofs.entries.Entries.insert.Goals as goal
+use Rattle.broad_index.proofs.slot_entries.Entries.insert.Goals as goal
 
 pub insert-requires : goal.insert-requires
 insert-requires c =

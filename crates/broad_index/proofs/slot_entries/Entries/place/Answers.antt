@@ -6,7 +6,7 @@ use Rattle.broad_index.specs.Entries.{Placed}
 use Rattle.std.specs.List.Sorted.{IsPartitionedBy}
 use Rattle.std.proofs.lemmas.List.Sorted.{IsPartitionPoint-from_clause}
 use Rattle.broad_index.proofs.PlainEntries.{entries_are, slots_parted, within_zip, zip_long}
-use Rattle.broad_index.proofs.entries.Entries.place.Goals as goal
+use Rattle.broad_index.proofs.slot_entries.Entries.place.Goals as goal
 
 pub returns : goal.returns
 returns c =

@@ -2,7 +2,7 @@
 use Rattle.std.proofs.Common.{◌≡◌, ◌-◌, ◌++◌, drop, take, vec_len}
 use Rattle.std.specs.FinMap.{entries}
 use Rattle.broad_index.specs.Near.{near_of}
-use Rattle.broad_index.proofs.entries.Entries.push_each.Given as goal
+use Rattle.broad_index.proofs.slot_entries.Entries.push_each.Given as goal
 
 abbrev pub invariant-slots : goal.invariant-slots
 invariant-slots l = record {

@@ -5,8 +5,8 @@ use Rattle.std.specs.Ordering.{nat_cmp}
 use Rattle.std.specs.FinMap.{FinMap, get}
 use Rattle.fixed_box.specs.Bounds.{Bounds}
 use Rattle.broad_index.proofs.PlainEntries.{held_nowhere, held_there, placed}
-use Rattle.broad_index.proofs.entries.Entries.box_of.Goals.{else-at-len-via-then-at-len+else-index-slot, else-at-len-via-else-at-len}
-use Rattle.broad_index.proofs.entries.Entries.box_of.Goals as goal
+use Rattle.broad_index.proofs.slot_entries.Entries.box_of.Goals.{else-at-len-via-then-at-len+else-index-slot, else-at-len-via-else-at-len}
+use Rattle.broad_index.proofs.slot_entries.Entries.box_of.Goals as goal
 
 pub returns-then-index-slot : goal.returns-then-index-slot
 returns-then-index-slot c =

@@ -9,7 +9,7 @@ use Rattle.std.proofs.lemmas.Result.{on_ok_weaker}
 use Rattle.lane_boxes.specs.Places.{places}
 use Rattle.broad_index.specs.Entries.{pairs_at}
 use Rattle.broad_index.proofs.PlainEntries.{entries_are, few_slots, near_step, partners_named, zip_long}
-use Rattle.broad_index.proofs.entries.Entries.push_partners.Goals as goal
+use Rattle.broad_index.proofs.slot_entries.Entries.push_partners.Goals as goal
 
 pub overflow_add-at : goal.overflow_add-at
 overflow_add-at c =

@@ -4,7 +4,7 @@ use Rattle.std.specs.FinMap.{entries}
 use Rattle.fixed_box.specs.Bounds.{Bounds}
 use Rattle.broad_index.specs.Found.{found_of, query_meets}
 use Rattle.broad_index.proofs.PlainEntries.{entries_are, few_slots, found_named}
-use Rattle.broad_index.proofs.entries.Entries.push_found.Goals as goal
+use Rattle.broad_index.proofs.slot_entries.Entries.push_found.Goals as goal
 
 pub push_met_places-requires-clause-few : goal.push_met_places-requires-clause-few
 push_met_places-requires-clause-few c =

@@ -4,7 +4,7 @@ use Rattle.std.specs.Ordering.{nat_cmp}
 use Rattle.std.specs.FinMap.{FinMap, len}
 use Rattle.fixed_box.specs.Bounds.{Bounds}
 use Rattle.broad_index.proofs.PlainEntries.{few_slots, slots_counted}
-use Rattle.broad_index.proofs.entries.Entries.len.Goals as goal
+use Rattle.broad_index.proofs.slot_entries.Entries.len.Goals as goal
 
 pub overflow_cast-result : goal.overflow_cast-result
 overflow_cast-result c = omega (arith, c.len.ensures, few_slots c.self.inside.slots.items c.self.inside.boxes.boxes c.self.invariant)

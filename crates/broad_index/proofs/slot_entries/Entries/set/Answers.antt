@@ -1,23 +1,13 @@
--- The entry at the place of its slot is taken out as in the map.
+-- The box at the place of its slot is put anew as in the map.
 use Rattle.std.proofs.Common.{ap, ◌∙◌, arith}
 use Rattle.std.specs.Ordering.{nat_cmp}
-use Rattle.std.specs.FinMap.{FinMap, contains_key, remove as remove_key}
+use Rattle.std.specs.FinMap.{FinMap, contains_key, insert as insert_key}
 use Rattle.fixed_box.specs.Bounds.{Bounds}
-use Rattle.broad_index.proofs.PlainEntries.{at_within, placed, removed_are, removed_map}
-use Rattle.broad_index.proofs.entries.Entries.remove.Goals as goal
+use Rattle.broad_index.proofs.PlainEntries.{at_within, placed, set_are, set_map}
+use Rattle.broad_index.proofs.slot_entries.Entries.set.Goals as goal
 
-pub remove-requires : goal.remove-requires
-remove-requires c =
-    let slots = c.self.inside.slots.items in
-    let boxes = c.self.inside.boxes.boxes in
-    let a = c.self.invariant in
-    let at = c.place-at.result in
-    let p = placed slots boxes a c.args.self.now c.args.slot at c.self.view_is c.place-at.ensures in
-    let present = ap (λ (m : FinMap nat_cmp Bounds). contains_key m c.args.slot) c.self.view_is ∙ c.requires in
-    omega (arith, at_within slots boxes a c.args.slot at p present)
-
-pub remove-requires-2 : goal.remove-requires-2
-remove-requires-2 c =
+pub set-requires : goal.set-requires
+set-requires c =
     let slots = c.self.inside.slots.items in
     let boxes = c.self.inside.boxes.boxes in
     let a = c.self.invariant in
@@ -34,9 +24,8 @@ invariant_of-self c =
     let at = c.place-at.result in
     let p = placed slots boxes a c.args.self.now c.args.slot at c.self.view_is c.place-at.ensures in
     let present = ap (λ (m : FinMap nat_cmp Bounds). contains_key m c.args.slot) c.self.view_is ∙ c.requires in
-    let law = c.beside_laws.ensures.removed slots boxes at a.same in
-    rw (c.remove.ensures.items, c.remove-2.ensures.boxes)
-    (removed_are slots boxes a c.args.slot at p present law)
+    let law = c.beside_laws.ensures.set slots boxes at c.args.body a.same in
+    rw c.set.ensures.boxes (set_are slots boxes a c.args.slot at p present c.args.body c.space_law.ensures law)
 
 pub returns : goal.returns
 returns c =
@@ -46,7 +35,7 @@ returns c =
     let at = c.place-at.result in
     let p = placed slots boxes a c.args.self.now c.args.slot at c.self.view_is c.place-at.ensures in
     let present = ap (λ (m : FinMap nat_cmp Bounds). contains_key m c.args.slot) c.self.view_is ∙ c.requires in
-    let law = c.beside_laws.ensures.removed slots boxes at a.same in
-    rw (c.remove.ensures.items, c.remove-2.ensures.boxes)
-    (removed_map slots boxes a c.args.slot at p present law
-    ∙ ap (λ (m : FinMap nat_cmp Bounds). remove_key m c.args.slot) c.self.view_is)
+    let law = c.beside_laws.ensures.set slots boxes at c.args.body a.same in
+    rw c.set.ensures.boxes
+    (set_map slots boxes a c.args.slot at p present c.args.body law
+    ∙ ap (λ (m : FinMap nat_cmp Bounds). insert_key m c.args.slot c.args.body) c.self.view_is)
