@@ -70,10 +70,10 @@ le_raised : (at lo : ℤ) (h : ℕ) → negsuc 2147483647 ≤ℤ at → lo ≤�
 le_raised at lo h low high le = grind (arith, ints)
 
 -- squares rise with the numbers
-square_le : (m n : ℕ) → m ≤ n → m * m ≤ n * n
+pub square_le : (m n : ℕ) → m ≤ n → m * m ≤ n * n
 square_le m n le = omega (arith, mul-le-mul_left m le, mul-le-mul_left n le)
 
-root_le : (m n : ℕ) → m * m ≤ n * n → m ≤ n
+pub root_le : (m n : ℕ) → m * m ≤ n * n → m ≤ n
 root_le m n h = elim (cases_lt n m) as (λ _. m ≤ n) [
   | inl lt ↦ let more : n + 1 ≤ m = omega arith in absurd (omega (arith, h, square_le (n + 1) m more))
   | inr le ↦ le

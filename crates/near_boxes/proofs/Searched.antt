@@ -1,16 +1,17 @@
 -- A search for the nearest: each box that is shown takes its place, and what is farther than all that it has changes nothing.
 use Rattle.std.proofs.Common.{◌≡◌, ℕ, zero, suc, ◌<◌, ◌≤◌, true, false, cond, ◌&&◌, ◌||◌, nat_lt, ◌-◌, List, [], ◌∷◌, ◌++◌, map, take, drop, length}
 use Rattle.std.proofs.Common.{get_or, append-nil, length-append, refl, sym, ap, subst, ◌∙◌, arith, inl, inr}
-use Rattle.std.specs.Prelude.{insert, Option, None, Some, is_some, nat_le}
+use Rattle.std.specs.Prelude.{insert, Option, None, Some, is_some, nat_le, slice_index_or}
 use Rattle.std.specs.List.{filter, filter_map, cons_option, list_all, AllByRecursion, All, Contains}
 use Rattle.std.specs.Ordering.{nat_cmp, is_lt}
 use Rattle.std.specs.FinMap.{FinMap, contains_key, entries, get}
-use Rattle.std.proofs.lemmas.List.{take-append-drop, map-append}
-use Rattle.std.proofs.lemmas.Bool.{cases_Bool, true≢false, false≢true}
+use Rattle.std.proofs.lemmas.List.{take-append-drop, map-append, get_or_read}
+use Rattle.std.proofs.lemmas.Bool.{cases_Bool, cases_lt, true≢false, false≢true}
 use Rattle.std.proofs.lemmas.Bool.Decides.{nat_tests}
 use Rattle.std.proofs.lemmas.List.Elements.{filter-append, recursion_from_All, All-contains_itself, Contains-append_left, Contains-append_right}
 use Rattle.std.proofs.lemmas.List.Sorted.{IsPermutation-sym, IsPermutation-to_front}
-use Rattle.fixed_box.specs.Bounds.{Bounds, meets, encloses}
+use Rattle.fixed_box.proofs.Bools.{or_true}
+use Rattle.fixed_box.specs.Bounds.{Bounds, meets, encloses, fattened}
 use Rattle.fixed_box.specs.Space.{space}
 use Rattle.ordered_lists.specs.Ordered.{placed, ordered_by}
 use Rattle.ordered_lists.specs.Ascending.{Ascends, chain}
@@ -20,12 +21,12 @@ use Rattle.ordered_lists.specs.FrontLaws.{cut_front}
 use Rattle.near_boxes.specs.declared.near.Near.{Near}
 use Rattle.near_boxes.specs.Nearest.{near_cmp, seen_about, square_apart, nearest_about}
 use Rattle.near_boxes.specs.Bodies.{AreInSpace, AreAmong}
-use Rattle.near_boxes.specs.Within.{within, within_of}
+use Rattle.near_boxes.specs.Within.{within, within_of, Reaches}
 use Rattle.near_boxes.specs.NearOrder.{near_total, ties_one, no_farther}
 use Rattle.slot_lists.specs.Present.{present}
 use Rattle.broad_index.specs.Members.{has_slot}
 use Rattle.broad_index.specs.MapEntries.{Looked, looked_in, slots_up, has_slots}
-use Rattle.near_boxes.proofs.Reached.{all_near}
+use Rattle.near_boxes.proofs.Reached.{all_near, near_meets}
 use Rattle.near_boxes.proofs.Gathered.{all_pass, gathered, there, all_gathered}
 use Rattle.near_boxes.proofs.NearestPoint.{hull_square}
 use Rattle.near_boxes.specs.Search.{is_asked, is_nearer, is_last_nearer, seen_of, LieInSpace, HasNearest}
@@ -119,6 +120,18 @@ take_placed (suc w) x (y ∷ ys) =
     head zero = refl
     head (suc v) = ap (λ zs. y ∷ zs) (take_take v (suc v) ys (omega arith))
 
+-- the last is nearer than what is farther
+pub last_nearer : (ns : List Near) (at : ℕ) (last : Near) → at ≡ length ns - 1 → at < length ns → last ≡ slice_index_or ns at last
+    → is_last_nearer (suc last.square) ns ≡ true
+last_nearer ns at last is lt read =
+    let none : Near = record { slot = 0; square = 0 } in
+    let same : get_or ns (length ns - 1) none ≡ last = subst (λ k. get_or ns k none ≡ last) is (sym (get_or_read ns at last lt read none)) in
+    ap (λ m. nat_le (length ns) 0 || is_nearer (suc last.square) m) same ∙ ap (λ b. nat_le (length ns) 0 || b) (below last.square)
+    ∙ or_true (nat_le (length ns) 0)
+  where
+    below : (n : ℕ) → nat_lt n (suc n) ≡ true
+    below n = grind (arith, nat_tests)
+
 -- ---- boxes that are shown
 
 module _ (bodies : FinMap nat_cmp Bounds) (to : Bounds) where
@@ -153,33 +166,60 @@ module _ (bodies : FinMap nat_cmp Bounds) (to : Bounds) where
   lifted seen more [] h = tt
   lifted seen more (e ∷ es) h = (Contains-append_right seen more e h.0, lifted seen more es h.1)
 
+  -- what holds of more boxes holds of members of all
+  of_more : (P : ℕ × Bounds → Type 0) (seen more : List (ℕ × Bounds)) → All P more → AllByRecursion (λ e. Contains (seen ++ more) e × P e) more
+  of_more P seen more h =
+      with_members P (seen ++ more) more (lifted seen more more (recursion_from_All (Contains more) more (All-contains_itself more)))
+      (recursion_from_All P more h)
+
   module _ (want : ℕ) (nears : List Near) where
     pub missed : (seen more : List (ℕ × Bounds)) → HasNearest bodies to want nears seen → All (λ e. meets space e.1 ≡ false) more
         → HasNearest bodies to want nears (seen ++ more)
     missed seen more has out in_space =
-        let members : AllByRecursion (Contains (seen ++ more)) more = lifted seen more more (recursion_from_All (Contains more) more (All-contains_itself more)) in
         let none : seen_of bodies to more ≡ [] =
-        none_asked more (out_of_space (seen ++ more) more in_space
-        (with_members (λ e. meets space e.1 ≡ false) (seen ++ more) more members (recursion_from_All (λ e. meets space e.1 ≡ false) more out))) in
+        none_asked more (out_of_space (seen ++ more) more in_space (of_more (λ e. meets space e.1 ≡ false) seen more out)) in
         has (λ e c a. in_space e (Contains-append_left seen more e c) a)
         ∙ ap (λ l. take want (ordered_by near_cmp l))
         (sym (append-nil (seen_of bodies to seen)) ∙ ap (λ l. seen_of bodies to seen ++ l) (sym none) ∙ sym (seen_more seen more))
 
-    far_off : (hull : Bounds) (than : ℕ) → than ≡ square_apart to hull → (es : List (ℕ × Bounds)) → AllByRecursion (λ e. encloses hull e.1 ≡ true) es
-        → filter (is_nearer than) (seen_of bodies to es) ≡ []
-    far_off hull than is [] h = refl
-    far_off hull than is (e ∷ es) h =
-        let rest = far_off hull than is es h.1 in
-        let le : square_apart to hull ≤ square_apart to e.1 = hull_square to hull e.1 h.0 in
-        let out : is_nearer than (seen_about to e) ≡ false = not_below (square_apart to e.1) than (omega arith) in
-        elim (contains_key bodies e.0) as
-        (λ b. filter (is_nearer than) (cond b (seen_about to e ∷ seen_of bodies to es) (seen_of bodies to es)) ≡ []) [
-          | true ↦ ap (λ b. cond b (seen_about to e ∷ filter (is_nearer than) (seen_of bodies to es)) (filter (is_nearer than) (seen_of bodies to es))) out ∙ rest
-          | false ↦ rest
+    -- none of those that are asked for is nearer than a square
+    abbrev AreFar : ℕ → List (ℕ × Bounds) → Type 0
+    AreFar than es = AllByRecursion (λ e. contains_key bodies e.0 ≡ true → than ≤ square_apart to e.1) es
+
+    far_off : (than : ℕ) (es : List (ℕ × Bounds)) → AreFar than es → filter (is_nearer than) (seen_of bodies to es) ≡ []
+    far_off than [] h = refl
+    far_off than (e ∷ es) h =
+        let rest = far_off than es h.1 in
+        elim (cases_Bool (contains_key bodies e.0)) as (λ _. filter (is_nearer than) (seen_of bodies to (e ∷ es)) ≡ []) [
+          | inl t ↦
+              ap (λ b. filter (is_nearer than) (cond b (seen_about to e ∷ seen_of bodies to es) (seen_of bodies to es))) t
+              ∙ ap (λ b. cond b (seen_about to e ∷ filter (is_nearer than) (seen_of bodies to es)) (filter (is_nearer than) (seen_of bodies to es)))
+              (not_below (square_apart to e.1) than (h.0 t))
+              ∙ rest
+          | inr f ↦ ap (λ b. filter (is_nearer than) (cond b (seen_about to e ∷ seen_of bodies to es) (seen_of bodies to es))) f ∙ rest
         ]
       where
         not_below : (n than : ℕ) → than ≤ n → nat_lt n than ≡ false
         not_below n than le = grind (arith, nat_tests)
+
+    -- what lies in a hull is as far as the hull, or farther
+    far_within : (hull : Bounds) (than : ℕ) → than ≡ square_apart to hull → (es : List (ℕ × Bounds)) → AllByRecursion (λ e. encloses hull e.1 ≡ true) es
+        → AreFar than es
+    far_within hull than is [] h = tt
+    far_within hull than is (e ∷ es) h =
+        let le : square_apart to hull ≤ square_apart to e.1 = hull_square to hull e.1 h.0 in (λ _. omega (arith, le, is), far_within hull than is es h.1)
+
+    -- what doesn't meet the fattened box is farther than it reaches
+    far_around : meets space to ≡ true → (margin last : ℕ) → Reaches margin last → (all es : List (ℕ × Bounds)) → LieInSpace bodies all
+        → AllByRecursion (λ e. Contains all e × (meets (fattened to margin) e.1 ≡ false)) es → AreFar (suc last) es
+    far_around here margin last r all [] h out = tt
+    far_around here margin last r all (e ∷ es) h out = (
+      (λ asked. elim (cases_lt last (square_apart to e.1)) as (λ _. suc last ≤ square_apart to e.1) [
+        | inl lt ↦ omega (arith, lt)
+        | inr le ↦ absurd (true≢false (sym (near_meets to here e.1 (h e out.0.0 asked) margin last r le) ∙ out.0.1))
+      ]),
+      far_around here margin last r all es h out.1,
+    )
 
     nearer_bound : (than : ℕ) (m n : Near) → is_lt (near_cmp n m) ≡ false → is_nearer than n ≡ true → is_nearer than m ≡ true
     nearer_bound than m n h g = still m.square n.square than (no_farther m n h) g
@@ -222,15 +262,15 @@ module _ (bodies : FinMap nat_cmp Bounds) (to : Bounds) where
         some : (k : ℕ) → nat_le (suc k) 0 ≡ false
         some k = grind (arith, nat_tests)
 
-    pub passed : (hull : Bounds) (than : ℕ) → than ≡ square_apart to hull → want ≤ length nears → is_last_nearer than nears ≡ true
-        → (seen more : List (ℕ × Bounds)) → HasNearest bodies to want nears seen → All (λ e. encloses hull e.1 ≡ true) more
-        → HasNearest bodies to want nears (seen ++ more)
-    passed hull than is full last seen more has far in_space =
+    -- Where there are enough, and the last is nearer than all others, these change nothing.
+    others_far : (than : ℕ) → want ≤ length nears → is_last_nearer than nears ≡ true → (seen more : List (ℕ × Bounds))
+        → nears ≡ take want (ordered_by near_cmp (seen_of bodies to seen)) → AreFar than more
+        → nears ≡ take want (ordered_by near_cmp (seen_of bodies to (seen ++ more)))
+    others_far than full last seen more nears_are far =
         let p = is_nearer than in
         let known = seen_of bodies to seen in
         let others = seen_of bodies to more in
-        let nears_are : nears ≡ take want (ordered_by near_cmp known) = has (λ e c a. in_space e (Contains-append_left seen more e c) a) in
-        let none : filter p others ≡ [] = far_off hull than is more (recursion_from_All (λ e. encloses hull e.1 ≡ true) more far) in
+        let none : filter p others ≡ [] = far_off than more far in
         let both : filter p (known ++ others) ≡ filter p known =
         filter-append p known others ∙ ap (λ l. filter p known ++ l) none ∙ append-nil (filter p known) in
         let order = ordered_by near_cmp known in
@@ -248,6 +288,21 @@ module _ (bodies : FinMap nat_cmp Bounds) (to : Bounds) where
         ∙ ap (λ l. take want (ordered_by near_cmp l)) (sym both)
         ∙ sym (cut_front near_cmp near_total p (nearer_bound than) want (known ++ others) enough_both)
         ∙ ap (λ l. take want (ordered_by near_cmp l)) (sym (seen_more seen more))
+
+    pub passed : (hull : Bounds) (than : ℕ) → than ≡ square_apart to hull → want ≤ length nears → is_last_nearer than nears ≡ true
+        → (seen more : List (ℕ × Bounds)) → HasNearest bodies to want nears seen → All (λ e. encloses hull e.1 ≡ true) more
+        → HasNearest bodies to want nears (seen ++ more)
+    passed hull than is full last seen more has far in_space =
+        others_far than full last seen more (has (λ e c a. in_space e (Contains-append_left seen more e c) a))
+        (far_within hull than is more (recursion_from_All (λ e. encloses hull e.1 ≡ true) more far))
+
+    pub out_of_reach : meets space to ≡ true → (margin last : ℕ) → Reaches margin last → want ≤ length nears → is_last_nearer (suc last) nears ≡ true
+        → (seen more : List (ℕ × Bounds)) → HasNearest bodies to want nears seen → All (λ e. meets (fattened to margin) e.1 ≡ false) more
+        → HasNearest bodies to want nears (seen ++ more)
+    out_of_reach here margin last r full nearer seen more has out in_space =
+        others_far (suc last) full nearer seen more (has (λ e c a. in_space e (Contains-append_left seen more e c) a))
+        (far_around here margin last r (seen ++ more) more in_space
+        (of_more (λ e. meets (fattened to margin) e.1 ≡ false) seen more out))
 
     pub not_asked : (e : ℕ × Bounds) → contains_key bodies e.0 ≡ false → (seen : List (ℕ × Bounds)) → HasNearest bodies to want nears seen
         → HasNearest bodies to want nears (seen ++ e ∷ [])

@@ -1,6 +1,6 @@
 //! The nearest boxes by one descent: the nearest so far stand in order, and what lies farther than all of them is passed by.
 
-ghost use Rattle.std.specs.Prelude.{◌≡◌, refl, IsTrue, ◌≤◌, ◌++◌, [], false, take, insert, IfOk, OnOk, length};
+ghost use Rattle.std.specs.Prelude.{◌≡◌, ℕ, refl, IsTrue, ◌≤◌, ◌++◌, [], false, take, insert, IfOk, OnOk, length};
 ghost use Rattle.std.proofs.Common.{◌∙◌};
 ghost use Rattle.broad_index.specs.declared.query.Query.TheVariants.{Region};
 ghost use Rattle.fixed_box.specs.Bounds.{meets};
@@ -9,8 +9,9 @@ ghost use Rattle.fixed_box.specs.declared.TheConstants.{SLOTS};
 ghost use Rattle.ordered_lists.specs.Ascending.{Ascends};
 ghost use Rattle.ordered_lists.specs.Ordered.{placed};
 ghost use Rattle.near_boxes.specs.Bodies.{AreInSpace, AreAmong};
-ghost use Rattle.near_boxes.specs.Nearest.{nearest_about, near_cmp, square_apart};
+ghost use Rattle.near_boxes.specs.Nearest.{nearest_about, near_cmp, square_apart, squared};
 ghost use Rattle.near_boxes.specs.Search.{HasNearest, any_order, is_last_nearer};
+ghost use Rattle.near_boxes.specs.Within.{Reaches};
 
 use crate::distance::square_apart;
 use crate::{Bodies, Near};
@@ -38,9 +39,15 @@ impl<T: Bodies> Visitor for NearestSearch<'_, T> {
 
     ghost any_order = { λ s. any_order (T.bodies s.bodies.now) s.to s.want s.nears.items };
 
-    // All of space: no box is nearer for what it meets.
+    // As far as the last, once it has as many as it wants, since what is farther comes after it. Before that all of space.
     fn query(&self) -> Query {
-        Query::Region(all_of_space())
+        space_law(&self.to);
+        let len = self.nears.len();
+        if len == 0 || len < self.want {
+            return Query::Region(all_of_space());
+        }
+        let reach = reach_of(self.nears[len - 1].square);
+        Query::Region(self.to.fatten(reach))
     }
 
     // As far as the farthest a lower slot may come before it.
@@ -84,6 +91,21 @@ pub(crate) fn descend<B: BroadPhase, T: Bodies>(
     };
     index.visit(alloc, &mut search)?;
     Ok(search.nears)
+}
+
+// The least margin whose square is at least so much, or the greatest margin, which fattens any box to all of space.
+fn reach_of(square: u128) -> u32
+    ensures reaches { Reaches result square }
+    ensures least { (margin : ℕ) → square ≤ squared margin → result ≤ margin }
+{
+    let narrow = u64::try_from(square).unwrap_or(u64::MAX);
+    let below = narrow.isqrt();
+    let root = if below * below < narrow {
+        below + 1
+    } else {
+        below
+    };
+    u32::try_from(root).unwrap_or(u32::MAX)
 }
 
 // The box that all of space is.

@@ -32,8 +32,8 @@ const MOST_BY_DESCENT: u32 = 64;
 /// as before.
 ///
 /// Up to 64 are sought by one descent of an index that descends, which passes by what lies farther than those it has. It takes
-/// memory for these where `out` isn't empty, or has no room for one more than `want`. Else it asks the index for the box
-/// fattened a little, and then fattened more until `want` bodies lie within its margin: at most 21 times, of which the last
+/// memory for these if `out` isn't empty, or has no room for one more than `want`, and what `visit` of the index takes. Else it
+/// asks the index for the box fattened a little, and then fattened more until `want` bodies lie within its margin: at most 21 times, of which the last
 /// asks for all of space. So over a structure that keeps boxes by where they are, its time goes by how many lie about as near
 /// as the last of the answer. It takes memory for the slots that the fattened box meets, and for those of the bodies that are
 /// near enough.
