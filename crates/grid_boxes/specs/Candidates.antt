@@ -29,12 +29,17 @@ HasMetAfter bodies level body slots =
 abbrev pub IsRegionOf : FinMap nat_cmp Bounds → Query → Bounds → Type 0
 IsRegionOf bodies query region = (q : ℕ) (b : Bounds) → get bodies q ≡ Some b → query_meets query b ≡ true → meets region b ≡ true
 
--- the slots of a level whose boxes meet a query are in a list
-abbrev pub HasHits : FinMap nat_cmp Bounds → ℕ → Query → List ℕ → Type 0
-HasHits bodies level query slots =
-    (q : ℕ) (b : Bounds) → get bodies q ≡ Some b → level_of b ≡ level → query_meets query b ≡ true → has_slot slots q ≡ true
+-- the slots of a level whose boxes meet a region and a query are in a list
+abbrev pub HasHits : FinMap nat_cmp Bounds → ℕ → Bounds → Query → List ℕ → Type 0
+HasHits bodies level region query slots =
+    (q : ℕ) (b : Bounds) → get bodies q ≡ Some b → level_of b ≡ level → meets region b ≡ true → query_meets query b ≡ true → has_slot slots q ≡ true
 
 -- the same of the levels below an end
+abbrev pub HasHitsIn : FinMap nat_cmp Bounds → ℕ → Bounds → Query → List ℕ → Type 0
+HasHitsIn bodies end region query slots =
+    (q : ℕ) (b : Bounds) → get bodies q ≡ Some b → level_of b < end → meets region b ≡ true → query_meets query b ≡ true → has_slot slots q ≡ true
+
+-- the slots of the levels below an end whose boxes meet a query are in a list
 abbrev pub HasHitsBelow : FinMap nat_cmp Bounds → ℕ → Query → List ℕ → Type 0
 HasHitsBelow bodies end query slots =
     (q : ℕ) (b : Bounds) → get bodies q ≡ Some b → level_of b < end → query_meets query b ≡ true → has_slot slots q ≡ true

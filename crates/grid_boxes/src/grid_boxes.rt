@@ -6,8 +6,7 @@ ghost use Rattle.fixed_box.specs.Bounds.{Bounds, meets};
 ghost use Rattle.grid_boxes.specs.Grid.{AreKeyed, meets_part};
 ghost use Rattle.grid_cells.specs.Sized.{IsSized, is_held};
 ghost use Rattle.grid_cells.specs.Appended.{Appends, Stays};
-ghost use Rattle.grid_boxes.specs.Candidates.{HasHits, HasHitsBelow, HasMet, HasMetAfter, HasMetIn};
-ghost use Rattle.grid_boxes.specs.Candidates.{IsBare, IsEnd, IsRegionOf};
+ghost use Rattle.grid_boxes.specs.Candidates.{HasHits, HasHitsIn, HasMet, HasMetAfter, HasMetIn, IsBare, IsEnd};
 ghost use Rattle.fixed_box.specs.Space.{space};
 
 use crate::hull::{grown, part_in};
@@ -210,7 +209,7 @@ impl GridBoxes {
         Ok(())
     }
 
-    /// Appends slots, and among them all whose boxes meet a line that has a region.
+    /// Appends slots, and among them all whose boxes meet a region and a line.
     pub fn push_along<T: BoxTest>(
         &self,
         region: &FBox,
@@ -218,8 +217,7 @@ impl GridBoxes {
         test: &T,
         slots: &mut Vec<u32>,
     ) -> Result<(), NoMemory>
-        requires { IsRegionOf self.now (T.asks test.now) region.now }
-        ensures ok { OnOk result (Appends (HasHitsBelow self.now LEVELS (T.asks test.now)) slots.old.items slots.new.items) }
+        ensures ok { OnOk result (Appends (HasHitsIn self.now LEVELS region.now (T.asks test.now)) slots.old.items slots.new.items) }
         ensures err { OnErr result (Stays slots.old.items slots.new.items) }
     {
         match self.part_of(region) {
@@ -228,8 +226,8 @@ impl GridBoxes {
         }
     }
 
-    // The part of a region in which there may be boxes: each box that meets the region meets it. `None` only where no box does.
-    fn part_of(&self, region: &FBox) -> Option<FBox>
+    /// The part of a region in which there may be boxes: each box that meets the region meets it. `None` only if no box does.
+    pub fn part_of(&self, region: &FBox) -> Option<FBox>
         ensures { (slot : ℕ) (b : Bounds) → map.get self.now slot ≡ Some b → meets region.now b ≡ true → IsTrue (meets_part result b) }
     {
         self.sized_law();
@@ -247,8 +245,7 @@ impl GridBoxes {
         test: &T,
         slots: &mut Vec<u32>,
     ) -> Result<(), NoMemory>
-        requires { IsRegionOf self.now (T.asks test.now) region.now }
-        ensures ok { OnOk result (Appends (HasHitsBelow self.now LEVELS (T.asks test.now)) slots.old.items slots.new.items) }
+        ensures ok { OnOk result (Appends (HasHitsIn self.now LEVELS region.now (T.asks test.now)) slots.old.items slots.new.items) }
         ensures err { OnErr result (Stays slots.old.items slots.new.items) }
     {
         'levels: for level in 0..self.levels_end() {
@@ -266,9 +263,8 @@ impl GridBoxes {
         test: &T,
         slots: &mut Vec<u32>,
     ) -> Result<(), NoMemory>
-        requires level { level < LEVELS }
-        requires region { IsRegionOf self.now (T.asks test.now) region.now }
-        ensures ok { OnOk result (Appends (HasHits self.now level (T.asks test.now)) slots.old.items slots.new.items) }
+        requires { level < LEVELS }
+        ensures ok { OnOk result (Appends (HasHits self.now level region.now (T.asks test.now)) slots.old.items slots.new.items) }
         ensures err { OnErr result (Stays slots.old.items slots.new.items) }
     {
         if !self.has_some(level) || self.follow(level, region, path, test, slots)? {
@@ -287,9 +283,9 @@ impl GridBoxes {
         test: &T,
         slots: &mut Vec<u32>,
     ) -> Result<bool, NoMemory>
-        requires level { level < LEVELS }
-        requires region { IsRegionOf self.now (T.asks test.now) region.now }
-        ensures whole { IfOk result (λ whole. whole ≡ true → Appends (HasHits self.now level (T.asks test.now)) slots.old.items slots.new.items) }
+        requires { level < LEVELS }
+        ensures whole { IfOk result (λ whole. whole ≡ true
+            → Appends (HasHits self.now level region.now (T.asks test.now)) slots.old.items slots.new.items) }
         ensures less { IfOk result (λ whole. whole ≡ false → slots.new.items ≡ slots.old.items) }
         ensures err { OnErr result (Stays slots.old.items slots.new.items) }
     {

@@ -32,6 +32,18 @@ pub(crate) fn part_in(hull: &FBox, region: &FBox) -> Option<FBox>
     )
 }
 
+/// The common part of two boxes, or the first of them if they have none: what meets both meets it.
+pub fn common_part(a: &FBox, b: &FBox) -> FBox
+    ensures { (c : Bounds) → IsTrue (meets a.now c) → IsTrue (meets b.now c) → IsTrue (meets result c) }
+{
+    let lo = greater(&a.lo(), &b.lo());
+    let hi = lesser(&a.hi(), &b.hi());
+    match FBox::new(lo, hi) {
+        Some(part) => part,
+        None => *a,
+    }
+}
+
 // The greater coordinates of two points.
 fn greater(p: &Point, q: &Point) -> Point
     ensures { (r : Point) → IsTrue (is_at_most p.now r) → IsTrue (is_at_most q.now r) → IsTrue (is_at_most result r) }

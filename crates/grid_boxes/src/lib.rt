@@ -20,4 +20,5 @@ mod standing_cells;
 pub use box_copies::{BoxCopies, PACKED};
 pub use bucket_boxes::BucketBoxes;
 pub use grid_boxes::{BOXES_PER_SCANNED, GridBoxes};
+pub use hull::common_part;
 pub use slot_box::SlotBox;

@@ -2,7 +2,7 @@
 
 /// An axis of space.
 #[derive(Clone, Copy)]
-pub(crate) enum CutAxis {
+pub enum CutAxis {
     X,
     Y,
     Z,

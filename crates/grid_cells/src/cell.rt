@@ -136,7 +136,7 @@ fn side_of(level: u8) -> i64
 }
 
 // A number, stopped at the ends of 32 bits.
-fn clamped(x: i64) -> i32
+pub(crate) fn clamped(x: i64) -> i32
     ensures low { (y : ℤ) → negsuc 2147483647 ≤ℤ y → x ≤ℤ y → result ≤ℤ y }
     ensures high { (y : ℤ) → y ≤ℤ pos 2147483647 → y ≤ℤ x → y ≤ℤ result }
 {

@@ -14,13 +14,14 @@ mod later_cells;
 mod line_path;
 mod near_cells;
 
+pub use block_cut::CutAxis;
 pub use cell::{FARTHEST_CELL, cell_in, cell_of, standing_cell};
 pub use cell_block::CellBlock;
 pub use cell_row::{CellRow, row_of};
 pub use cell_walk::{RowSearch, search_block, search_later};
 pub use crossed_cells::visit_crossed;
 pub use later_cells::LaterCells;
-pub use line_path::LinePath;
+pub use line_path::{LinePath, PathPlace};
 pub use near_cells::{
     block_beside, cells_after, count_beside, row_at, visit_block, visit_later, visit_row, with_x,
 };

@@ -3,7 +3,7 @@
 ghost use Rattle.std.specs.Prelude.{◌<◌};
 
 use crate::block_cut::{BlockCut, CutAxis};
-use crate::cell::{reach_of, start_of};
+use crate::cell::{clamped, reach_of, start_of};
 use crate::cell_block::CellBlock;
 use broad_index::Query;
 use cell_table::LEVELS;
@@ -16,6 +16,8 @@ use ray_slabs::WPoint;
 pub struct LinePath {
     // The axis on which the line goes farthest, where it starts on it, and the ends of its region there.
     main: CutAxis,
+    // Whether it goes up on that axis.
+    upward: bool,
     start: i64,
     least: i64,
     most: i64,
@@ -65,6 +67,7 @@ impl LinePath {
         };
         LinePath {
             main,
+            upward: far >= 0,
             start,
             least: i64::from(least),
             most: i64::from(most),
@@ -78,6 +81,30 @@ impl LinePath {
     fn resting(region: &FBox) -> LinePath {
         let at = WPoint::of(&region.lo());
         LinePath::new(&at, &Way { x: 0, y: 0, z: 0 }, region)
+    }
+
+    /// Where the first of so many parts ends, as long as one another, of the line's way through a box.
+    pub fn next_place(&self, body: &FBox, parts: u32) -> PathPlace {
+        let lo = body.lo();
+        let hi = body.hi();
+        let (lo, hi) = match self.main {
+            CutAxis::X => (lo.x, hi.x),
+            CutAxis::Y => (lo.y, hi.y),
+            CutAxis::Z => (lo.z, hi.z),
+        };
+        let from = i64::from(lo).max(self.least);
+        let end = i64::from(hi).min(self.most);
+        let part = end.wrapping_sub(from).wrapping_div(i64::from(parts.max(1)));
+        let at = if self.upward {
+            from.wrapping_add(part)
+        } else {
+            end.wrapping_sub(part)
+        };
+        PathPlace {
+            axis: self.main,
+            at: clamped(at),
+            upward: self.upward,
+        }
     }
 
     /// About how many steps it takes to follow the line through a block.
@@ -174,6 +201,14 @@ impl LinePath {
             .min(self.most)
             .wrapping_sub(self.start)
     }
+}
+
+/// A place on the axis on which a line goes farthest, and whether the line goes up there.
+#[derive(Clone, Copy)]
+pub struct PathPlace {
+    pub axis: CutAxis,
+    pub at: i32,
+    pub upward: bool,
 }
 
 impl Way {

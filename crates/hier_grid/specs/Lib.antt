@@ -1,3 +1,4 @@
 pub mod Listing
 pub mod Search
+pub mod Visits
 pub mod WalkFinds

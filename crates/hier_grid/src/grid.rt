@@ -12,11 +12,12 @@ use crate::found::Found;
 use crate::grid_listing::GridListing;
 use crate::grid_search::GridSearch;
 use crate::hits::{push_hits, push_reach};
+use crate::visits::show_boxes;
 use broad_index::{
-    BroadPhase, FEWEST_SOUGHT, Pair, PairSeeker, Query, Seeker, join_pieces, push_rising_pairs,
-    settle_pairs,
+    BroadPhase, FEWEST_SOUGHT, Pair, PairSeeker, Query, Seeker, Visitor, join_pieces,
+    push_rising_pairs, settle_pairs,
 };
-use cell_table::CellTable;
+use cell_table::{BucketList, CellTable};
 use fixed_box::{FBox, NoMemory, SLOTS};
 use grid_boxes::{GridBoxes, SlotBox};
 use std::alloc::Global;
@@ -49,6 +50,10 @@ const LISTED_FROM: u32 = 1_024;
 /// path, and a part that the line misses is passed by. The block reaches no further than a hull, which grows with each box
 /// that comes or moves, and shrinks only where no box is left. A level through which the line would take more steps than there are sixteenths of
 /// its boxes is scanned.
+///
+/// `visit` shows a visitor rings about the place that it prefers: the first one reaches as far as a cell of the level with most
+/// boxes, each later one twice as far, or four times if the ring before it had none, until the visitor looks no farther. If it looks along a line, eight parts of the line's way are shown, one
+/// after another, until the visitor admits nothing that is left. Each takes a list for what it finds.
 ///
 /// Changes take no memory, and a time that doesn't grow with the number of boxes; `new` takes some, and so does a search for
 /// pairs. A query takes none but what the caller's list grows by: its candidates, more than its hits, stand behind what is
@@ -97,6 +102,18 @@ impl HierGrid {
         ensures { AreKeyed self.now result.now }
     {
         self.kept.cells()
+    }
+
+    /// The boxes as the grid keeps them.
+    pub(crate) fn kept(&self) -> &GridBoxes
+        ensures { result.now ≡ self.now }
+    {
+        &self.kept
+    }
+
+    /// Where boxes lie in heaps, if that is known.
+    pub(crate) fn heaps(&self) -> Option<&BucketList> {
+        self.listing.heaps()
     }
 
     /// How many comparisons of two exact boxes `pairs` and `pairs_with` have made, as far as 64 bits go.
@@ -213,6 +230,14 @@ impl BroadPhase for HierGrid {
 
     fn hits(&self, query: &Query, out: &mut Vec<u32>) -> Result<(), NoMemory> {
         push_hits(&self.kept, self.listing.heaps(), query, out)
+    }
+
+    fn visit<V: Visitor>(&self, alloc: Global, visitor: &mut V) -> Result<(), NoMemory> {
+        show_boxes(self, alloc, visitor)
+    }
+
+    fn descends(&self) -> bool {
+        true
     }
 
     fn box_of(&self, slot: u32) -> Option<FBox> {

@@ -6,7 +6,8 @@ ghost use Rattle.broad_index.specs.Found.{found};
 ghost use Rattle.broad_index.specs.declared.query.Query.TheVariants.{Swept};
 ghost use Rattle.broad_index.specs.Members.{is_found};
 ghost use Rattle.broad_index.specs.Reach.{reach};
-ghost use Rattle.grid_boxes.specs.Candidates.{HasHitsBelow, HasMetIn, IsRegionOf};
+ghost use Rattle.grid_boxes.specs.Candidates.{HasHitsBelow, HasHitsIn, HasMetIn, IsRegionOf};
+ghost use Rattle.grid_cells.specs.Appended.{Appends};
 
 use crate::partners::is_partner;
 use box_cast::Cast;
@@ -36,6 +37,32 @@ pub(crate) fn push_hits(
         Query::Spot(_) => push_region_hits(kept, heaps, &region, query, out),
         Query::Swept(cast) => push_cast_hits(kept, &region, cast, out),
         Query::Along(_) | Query::Between(_) => push_line_hits(kept, &region, query, out),
+    }
+}
+
+/// Appends slots, and among them those of all boxes that meet both a region and a query.
+pub(crate) fn push_hits_in(
+    kept: &GridBoxes,
+    heaps: Option<&BucketList>,
+    region: &FBox,
+    query: &Query,
+    out: &mut Vec<u32>,
+) -> Result<(), NoMemory>
+    ensures { OnOk result (Appends (HasHitsIn kept.now LEVELS region.now query.now) out.old.items out.new.items) }
+{
+    match query {
+        Query::Region(_) | Query::Spot(_) => kept.push_candidates(region, heaps, &mut 0, out),
+        Query::Swept(cast) => {
+            let path = LinePath::of(query, region);
+            kept.push_along(region, &path, &CastTest::of(cast), out)
+        }
+        Query::Along(_) | Query::Between(_) => {
+            let path = LinePath::of(query, region);
+            match LineTest::of(query) {
+                Some(prepared) => kept.push_along(region, &path, &prepared, out),
+                None => kept.push_along(region, &path, query, out),
+            }
+        }
     }
 }
 

@@ -7,5 +7,5 @@ use Rattle.grid_cells.specs.AppendLaws.{none}
 use Rattle.grid_boxes.proofs.grid_boxes.GridBoxes.push_along.Goals as goal
 
 pub returns-in-None-clause-ok : goal.returns-in-None-clause-ok
-returns-in-None-clause-ok g c = none _ _ _ refl (λ q b e below m.
-    absurd (false≢true (subst (λ (o : Option Bounds). meets_part o b ≡ true) c.in-None.is (c.part_of.ensures q b e (c.requires q b e m)))))
+returns-in-None-clause-ok g c = none _ _ _ refl (λ q b e below r m.
+    absurd (false≢true (subst (λ (o : Option Bounds). meets_part o b ≡ true) c.in-None.is (c.part_of.ensures q b e r))))

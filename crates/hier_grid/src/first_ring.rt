@@ -1,0 +1,118 @@
+//! Where a visitor of a grid is shown boxes first.
+
+ghost use Rattle.std.specs.Prelude.{◌≡◌, ℕ, Some, IsTrue};
+ghost use Rattle.std.specs.FinMap as map;
+ghost use Rattle.fixed_box.specs.Bounds.{Bounds, encloses};
+ghost use Rattle.fixed_box.specs.Space.{space};
+
+use broad_index::Visitor;
+use cell_table::LEVELS;
+use fixed_box::{FBox, Fix, Point};
+use grid_boxes::GridBoxes;
+
+// So often a hull is halved at most: by 2^32 on each axis.
+const MOST_HALVINGS: u32 = 96;
+
+/// About the place that a visitor prefers among boxes in a hull, a ring that reaches as far as a cell of the level with most boxes,
+/// and how far that is. It is for speed alone.
+pub(crate) fn preferred_ring<V: Visitor>(
+    kept: &GridBoxes,
+    hull: &FBox,
+    visitor: &V,
+) -> (FBox, u32) {
+    let margin = cell_side(fullest_level(kept));
+    let mut place = *hull;
+    for _ in 0..MOST_HALVINGS {
+        if place.longest_side() <= margin {
+            break;
+        }
+        place = preferred_half(&place, visitor);
+    }
+    (place.fatten(margin), margin)
+}
+
+// The level with most boxes.
+fn fullest_level(kept: &GridBoxes) -> u8 {
+    let mut most = 0;
+    let mut fullest = 0;
+    for level in 0..LEVELS {
+        let boxes = kept.level_len(level);
+        if boxes > most {
+            most = boxes;
+            fullest = level;
+        }
+    }
+    fullest
+}
+
+// The side of a level's cells, as far as 2^30 raw units.
+fn cell_side(level: u8) -> u32 {
+    1 << (12 + 2 * level.min(9))
+}
+
+// The half of a box that a visitor prefers.
+fn preferred_half<V: Visitor>(body: &FBox, visitor: &V) -> FBox {
+    match halves(body) {
+        Some((first, second)) => {
+            if visitor.prefers(&first, &second) {
+                first
+            } else {
+                second
+            }
+        }
+        None => *body,
+    }
+}
+
+// The two halves of a box, cut in the middle of its longest side.
+fn halves(body: &FBox) -> Option<(FBox, FBox)> {
+    let lo = body.lo();
+    let hi = body.hi();
+    let x = hi.x.abs_diff(lo.x);
+    let y = hi.y.abs_diff(lo.y);
+    let z = hi.z.abs_diff(lo.z);
+    let (end, from) = if (x >= y) & (x >= z) {
+        let at = middle(lo.x, hi.x);
+        (Point { x: at, ..hi }, Point { x: at, ..lo })
+    } else if y >= z {
+        let at = middle(lo.y, hi.y);
+        (Point { y: at, ..hi }, Point { y: at, ..lo })
+    } else {
+        let at = middle(lo.z, hi.z);
+        (Point { z: at, ..hi }, Point { z: at, ..lo })
+    };
+    Some((FBox::new(lo, end)?, FBox::new(from, hi)?))
+}
+
+// About the middle of two coordinates.
+fn middle(lo: Fix, hi: Fix) -> Fix {
+    (lo >> 1).wrapping_add(hi >> 1)
+}
+
+/// A box in which all boxes lie.
+pub(crate) fn hull_of(kept: &GridBoxes) -> FBox
+    ensures { (slot : ℕ) (b : Bounds) → map.get kept.now slot ≡ Some b → IsTrue (encloses result b) }
+{
+    match kept.hull() {
+        Some(hull) => hull,
+        // there is no box
+        None => all_of_space(),
+    }
+}
+
+/// The box that all of space is.
+pub(crate) fn all_of_space() -> FBox
+    ensures { result ≡ space }
+{
+    let lo = Point {
+        x: Fix::MIN,
+        y: Fix::MIN,
+        z: Fix::MIN,
+    };
+    let hi = Point {
+        x: Fix::MAX,
+        y: Fix::MAX,
+        z: Fix::MAX,
+    };
+    FBox::new(lo, hi).unwrap()
+}
