@@ -19,6 +19,7 @@ use Rattle.live_table.specs.Table.{Table, IsTable}
 use Rattle.near_boxes.specs.Bodies.{AreInSpace, AreAmong}
 use Rattle.live_table.specs.Bodies.{slots_with_bodies, bodies_of}
 use Rattle.near_boxes.specs.Nearest.{square_apart}
+use Rattle.live_queries.specs.declared.groups.Groups.{Groups}
 use Rattle.live_queries.specs.Pairs.{is_asked_for}
 use Rattle.live_queries.specs.Queries.{is_from, asked_from}
 use Rattle.fixed_box.proofs.Bools.{true_to}
@@ -96,8 +97,8 @@ both_pass p q (e ∷ es) = one (p e) (both_pass p q es)
     one false rest = rest
 
 -- a box of one of the groups, and far enough
-abbrev pub is_asked_from : Bounds → ℕ → ℕ → Live → Bool
-is_asked_from body from mask e = is_asked_for mask e && is_from body from e
+abbrev pub is_asked_from : Bounds → ℕ → Groups → Live → Bool
+is_asked_from body from groups e = is_asked_for groups e && is_from body from e
 
 all_pass : (es : List Live) → filter (λ _. true) es ≡ es
 all_pass [] = refl
@@ -135,29 +136,29 @@ picked_is p (Some e) b h = by_test (p e) h
     by_test true h = (e, refl, (let s : e.body ≡ b = cc in s))
     by_test false h = absurd (cc)
 
-module _ (body : Bounds) (from mask : ℕ) (t : Table) (table : IsTable t) where
+module _ (body : Bounds) (from : ℕ) (groups : Groups) (t : Table) (table : IsTable t) where
   abbrev test : Live → Bool
-  test = is_asked_from body from mask
+  test = is_asked_from body from groups
 
-  asked_both : asked_from t.entries body from mask ≡ filter test t.entries
-  asked_both = both_pass (is_asked_for mask) (is_from body from) t.entries
+  asked_both : asked_from t.entries body from groups ≡ filter test t.entries
+  asked_both = both_pass (is_asked_for groups) (is_from body from) t.entries
 
   -- what a slot has among the boxes that are asked for
-  pub get_asked : (k : ℕ) → get (bodies_of (asked_from t.entries body from mask)) k ≡ picked test (live_at k t.entries)
+  pub get_asked : (k : ℕ) → get (bodies_of (asked_from t.entries body from groups)) k ≡ picked test (live_at k t.entries)
   get_asked k = ap (λ es. get (bodies_of es) k) asked_both ∙ get_passing test t table k
 
   -- and their entries
-  pub entries_asked : entries (bodies_of (asked_from t.entries body from mask)) ≡ slots_with_bodies (asked_from t.entries body from mask)
+  pub entries_asked : entries (bodies_of (asked_from t.entries body from groups)) ≡ slots_with_bodies (asked_from t.entries body from groups)
   entries_asked =
       subst (λ es. entries (bodies_of es) ≡ slots_with_bodies es) (sym asked_both)
       (entries-from_sorted nat_cmp (slots_with_bodies (filter test t.entries)) (true_to _ (sorted_of test t.entries table.rising)))
 
-  pub space_asked : AreInSpace (bodies_of (asked_from t.entries body from mask))
+  pub space_asked : AreInSpace (bodies_of (asked_from t.entries body from groups))
   space_asked k b h =
       let p = picked_is test (live_at k t.entries) b (sym (get_asked k) ∙ h) in
       ap (meets space) (sym p.2) ∙ live_holds (λ e. meets space e.body ≡ true) k t.entries table.in_space p.0 p.1
 
-  pub among_asked : AreAmong (bodies_of (asked_from t.entries body from mask)) (bodies_of t.entries)
+  pub among_asked : AreAmong (bodies_of (asked_from t.entries body from groups)) (bodies_of t.entries)
   among_asked k b h =
       let p = picked_is test (live_at k t.entries) b (sym (get_asked k) ∙ h) in
       get_all t table k ∙ ap (picked (λ _. true)) p.1 ∙ ap (λ x. Some x) p.2

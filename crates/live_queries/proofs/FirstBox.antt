@@ -24,6 +24,7 @@ use Rattle.live_table.specs.declared.handle.Handle.{Handle}
 use Rattle.live_table.specs.Bodies.{slots_with_bodies}
 use Rattle.live_table.specs.Entries.{slot_of, live_at}
 use Rattle.live_table.specs.Table.{Table, IsTable}
+use Rattle.live_queries.specs.declared.groups.Groups.{Groups}
 use Rattle.live_queries.specs.declared.hit.Hit.{Hit}
 use Rattle.live_queries.specs.declared.face.Face.{Face}
 use Rattle.live_queries.specs.declared.first_hit.FirstHit.{FirstHit}
@@ -86,12 +87,12 @@ strictly s t w gt le = by_case (value_cmp w t) refl
 
 -- ---- the first so far
 
-module _ (place : Bounds → Option Fraction) (mask : ℕ) (entries : List Live) where
+module _ (place : Bounds → Option Fraction) (groups : Groups) (entries : List Live) where
   -- boxes that aren't met and asked for change nothing
-  none_more : (best : Option Hit) (shown more : List (ℕ × Bounds)) → FirstSeen place mask entries best shown
-      → ((e : Live) → IsSeenMet place mask entries more e → ⊥) → FirstSeen place mask entries best (shown ++ more)
+  none_more : (best : Option Hit) (shown more : List (ℕ × Bounds)) → FirstSeen place groups entries best shown
+      → ((e : Live) → IsSeenMet place groups entries more e → ⊥) → FirstSeen place groups entries best (shown ++ more)
   none_more best shown more has none =
-      of_fewer place mask entries best shown (shown ++ more)
+      of_fewer place groups entries best shown (shown ++ more)
       (λ e is. record {
         seen = elim (Contains-append_cases shown more (slot_of e, e.body) is.seen) as (λ _. Contains shown (slot_of e, e.body)) [
           | inl c ↦ c
@@ -101,12 +102,12 @@ module _ (place : Bounds → Option Fraction) (mask : ℕ) (entries : List Live)
         met = is.met;
       }) has
 
-  place_is_some : (e : Live) → is_met place mask e ≡ true → is_some (place e.body) ≡ true
-  place_is_some e met = first_so (is_some (place e.body)) (is_asked_for mask e) met
+  place_is_some : (e : Live) → is_met place groups e ≡ true → is_some (place e.body) ≡ true
+  place_is_some e met = first_so (is_some (place e.body)) (is_asked_for groups e) met
 
   -- boxes that the query misses
   pub missed : (meets : Bounds → Bool) → ((b : Bounds) → meets b ≡ is_some (place b)) → (best : Option Hit) (shown more : List (ℕ × Bounds))
-      → FirstSeen place mask entries best shown → All (λ e. meets e.1 ≡ false) more → FirstSeen place mask entries best (shown ++ more)
+      → FirstSeen place groups entries best shown → All (λ e. meets e.1 ≡ false) more → FirstSeen place groups entries best (shown ++ more)
   missed meets asks best shown more has out =
       none_more best shown more has
       (λ e is. true≢false (sym (place_is_some e is.met) ∙ sym (asks e.body)
@@ -114,8 +115,8 @@ module _ (place : Bounds → Option Fraction) (mask : ℕ) (entries : List Live)
 
   module _ (law : (outer inner : Bounds) → IsTrue (encloses outer inner) → IsMetNoLater (place outer) (place inner)) (hull : Bounds) where
     -- boxes in a hull that isn't met
-    pub passed_unmet : is_some (place hull) ≡ false → (best : Option Hit) (shown more : List (ℕ × Bounds)) → FirstSeen place mask entries best shown
-        → All (λ e. IsTrue (encloses hull e.1)) more → FirstSeen place mask entries best (shown ++ more)
+    pub passed_unmet : is_some (place hull) ≡ false → (best : Option Hit) (shown more : List (ℕ × Bounds)) → FirstSeen place groups entries best shown
+        → All (λ e. IsTrue (encloses hull e.1)) more → FirstSeen place groups entries best (shown ++ more)
     passed_unmet unmet best shown more has inside =
         none_more best shown more has
         (λ e is.
@@ -125,7 +126,7 @@ module _ (place : Bounds → Option Fraction) (mask : ℕ) (entries : List Live)
 
     -- a box in a hull that is met behind the first so far
     behind : (hit : Hit) → IsBehind (place hull) (Some hit) → (entry : Live) → IsHit place entries hit entry → (other : Live)
-        → IsTrue (encloses hull other.body) → is_met place mask other ≡ true → is_gt (by_place place entry other) ≡ false
+        → IsTrue (encloses hull other.body) → is_met place groups other ≡ true → is_gt (by_place place entry other) ≡ false
     behind hit late entry is other inside met =
         let t = some_of (place other.body) (place_is_some other met) in
         let s = law hull other.body inside t.0 t.1 in
@@ -140,8 +141,8 @@ module _ (place : Bounds → Option Fraction) (mask : ℕ) (entries : List Live)
         valued a None h = absurd h
         valued a (Some b) h = (b, (refl, equal_is (value_cmp a b) h))
 
-    pub passed_behind : (best : Option Hit) → IsBehind (place hull) best → (shown more : List (ℕ × Bounds)) → FirstSeen place mask entries best shown
-        → All (λ e. IsTrue (encloses hull e.1)) more → FirstSeen place mask entries best (shown ++ more)
+    pub passed_behind : (best : Option Hit) → IsBehind (place hull) best → (shown more : List (ℕ × Bounds)) → FirstSeen place groups entries best shown
+        → All (λ e. IsTrue (encloses hull e.1)) more → FirstSeen place groups entries best (shown ++ more)
     passed_behind None late shown more has inside = absurd late
     passed_behind (Some hit) late shown more has inside = record {
       entry = has.entry;
@@ -157,58 +158,58 @@ module _ (place : Bounds → Option Fraction) (mask : ℕ) (entries : List Live)
 
   -- ---- a box that is shown
 
-  passing_at : (o : Option Live) (e : Live) → o ≡ Some e → is_met place mask e ≡ true → passing (is_met place mask) o ≡ Some e
-  passing_at o e is met = ap (passing (is_met place mask)) is ∙ ap (λ b. cond b (Some e) None) met
+  passing_at : (o : Option Live) (e : Live) → o ≡ Some e → is_met place groups e ≡ true → passing (is_met place groups) o ≡ Some e
+  passing_at o e is met = ap (passing (is_met place groups)) is ∙ ap (λ b. cond b (Some e) None) met
 
-  met_here : (slot : ℕ) (body : Bounds) (e : Live) → IsSeenMet place mask entries ((slot, body) ∷ []) e → met_at place mask entries slot ≡ Some e
-  met_here slot body e is = elim (head_or_later (slot, body) [] (slot_of e, e.body) is.seen) as (λ _. met_at place mask entries slot ≡ Some e) [
+  met_here : (slot : ℕ) (body : Bounds) (e : Live) → IsSeenMet place groups entries ((slot, body) ∷ []) e → met_at place groups entries slot ≡ Some e
+  met_here slot body e is = elim (head_or_later (slot, body) [] (slot_of e, e.body) is.seen) as (λ _. met_at place groups entries slot ≡ Some e) [
     | inl s ↦ passing_at (live_at slot entries) e (ap (λ (x : ℕ × Bounds). live_at x.0 entries) s ∙ is.live) is.met
     | inr r ↦ absurd (nothing (slot_of e, e.body) r)
   ]
 
   -- one that isn't met or asked for
   pub met_none : (best : Option Hit) (shown : List (ℕ × Bounds)) (slot : ℕ) (body : Bounds)
-      → IsBeside (IsHit place entries) None (met_at place mask entries slot) → FirstSeen place mask entries best shown
-      → FirstSeen place mask entries best (shown ++ (slot, body) ∷ [])
+      → IsBeside (IsHit place entries) None (met_at place groups entries slot) → FirstSeen place groups entries best shown
+      → FirstSeen place groups entries best (shown ++ (slot, body) ∷ [])
   met_none best shown slot body beside has =
       none_more best shown ((slot, body) ∷ []) has (λ e is. subst (IsBeside (IsHit place entries) None) (met_here slot body e is) beside)
 
   -- the live box of a hit
   record IsMetAt (hit : Hit) (slot : ℕ) : Type 0 where
     entry : Live
-    at : met_at place mask entries slot ≡ Some entry
+    at : met_at place groups entries slot ≡ Some entry
     is : IsHit place entries hit entry
-    met : is_met place mask entry ≡ true
+    met : is_met place groups entry ≡ true
 
-  met_at_slot : (hit : Hit) (slot : ℕ) → IsBeside (IsHit place entries) (Some hit) (met_at place mask entries slot) → IsMetAt hit slot
+  met_at_slot : (hit : Hit) (slot : ℕ) → IsBeside (IsHit place entries) (Some hit) (met_at place groups entries slot) → IsMetAt hit slot
   met_at_slot hit slot beside = by_live (live_at slot entries) refl beside
     where
-      by_test : (b : Bool) (e : Live) → is_met place mask e ≡ b → live_at slot entries ≡ Some e
+      by_test : (b : Bool) (e : Live) → is_met place groups e ≡ b → live_at slot entries ≡ Some e
           → IsBeside (IsHit place entries) (Some hit) (cond b (Some e) None) → IsMetAt hit slot
       by_test true e met at is = record { entry = e; at = passing_at (live_at slot entries) e at met; is = is; met = met }
       by_test false e met at is = absurd is
 
-      by_live : (o : Option Live) → live_at slot entries ≡ o → IsBeside (IsHit place entries) (Some hit) (passing (is_met place mask) o) → IsMetAt hit slot
+      by_live : (o : Option Live) → live_at slot entries ≡ o → IsBeside (IsHit place entries) (Some hit) (passing (is_met place groups) o) → IsMetAt hit slot
       by_live None at is = absurd is
-      by_live (Some e) at is = by_test (is_met place mask e) e refl at is
+      by_live (Some e) at is = by_test (is_met place groups e) e refl at is
 
   tied : (e : Live) → is_gt (by_place place e e) ≡ false
   tied e = ap is_gt (tied_itself (place_total place) e)
 
   -- one that is met and asked for
   pub met_some : (hit : Hit) (best : Option Hit) (shown : List (ℕ × Bounds)) (slot : ℕ) (body : Bounds)
-      → IsBeside (IsHit place entries) (Some hit) (met_at place mask entries slot) → FirstSeen place mask entries best shown
-      → FirstSeen place mask entries (Some (sooner hit best)) (shown ++ (slot, body) ∷ [])
+      → IsBeside (IsHit place entries) (Some hit) (met_at place groups entries slot) → FirstSeen place groups entries best shown
+      → FirstSeen place groups entries (Some (sooner hit best)) (shown ++ (slot, body) ∷ [])
   met_some hit best shown slot body beside has = by_best best has
     where
       here_is : IsMetAt hit slot
       here_is = met_at_slot hit slot beside
 
-      one : (other : Live) → IsSeenMet place mask entries ((slot, body) ∷ []) other → here_is.entry ≡ other
+      one : (other : Live) → IsSeenMet place groups entries ((slot, body) ∷ []) other → here_is.entry ≡ other
       one other is = let same : Some here_is.entry ≡ Some other = sym here_is.at ∙ met_here slot body other is in let e : here_is.entry ≡ other = cc in e
 
-      first_by : (entry : Live) → ((other : Live) → IsSeenMet place mask entries shown other → is_gt (by_place place entry other) ≡ false)
-          → is_gt (by_place place entry here_is.entry) ≡ false → (other : Live) → IsSeenMet place mask entries (shown ++ (slot, body) ∷ []) other
+      first_by : (entry : Live) → ((other : Live) → IsSeenMet place groups entries shown other → is_gt (by_place place entry other) ≡ false)
+          → is_gt (by_place place entry here_is.entry) ≡ false → (other : Live) → IsSeenMet place groups entries (shown ++ (slot, body) ∷ []) other
           → is_gt (by_place place entry other) ≡ false
       first_by entry before this other is =
           elim (Contains-append_cases shown ((slot, body) ∷ []) (slot_of other, other.body) is.seen) as (λ _. is_gt (by_place place entry other) ≡ false) [
@@ -216,8 +217,8 @@ module _ (place : Bounds → Option Fraction) (mask : ℕ) (entries : List Live)
             | inr c ↦ subst (λ o. is_gt (by_place place entry o) ≡ false) (one other (record { seen = c; live = is.live; met = is.met })) this
           ]
 
-      by_best : (best : Option Hit) → FirstSeen place mask entries best shown
-          → FirstSeen place mask entries (Some (sooner hit best)) (shown ++ (slot, body) ∷ [])
+      by_best : (best : Option Hit) → FirstSeen place groups entries best shown
+          → FirstSeen place groups entries (Some (sooner hit best)) (shown ++ (slot, body) ∷ [])
       by_best None has = record {
         entry = here_is.entry;
         is = here_is.is;
@@ -227,15 +228,15 @@ module _ (place : Bounds → Option Fraction) (mask : ℕ) (entries : List Live)
       by_best (Some b) has =
           let order : by_hit b hit ≡ by_place place has.entry here_is.entry = agree place entries b hit has.entry here_is.entry has.is here_is.is in
           elim (cases_Bool (is_lt (by_hit b hit))) as
-          (λ _. IsFirstSeen place mask entries (cond (is_lt (by_hit b hit)) b hit) (shown ++ (slot, body) ∷ [])) [
-            | inl t ↦ subst (λ c. IsFirstSeen place mask entries (cond c b hit) (shown ++ (slot, body) ∷ [])) (sym t)
+          (λ _. IsFirstSeen place groups entries (cond (is_lt (by_hit b hit)) b hit) (shown ++ (slot, body) ∷ [])) [
+            | inl t ↦ subst (λ c. IsFirstSeen place groups entries (cond c b hit) (shown ++ (slot, body) ∷ [])) (sym t)
                 (record {
                   entry = has.entry;
                   is = has.is;
                   met = has.met;
                   first = first_by has.entry has.first (less_not_greater (by_place place has.entry here_is.entry) (sym (ap is_lt order) ∙ t));
                 })
-            | inr f ↦ subst (λ c. IsFirstSeen place mask entries (cond c b hit) (shown ++ (slot, body) ∷ [])) (sym f)
+            | inr f ↦ subst (λ c. IsFirstSeen place groups entries (cond c b hit) (shown ++ (slot, body) ∷ [])) (sym f)
                 (record {
                   entry = here_is.entry;
                   is = here_is.is;
@@ -266,16 +267,16 @@ live_in k (x ∷ es) e is = elim (cases_Bool (slot_of x == k)) as (λ _. Contain
   | inr f ↦ there x es e (live_in k es e (sym (ap (λ b. cond b (Some x) (live_at k es)) f) ∙ is))
 ]
 
-pub none_seen : (place : Bounds → Option Fraction) (mask : ℕ) (entries : List Live) → FirstSeen place mask entries None []
-none_seen place mask entries = λ e is. nothing (slot_of e, e.body) is.seen
+pub none_seen : (place : Bounds → Option Fraction) (groups : Groups) (entries : List Live) → FirstSeen place groups entries None []
+none_seen place groups entries = λ e is. nothing (slot_of e, e.body) is.seen
 
-module _ (place : Bounds → Option Fraction) (side : Fraction → Bounds → Option Face) (mask : ℕ) (t : Table) (is : IsTable t) where
+module _ (place : Bounds → Option Fraction) (side : Fraction → Bounds → Option Face) (groups : Groups) (t : Table) (is : IsTable t) where
   abbrev met : List Live
-  met = filter (is_met place mask) t.entries
+  met = filter (is_met place groups) t.entries
 
-  seen_met : (e : Live) → Contains met e → IsSeenMet place mask t.entries (slots_with_bodies t.entries) e
+  seen_met : (e : Live) → Contains met e → IsSeenMet place groups t.entries (slots_with_bodies t.entries) e
   seen_met e c =
-      let p = passed (is_met place mask) t.entries e c in
+      let p = passed (is_met place groups) t.entries e c in
       record {
         seen = mapped (λ (x : Live). (slot_of x, x.body)) t.entries e p.0;
         live = found_at t.entries t.entries (all_found t.entries is.rising) e p.0;
@@ -283,12 +284,12 @@ module _ (place : Bounds → Option Fraction) (side : Fraction → Bounds → Op
       }
 
   -- the head of the boxes in order is the first
-  head_is : (hit : Hit) (has : IsFirstSeen place mask t.entries hit (slots_with_bodies t.entries)) (ys : List Live) → ordered_by (by_place place) met ≡ ys
+  head_is : (hit : Hit) (has : IsFirstSeen place groups t.entries hit (slots_with_bodies t.entries)) (ys : List Live) → ordered_by (by_place place) met ≡ ys
       → (told : FirstHit) → IsHitOf place side has.entry told → IsHitOfFirst place side ys (Some told)
   head_is hit has ys e told of = by_list ys e
     where
       among : Contains met has.entry
-      among = passes (is_met place mask) t.entries has.entry (live_in (slot_of has.entry) t.entries has.entry has.is.live) has.met
+      among = passes (is_met place groups) t.entries has.entry (live_in (slot_of has.entry) t.entries has.entry has.is.live) has.met
 
       placed : Contains (ordered_by (by_place place) met) has.entry
       placed = Contains-permutation met (ordered_by (by_place place) met) has.entry (ordered_moves (by_place place) met) among
@@ -298,7 +299,7 @@ module _ (place : Bounds → Option Fraction) (side : Fraction → Bounds → Op
       by_list (h ∷ hs) e =
           let up : Ascends (by_place place) (h ∷ hs) = subst (Ascends (by_place place)) e (ordered_ascends (by_place place) (place_total place) met) in
           let listed : Contains met h = ordered_member (by_place place) met h (subst (λ l. Contains l h) (sym e) (here h hs)) in
-          let seen : IsSeenMet place mask t.entries (slots_with_bodies t.entries) h = seen_met h listed in
+          let seen : IsSeenMet place groups t.entries (slots_with_bodies t.entries) h = seen_met h listed in
           let same : has.entry ≡ h = elim (head_or_later h hs has.entry (subst (λ l. Contains l has.entry) e placed)) as (λ _. has.entry ≡ h) [
             | inl s ↦ sym s
             | inr r ↦
@@ -314,20 +315,20 @@ module _ (place : Bounds → Option Fraction) (side : Fraction → Bounds → Op
           ] in
           subst (λ x. IsHitOf place side x told) same of
 
-  none_is : ((e : Live) → IsSeenMet place mask t.entries (slots_with_bodies t.entries) e → ⊥) → (ys : List Live) → ordered_by (by_place place) met ≡ ys
+  none_is : ((e : Live) → IsSeenMet place groups t.entries (slots_with_bodies t.entries) e → ⊥) → (ys : List Live) → ordered_by (by_place place) met ≡ ys
       → IsHitOfFirst place side ys None
   none_is none [] e = tt
   none_is none (h ∷ hs) e =
       none h (seen_met h (ordered_member (by_place place) met h (subst (λ l. Contains l h) (sym e) (here h hs))))
 
-  pub first_told : (best : Option Hit) → FirstSeen place mask t.entries best (slots_with_bodies t.entries) → (told : Option FirstHit)
-      → IsToldOf place side t.entries best told → IsHitOfFirst place side (met_in_order place t.entries mask) told
+  pub first_told : (best : Option Hit) → FirstSeen place groups t.entries best (slots_with_bodies t.entries) → (told : Option FirstHit)
+      → IsToldOf place side t.entries best told → IsHitOfFirst place side (met_in_order place t.entries groups) told
   first_told None none told is_none =
-      subst (IsHitOfFirst place side (met_in_order place t.entries mask)) (sym is_none) (none_is none (met_in_order place t.entries mask) refl)
+      subst (IsHitOfFirst place side (met_in_order place t.entries groups)) (sym is_none) (none_is none (met_in_order place t.entries groups) refl)
   first_told (Some hit) has told tells =
       let first = tells has.entry has.is in
-      subst (IsHitOfFirst place side (met_in_order place t.entries mask)) (sym first.1.0)
-      (head_is hit has (met_in_order place t.entries mask) refl first.0 first.1.1)
+      subst (IsHitOfFirst place side (met_in_order place t.entries groups)) (sym first.1.0)
+      (head_is hit has (met_in_order place t.entries groups) refl first.0 first.1.1)
 
 -- the first box's handle is the first of all
 pub first_handle : (place : Bounds → Option Fraction) (side : Fraction → Bounds → Option Face) (ys : List Live) (told : Option FirstHit)

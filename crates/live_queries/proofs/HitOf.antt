@@ -7,6 +7,7 @@ use Rattle.ray_slabs.specs.Crossing.{Fraction}
 use Rattle.box_cast.specs.Cast.{IsSameValue}
 use Rattle.live_table.specs.declared.live.Live.{Live}
 use Rattle.live_table.specs.Entries.{slot_of, live_at}
+use Rattle.live_queries.specs.declared.groups.Groups.{Groups}
 use Rattle.live_queries.specs.Pairs.{is_asked_for}
 use Rattle.live_queries.specs.Queries.{is_met}
 use Rattle.live_queries.specs.Beside.{IsBeside, IsHit, passing, met_at}
@@ -27,13 +28,13 @@ met t None h = absurd h
 met t (Some u) h = refl
 
 -- a live box that is asked for and met on the way
-pub one_met : (place : Bounds → Option Fraction) (mask : ℕ) (entries : List Live) (slot : ℕ) (e : Live) → live_at slot entries ≡ Some e → (t : Fraction)
-    → is_asked_for mask e ≡ true → IsSameValue (Some t) (place e.body)
-    → IsBeside (IsHit place entries) (Some (record { entry = t; slot = slot })) (met_at place mask entries slot)
-one_met place mask entries slot e is t asked same =
+pub one_met : (place : Bounds → Option Fraction) (groups : Groups) (entries : List Live) (slot : ℕ) (e : Live) → live_at slot entries ≡ Some e → (t : Fraction)
+    → is_asked_for groups e ≡ true → IsSameValue (Some t) (place e.body)
+    → IsBeside (IsHit place entries) (Some (record { entry = t; slot = slot })) (met_at place groups entries slot)
+one_met place groups entries slot e is t asked same =
     let bears : slot_of e ≡ slot = slot_found slot entries e is in
     let hit : Hit = record { entry = t; slot = slot } in
-    subst (λ o. IsBeside (IsHit place entries) (Some hit) (passing (is_met place mask) o)) (sym is)
+    subst (λ o. IsBeside (IsHit place entries) (Some hit) (passing (is_met place groups) o)) (sym is)
     (subst (λ b. IsBeside (IsHit place entries) (Some hit) (cond b (Some e) None))
     (sym (ap (λ b. is_some (place e.body) && b) asked ∙ ap (λ b. b && true) (met t (place e.body) same)))
     (record { slot = sym bears; live = ap (λ k. live_at k entries) bears ∙ is; same = same }))

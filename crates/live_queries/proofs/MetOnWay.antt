@@ -20,6 +20,7 @@ use Rattle.ordered_lists.specs.Ordered.{ordered_by, TiesAreOne}
 use Rattle.live_table.specs.declared.live.Live.{Live}
 use Rattle.live_table.specs.Entries.{slot_of, live_at, rises}
 use Rattle.live_table.specs.Table.{Table, IsTable}
+use Rattle.live_queries.specs.declared.groups.Groups.{Groups}
 use Rattle.live_queries.specs.Pairs.{is_asked_for}
 use Rattle.live_queries.specs.Queries.{handles, is_met, by_place, met_in_order}
 use Rattle.live_queries.specs.Beside.{AreBeside, IsHit, ListsMet, handle_at, passing, met_at}
@@ -31,23 +32,23 @@ use Rattle.ordered_lists.specs.Ascending.{equal_is}
 
 -- ---- the slots that are looked at have all that are met
 
-module _ (place : Bounds → Option Fraction) (mask : ℕ) (all : List Live) (passes : Live → Bool) where
+module _ (place : Bounds → Option Fraction) (groups : Groups) (all : List Live) (passes : Live → Bool) where
   abbrev test : Live → Bool
-  test = is_met place mask
+  test = is_met place groups
 
   met_of_slots : (es : List Live) → AreFound all es → AllByRecursion (λ e. is_some (place e.body) ≡ true → passes e ≡ true) es
-      → filter_map (met_at place mask all) (map slot_of (filter passes es)) ≡ filter test es
+      → filter_map (met_at place groups all) (map slot_of (filter passes es)) ≡ filter test es
   met_of_slots [] found h = refl
   met_of_slots (e ∷ es) found h =
-      let rest : filter_map (met_at place mask all) (map slot_of (filter passes es)) ≡ filter test es = met_of_slots es found.1 h.1 in
-      elim (cases_Bool (passes e)) as (λ _. filter_map (met_at place mask all) (map slot_of (filter passes (e ∷ es))) ≡ filter test (e ∷ es)) [
+      let rest : filter_map (met_at place groups all) (map slot_of (filter passes es)) ≡ filter test es = met_of_slots es found.1 h.1 in
+      elim (cases_Bool (passes e)) as (λ _. filter_map (met_at place groups all) (map slot_of (filter passes (e ∷ es))) ≡ filter test (e ∷ es)) [
         | inl t ↦
-            ap (λ b. filter_map (met_at place mask all) (map slot_of (cond b (e ∷ filter passes es) (filter passes es)))) t
-            ∙ ap (λ o. cons_option (passing test o) (filter_map (met_at place mask all) (map slot_of (filter passes es)))) found.0
+            ap (λ b. filter_map (met_at place groups all) (map slot_of (cond b (e ∷ filter passes es) (filter passes es)))) t
+            ∙ ap (λ o. cons_option (passing test o) (filter_map (met_at place groups all) (map slot_of (filter passes es)))) found.0
             ∙ kept (test e) e _ _ rest
         | inr f ↦
-            ap (λ b. filter_map (met_at place mask all) (map slot_of (cond b (e ∷ filter passes es) (filter passes es)))) f
-            ∙ rest ∙ sym (ap (λ b. cond (b && is_asked_for mask e) (e ∷ filter test es) (filter test es)) (missed (is_some (place e.body)) (passes e) f h.0))
+            ap (λ b. filter_map (met_at place groups all) (map slot_of (cond b (e ∷ filter passes es) (filter passes es)))) f
+            ∙ rest ∙ sym (ap (λ b. cond (b && is_asked_for groups e) (e ∷ filter test es) (filter test es)) (missed (is_some (place e.body)) (passes e) f h.0))
       ]
     where
       kept : (b : Bool) (e : Live) (xs ys : List Live) → xs ≡ ys → cons_option (cond b (Some e) None) xs ≡ cond b (e ∷ ys) ys
@@ -58,11 +59,11 @@ module _ (place : Bounds → Option Fraction) (mask : ℕ) (all : List Live) (pa
       missed true q f h = sym (h refl) ∙ f
       missed false q f h = refl
 
-met_of_listed : (place : Bounds → Option Fraction) (mask : ℕ) (t : Table) (slots : List ℕ) → IsTable t → ListsMet place t.entries slots
-    → filter_map (met_at place mask t.entries) slots ≡ filter (is_met place mask) t.entries
-met_of_listed place mask t slots is lists =
-    ap (filter_map (met_at place mask t.entries)) lists.listed
-    ∙ met_of_slots place mask t.entries lists.passes t.entries (all_found t.entries is.rising)
+met_of_listed : (place : Bounds → Option Fraction) (groups : Groups) (t : Table) (slots : List ℕ) → IsTable t → ListsMet place t.entries slots
+    → filter_map (met_at place groups t.entries) slots ≡ filter (is_met place groups) t.entries
+met_of_listed place groups t slots is lists =
+    ap (filter_map (met_at place groups t.entries)) lists.listed
+    ∙ met_of_slots place groups t.entries lists.passes t.entries (all_found t.entries is.rising)
     (recursion_from_All (λ e. is_some (place e.body) ≡ true → lists.passes e ≡ true) t.entries lists.met)
 
 -- ---- hits and boxes in the same order
@@ -142,14 +143,14 @@ filter_rises p (e ∷ es) h =
     ]
 
 -- the handles of the hits in order
-pub handles_in_order : (place : Bounds → Option Fraction) (mask : ℕ) (t : Table) (slots : List ℕ) → IsTable t → ListsMet place t.entries slots
-    → (hits sorted : List Hit) → AreBeside (IsHit place t.entries) hits (filter_map (met_at place mask t.entries) slots)
+pub handles_in_order : (place : Bounds → Option Fraction) (groups : Groups) (t : Table) (slots : List ℕ) → IsTable t → ListsMet place t.entries slots
+    → (hits sorted : List Hit) → AreBeside (IsHit place t.entries) hits (filter_map (met_at place groups t.entries) slots)
     → (TiesAreOne by_hit hits → sorted ≡ ordered_by by_hit hits)
-    → filter_map (λ (h : Hit). handle_at t.entries h.slot) sorted ≡ handles (met_in_order place t.entries mask)
-handles_in_order place mask t slots is lists hits sorted beside by_order =
-    let met : List Live = filter (is_met place mask) t.entries in
-    let b : AreBeside (IsHit place t.entries) hits met = subst (AreBeside (IsHit place t.entries) hits) (met_of_listed place mask t slots is lists) beside in
-    let ordered : sorted ≡ ordered_by by_hit hits = by_order (ties_are_one place t.entries hits met (filter_rises (is_met place mask) t.entries is.rising) b) in
+    → filter_map (λ (h : Hit). handle_at t.entries h.slot) sorted ≡ handles (met_in_order place t.entries groups)
+handles_in_order place groups t slots is lists hits sorted beside by_order =
+    let met : List Live = filter (is_met place groups) t.entries in
+    let b : AreBeside (IsHit place t.entries) hits met = subst (AreBeside (IsHit place t.entries) hits) (met_of_listed place groups t slots is lists) beside in
+    let ordered : sorted ≡ ordered_by by_hit hits = by_order (ties_are_one place t.entries hits met (filter_rises (is_met place groups) t.entries is.rising) b) in
     ap (filter_map (λ (h : Hit). handle_at t.entries h.slot)) ordered
     ∙ handles_beside (λ (h : Hit). h.slot) (IsHit place t.entries) t.entries (λ h e r. ap (λ k. live_at k t.entries) r.slot ∙ r.live) (ordered_by by_hit hits)
     (ordered_by (by_place place) met) (ordered_beside (IsHit place t.entries) by_hit (by_place place) (agree place t.entries) hits met b)

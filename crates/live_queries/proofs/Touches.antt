@@ -12,6 +12,7 @@ use Rattle.broad_index.specs.declared.pair.Pair.{Pair}
 use Rattle.broad_index.specs.declared.query.Query.{Query}
 use Rattle.broad_index.specs.Near.{near_of, partners as slot_partners}
 use Rattle.broad_index.specs.Found.{found_of, query_meets}
+use Rattle.live_queries.specs.declared.groups.Groups.{Groups}
 use Rattle.live_queries.specs.Pairs.{may_touch, partners, pairs_of, is_asked_for, hits_of}
 use Rattle.broad_index.specs.Near.{near}
 use Rattle.broad_index.specs.Found.{found}
@@ -74,22 +75,22 @@ module _ (all : List Live) where
       ∙ ap (λ ps. ps ++ filter_map (touching all) (near_of (slots_with_bodies later))) (partners_touch a later found.0 found.1)
       ∙ ap (λ ps. partners a later ++ ps) (pairs_touch later found.1)
 
-  hits_listed : (query : Query) (mask : ℕ) (es : List Live) → AreFound all es
-      → filter_map (listed all mask) (found_of (slots_with_bodies es) query) ≡ hits_of es query mask
-  hits_listed query mask [] found = refl
-  hits_listed query mask (e ∷ es) found =
-      let rest : filter_map (listed all mask) (found_of (slots_with_bodies es) query) ≡ hits_of es query mask = hits_listed query mask es found.1 in
+  hits_listed : (query : Query) (groups : Groups) (es : List Live) → AreFound all es
+      → filter_map (listed all groups) (found_of (slots_with_bodies es) query) ≡ hits_of es query groups
+  hits_listed query groups [] found = refl
+  hits_listed query groups (e ∷ es) found =
+      let rest : filter_map (listed all groups) (found_of (slots_with_bodies es) query) ≡ hits_of es query groups = hits_listed query groups es found.1 in
       elim (query_meets query e.body) as
-      (λ m. filter_map (listed all mask) (map (λ x. x.0) (cond m ((slot_of e, e.body) ∷ filter (λ x. query_meets query x.1) (slots_with_bodies es))
+      (λ m. filter_map (listed all groups) (map (λ x. x.0) (cond m ((slot_of e, e.body) ∷ filter (λ x. query_meets query x.1) (slots_with_bodies es))
       (filter (λ x. query_meets query x.1) (slots_with_bodies es))))
-      ≡ map (λ x. x.handle) (cond (m && is_asked_for mask e) (e ∷ filter (λ x. query_meets query x.body && is_asked_for mask x) es)
-      (filter (λ x. query_meets query x.body && is_asked_for mask x) es))) [
+      ≡ map (λ x. x.handle) (cond (m && is_asked_for groups e) (e ∷ filter (λ x. query_meets query x.body && is_asked_for groups x) es)
+      (filter (λ x. query_meets query x.body && is_asked_for groups x) es))) [
         | false ↦ rest
-        | true ↦ ap (λ o. cons_option (listed_of mask o) (filter_map (listed all mask) (found_of (slots_with_bodies es) query))) found.0
-            ∙ elim (is_asked_for mask e) as (λ t. cons_option (cond t (Some e.handle) None)
-            (filter_map (listed all mask) (found_of (slots_with_bodies es) query))
-            ≡ map (λ x. x.handle) (cond t (e ∷ filter (λ x. query_meets query x.body && is_asked_for mask x) es)
-            (filter (λ x. query_meets query x.body && is_asked_for mask x) es))) [
+        | true ↦ ap (λ o. cons_option (listed_of groups o) (filter_map (listed all groups) (found_of (slots_with_bodies es) query))) found.0
+            ∙ elim (is_asked_for groups e) as (λ t. cons_option (cond t (Some e.handle) None)
+            (filter_map (listed all groups) (found_of (slots_with_bodies es) query))
+            ≡ map (λ x. x.handle) (cond t (e ∷ filter (λ x. query_meets query x.body && is_asked_for groups x) es)
+            (filter (λ x. query_meets query x.body && is_asked_for groups x) es))) [
               | true ↦ ap (λ hs. e.handle ∷ hs) rest
               | false ↦ rest
             ]
@@ -99,16 +100,16 @@ module _ (all : List Live) where
 pub touching-near : (es : List Live) → rises es ≡ true → filter_map (touching es) (near_of (slots_with_bodies es)) ≡ pairs_of es
 touching-near es r = pairs_touch es es (all_found es r)
 
-pub listed-found : (es : List Live) (query : Query) (mask : ℕ) → rises es ≡ true
-    → filter_map (listed es mask) (found_of (slots_with_bodies es) query) ≡ hits_of es query mask
-listed-found es query mask r = hits_listed es query mask es (all_found es r)
+pub listed-found : (es : List Live) (query : Query) (groups : Groups) → rises es ≡ true
+    → filter_map (listed es groups) (found_of (slots_with_bodies es) query) ≡ hits_of es query groups
+listed-found es query groups r = hits_listed es query groups es (all_found es r)
 
 -- the same, of the index that has the live boxes
 pub pairs_from_near : (t : Table) (pairs : List Pair) → IsTable t → pairs ≡ near (bodies_of t.entries)
     → filter_map (touching t.entries) pairs ≡ pairs_of t.entries
 pairs_from_near t pairs is e = ap (filter_map (touching t.entries)) (e ∙ ap near_of is.mapped) ∙ touching-near t.entries is.rising
 
-pub hits_from_found : (t : Table) (slots : List ℕ) (query : Query) (mask : ℕ) → IsTable t → slots ≡ found (bodies_of t.entries) query
-    → filter_map (listed t.entries mask) slots ≡ hits_of t.entries query mask
-hits_from_found t slots query mask is e =
-    ap (filter_map (listed t.entries mask)) (e ∙ ap (λ xs. found_of xs query) is.mapped) ∙ listed-found t.entries query mask is.rising
+pub hits_from_found : (t : Table) (slots : List ℕ) (query : Query) (groups : Groups) → IsTable t → slots ≡ found (bodies_of t.entries) query
+    → filter_map (listed t.entries groups) slots ≡ hits_of t.entries query groups
+hits_from_found t slots query groups is e =
+    ap (filter_map (listed t.entries groups)) (e ∙ ap (λ xs. found_of xs query) is.mapped) ∙ listed-found t.entries query groups is.rising

@@ -7,6 +7,7 @@ use Rattle.live_table.specs.declared.live.Live.{Live}
 use Rattle.live_table.specs.Entries.{slot_of, live_at}
 use Rattle.ray_slabs.specs.Crossing.{Fraction}
 use Rattle.box_cast.specs.Cast.{IsSameValue}
+use Rattle.live_queries.specs.declared.groups.Groups.{Groups}
 use Rattle.live_queries.specs.Queries.{is_met}
 use Rattle.live_queries.specs.declared.hit.Hit.{Hit}
 
@@ -34,8 +35,8 @@ passing test None = None
 passing test (Some entry) = if test entry then Some entry else None
 
 -- a slot's box, where it is met on the way and asked for
-abbrev pub met_at : (Bounds → Option Fraction) → ℕ → List Live → ℕ → Option Live
-met_at place mask entries slot = passing (is_met place mask) (live_at slot entries)
+abbrev pub met_at : (Bounds → Option Fraction) → Groups → List Live → ℕ → Option Live
+met_at place groups entries slot = passing (is_met place groups) (live_at slot entries)
 
 -- A hit is that of a live box: it has its slot, and the value of its place.
 pub record IsHit (place : Bounds → Option Fraction) (entries : List Live) (hit : Hit) (entry : Live) : Type 0 where

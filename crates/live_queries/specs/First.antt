@@ -1,5 +1,5 @@
 -- Which live box a way meets first, where, and by which face.
-use Rattle.std.specs.Prelude.{◌≡◌, ℕ, List, [], ◌∷◌, Option, Some, None, option_map}
+use Rattle.std.specs.Prelude.{◌≡◌, List, [], ◌∷◌, Option, Some, None, option_map}
 use Rattle.fixed_box.specs.Bounds.{Bounds}
 use Rattle.ray_slabs.specs.declared.ray.Ray.{Ray}
 use Rattle.ray_slabs.specs.Crossing.{Fraction}
@@ -7,6 +7,7 @@ use Rattle.box_cast.specs.declared.cast.Cast.{Cast}
 use Rattle.box_cast.specs.Cast.{IsSameValue}
 use Rattle.live_table.specs.declared.handle.Handle.{Handle}
 use Rattle.live_table.specs.declared.live.Live.{Live}
+use Rattle.live_queries.specs.declared.groups.Groups.{Groups}
 use Rattle.live_queries.specs.declared.face.Face.{Face}
 use Rattle.live_queries.specs.declared.first_hit.FirstHit.{FirstHit}
 use Rattle.live_queries.specs.Face.{entry_face, contact_face}
@@ -31,12 +32,12 @@ IsHitOfFirst meeting side (entry ∷ later) None = ⊥
 IsHitOfFirst meeting side (entry ∷ later) (Some hit) = IsHitOf meeting side entry hit
 
 -- The hit of the box that a ray enters first, of the groups that are asked for; of those that it enters at one place that of the lowest slot.
-abbrev pub IsFirstEntered : List Live → Ray → ℕ → Option FirstHit → Type 0
-IsFirstEntered entries ray mask hit = IsHitOfFirst (entry_of ray) (entry_face ray) (met_in_order (entry_of ray) entries mask) hit
+abbrev pub IsFirstEntered : List Live → Ray → Groups → Option FirstHit → Type 0
+IsFirstEntered entries ray groups hit = IsHitOfFirst (entry_of ray) (entry_face ray) (met_in_order (entry_of ray) entries groups) hit
 
 -- The hit of the box that a box which is cast meets first on its way, of the groups that are asked for, and of those at one place that of the lowest slot.
-abbrev pub IsFirstTouched : List Live → Cast → ℕ → Option FirstHit → Type 0
-IsFirstTouched entries cast mask hit = IsHitOfFirst (contact_of cast) (contact_face cast) (met_in_order (contact_of cast) entries mask) hit
+abbrev pub IsFirstTouched : List Live → Cast → Groups → Option FirstHit → Type 0
+IsFirstTouched entries cast groups hit = IsHitOfFirst (contact_of cast) (contact_face cast) (met_in_order (contact_of cast) entries groups) hit
 
 -- the first of a list, and none where it is empty
 abbrev pub first_of : {X : Type 0} → List X → Option X

@@ -12,6 +12,7 @@ use Rattle.live_table.specs.declared.live.Live.{Live}
 use Rattle.broad_index.specs.declared.query.Query.{Query}
 use Rattle.broad_index.specs.Found.{query_meets}
 use Rattle.live_table.specs.Entries.{slot_of, live_at}
+use Rattle.live_queries.specs.declared.groups.Groups.{Groups}
 use Rattle.live_queries.specs.declared.hit.Hit.{Hit}
 use Rattle.live_queries.specs.declared.first_hit.FirstHit.{FirstHit}
 use Rattle.live_queries.specs.declared.face.Face.{Face}
@@ -28,29 +29,29 @@ abbrev pub by_hit : Hit → Hit → Ordering
 by_hit = then_cmp (on (λ h. h.entry) value_cmp) (on (λ h. h.slot) nat_cmp)
 
 -- a live box that was shown, is met and asked for
-pub record IsSeenMet (place : Bounds → Option Fraction) (mask : ℕ) (entries : List Live) (shown : List (ℕ × Bounds)) (entry : Live) : Type 0 where
+pub record IsSeenMet (place : Bounds → Option Fraction) (groups : Groups) (entries : List Live) (shown : List (ℕ × Bounds)) (entry : Live) : Type 0 where
   pub seen : Contains shown (slot_of entry, entry.body)
   pub live : live_at (slot_of entry) entries ≡ Some entry
-  pub met : is_met place mask entry ≡ true
+  pub met : is_met place groups entry ≡ true
 
 -- A hit is that of a live box that is met and asked for, and comes no later than each of those that were shown.
-pub record IsFirstSeen (place : Bounds → Option Fraction) (mask : ℕ) (entries : List Live) (hit : Hit) (shown : List (ℕ × Bounds)) : Type 0 where
+pub record IsFirstSeen (place : Bounds → Option Fraction) (groups : Groups) (entries : List Live) (hit : Hit) (shown : List (ℕ × Bounds)) : Type 0 where
   pub entry : Live
   pub is : IsHit place entries hit entry
-  pub met : is_met place mask entry ≡ true
-  pub first : (other : Live) → IsSeenMet place mask entries shown other → is_gt (by_place place entry other) ≡ false
+  pub met : is_met place groups entry ≡ true
+  pub first : (other : Live) → IsSeenMet place groups entries shown other → is_gt (by_place place entry other) ≡ false
 
 -- The hit so far is the first of what was shown, and there is none if nothing of that is met and asked for.
-abbrev pub FirstSeen : (Bounds → Option Fraction) → ℕ → List Live → Option Hit → List (ℕ × Bounds) → Type 0
-FirstSeen place mask entries None shown = (other : Live) → IsSeenMet place mask entries shown other → ⊥
-FirstSeen place mask entries (Some hit) shown = IsFirstSeen place mask entries hit shown
+abbrev pub FirstSeen : (Bounds → Option Fraction) → Groups → List Live → Option Hit → List (ℕ × Bounds) → Type 0
+FirstSeen place groups entries None shown = (other : Live) → IsSeenMet place groups entries shown other → ⊥
+FirstSeen place groups entries (Some hit) shown = IsFirstSeen place groups entries hit shown
 
 -- What is the first of some boxes is that of others of which each is among them.
-pub of_fewer : (place : Bounds → Option Fraction) (mask : ℕ) (entries : List Live) (best : Option Hit) (shown other : List (ℕ × Bounds))
-    → ((e : Live) → IsSeenMet place mask entries other e → IsSeenMet place mask entries shown e) → FirstSeen place mask entries best shown
-    → FirstSeen place mask entries best other
-of_fewer place mask entries None shown other among has = λ e is. has e (among e is)
-of_fewer place mask entries (Some hit) shown other among has = record {
+pub of_fewer : (place : Bounds → Option Fraction) (groups : Groups) (entries : List Live) (best : Option Hit) (shown other : List (ℕ × Bounds))
+    → ((e : Live) → IsSeenMet place groups entries other e → IsSeenMet place groups entries shown e) → FirstSeen place groups entries best shown
+    → FirstSeen place groups entries best other
+of_fewer place groups entries None shown other among has = λ e is. has e (among e is)
+of_fewer place groups entries (Some hit) shown other among has = record {
   entry = has.entry;
   is = has.is;
   met = has.met;
@@ -58,10 +59,10 @@ of_fewer place mask entries (Some hit) shown other among has = record {
 }
 
 -- The order in which boxes were shown doesn't matter.
-pub any_order : (place : Bounds → Option Fraction) (mask : ℕ) (entries : List Live) (best : Option Hit) (shown other : List (ℕ × Bounds))
-    → IsPermutation shown other → FirstSeen place mask entries best shown → FirstSeen place mask entries best other
-any_order place mask entries best shown other moved has =
-    of_fewer place mask entries best shown other
+pub any_order : (place : Bounds → Option Fraction) (groups : Groups) (entries : List Live) (best : Option Hit) (shown other : List (ℕ × Bounds))
+    → IsPermutation shown other → FirstSeen place groups entries best shown → FirstSeen place groups entries best other
+any_order place groups entries best shown other moved has =
+    of_fewer place groups entries best shown other
     (λ e is. record {
       seen = Contains-permutation other shown (slot_of e, e.body) (IsPermutation-sym shown other moved) is.seen;
       live = is.live;

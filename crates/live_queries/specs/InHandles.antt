@@ -6,6 +6,7 @@ use Rattle.live_table.specs.Entries.{live_at}
 use Rattle.live_table.specs.Pairing.{may}
 use Rattle.broad_index.specs.declared.pair.Pair.{Pair}
 use Rattle.pair_events.specs.declared.hpair.HPair.{HPair}
+use Rattle.live_queries.specs.declared.groups.Groups.{Groups}
 use Rattle.live_queries.specs.Pairs.{is_asked_for}
 
 -- two live boxes as a pair, where they may pair
@@ -28,10 +29,10 @@ AreCurrent entries [] = Unit {0}
 AreCurrent entries (pair ∷ pairs) = (touching entries (slots_in pair) ≡ Some pair) × AreCurrent entries pairs
 
 -- a live box by its handle, where it is in one of the groups that are asked for
-abbrev pub listed_of : ℕ → Option Live → Option Handle
-listed_of mask None = None
-listed_of mask (Some entry) = if is_asked_for mask entry then Some entry.handle else None
+abbrev pub listed_of : Groups → Option Live → Option Handle
+listed_of groups None = None
+listed_of groups (Some entry) = if is_asked_for groups entry then Some entry.handle else None
 
 -- the box of a slot
-abbrev pub listed : List Live → ℕ → ℕ → Option Handle
-listed entries mask slot = listed_of mask (live_at slot entries)
+abbrev pub listed : List Live → Groups → ℕ → Option Handle
+listed entries groups slot = listed_of groups (live_at slot entries)

@@ -16,6 +16,7 @@ use Rattle.ordered_lists.specs.Ordered.{ordered_by}
 use Rattle.live_table.specs.declared.handle.Handle.{Handle}
 use Rattle.live_table.specs.declared.live.Live.{Live}
 use Rattle.live_table.specs.Entries.{slot_of}
+use Rattle.live_queries.specs.declared.groups.Groups.{Groups}
 use Rattle.live_queries.specs.Pairs.{is_asked_for}
 
 -- the handles of boxes
@@ -31,28 +32,28 @@ abbrev pub contact_of : Cast → Bounds → Option Fraction
 contact_of cast body = first_contact cast.body cast.by body
 
 -- a box is met on the way, and in one of the groups that are asked for
-abbrev pub is_met : (Bounds → Option Fraction) → ℕ → Live → Bool
-is_met place mask entry = is_some (place entry.body) && is_asked_for mask entry
+abbrev pub is_met : (Bounds → Option Fraction) → Groups → Live → Bool
+is_met place groups entry = is_some (place entry.body) && is_asked_for groups entry
 
 -- by the place on the way, and where two are equal by slot
 abbrev pub by_place : (Bounds → Option Fraction) → Live → Live → Ordering
 by_place place = then_cmp (on (λ entry. place entry.body) (option_cmp value_cmp)) (on slot_of nat_cmp)
 
 -- the boxes that are met on the way, of the groups that are asked for, in the order in which they are met
-abbrev pub met_in_order : (Bounds → Option Fraction) → List Live → ℕ → List Live
-met_in_order place entries mask = ordered_by (by_place place) (filter (is_met place mask) entries)
+abbrev pub met_in_order : (Bounds → Option Fraction) → List Live → Groups → List Live
+met_in_order place entries groups = ordered_by (by_place place) (filter (is_met place groups) entries)
 
 -- The boxes that a ray meets, in rising order of where it first meets them and then of the slot.
-abbrev pub entered_of : List Live → Ray → ℕ → List Handle
-entered_of entries ray mask = handles (met_in_order (entry_of ray) entries mask)
+abbrev pub entered_of : List Live → Ray → Groups → List Handle
+entered_of entries ray groups = handles (met_in_order (entry_of ray) entries groups)
 
 -- The boxes that a box which is cast meets on its way, in rising order of where it first meets them and then of the slot.
-abbrev pub cast_of : List Live → Cast → ℕ → List Handle
-cast_of entries cast mask = handles (met_in_order (contact_of cast) entries mask)
+abbrev pub cast_of : List Live → Cast → Groups → List Handle
+cast_of entries cast groups = handles (met_in_order (contact_of cast) entries groups)
 
 -- the boxes of some groups
-abbrev pub asked_for : List Live → ℕ → List Live
-asked_for entries mask = filter (is_asked_for mask) entries
+abbrev pub asked_for : List Live → Groups → List Live
+asked_for entries groups = filter (is_asked_for groups) entries
 
 -- by the square of the distance from a point, and where two are equal by slot
 abbrev pub by_distance : Point → Live → Live → Ordering
@@ -60,8 +61,8 @@ by_distance at = then_cmp (on (λ entry. square at entry.body) nat_cmp) (on slot
 
 -- The boxes that are nearest to a point, of the groups that are asked for, in rising order of the square of the distance and then of the slot, and at
 -- most so many. The groups are looked at before the list is cut.
-abbrev pub nearest_to : List Live → Point → ℕ → ℕ → List Handle
-nearest_to entries at want mask = handles (take want (ordered_by (by_distance at) (asked_for entries mask)))
+abbrev pub nearest_to : List Live → Point → ℕ → Groups → List Handle
+nearest_to entries at want groups = handles (take want (ordered_by (by_distance at) (asked_for entries groups)))
 
 -- by the square of the distance from a box, and where two are equal by slot
 abbrev pub by_gap : Bounds → Live → Live → Ordering
@@ -72,10 +73,10 @@ abbrev pub is_from : Bounds → ℕ → Live → Bool
 is_from body from entry = nat_le from (square_apart body entry.body)
 
 -- the boxes of some groups that lie at least so far, as a square, from a box
-abbrev pub asked_from : List Live → Bounds → ℕ → ℕ → List Live
-asked_from entries body from mask = filter (is_from body from) (asked_for entries mask)
+abbrev pub asked_from : List Live → Bounds → ℕ → Groups → List Live
+asked_from entries body from groups = filter (is_from body from) (asked_for entries groups)
 
 -- The boxes that are nearest to a box, of those at least so far from it and of the groups that are asked for, in rising order of the square of the
 -- distance and then of the slot, and at most so many. Distance and groups are looked at before the list is cut.
-abbrev pub nearest_to_box : List Live → Bounds → ℕ → ℕ → ℕ → List Handle
-nearest_to_box entries body from want mask = handles (take want (ordered_by (by_gap body) (asked_from entries body from mask)))
+abbrev pub nearest_to_box : List Live → Bounds → ℕ → ℕ → Groups → List Handle
+nearest_to_box entries body from want groups = handles (take want (ordered_by (by_gap body) (asked_from entries body from groups)))

@@ -11,6 +11,7 @@ ghost use Rattle.live_queries.specs.FirstSeen.{FirstSeen, IsAsked, IsBehind, IsT
 ghost use Rattle.live_queries.specs.Queries.{entered_of, cast_of, handles, met_in_order};
 
 use crate::first_hit::FirstHit;
+use crate::groups::Groups;
 use crate::hit::Hit;
 use crate::met::hit_at;
 use crate::probe::Probe;
@@ -22,30 +23,30 @@ use prepared_query::BoxTest;
 use ray_slabs::{Entry, Ray};
 use std::alloc::Global;
 
-/// The live box that a ray enters first, of the groups that `mask` has: the first that `push_entered` would tell, or `None`
+/// The live box that a ray enters first, of the groups that are asked for: the first that `push_entered` would tell, or `None`
 /// where it would tell none. Of those that it enters at one place that is the one with the lowest slot. With it comes the place
 /// and the face. The index has the live boxes.
 ///
-/// An index that descends passes by the boxes that lie behind the first one found so far, and no memory is taken for it. Another
-/// finds all boxes that the ray meets, in a list from `alloc`.
+/// An index that descends passes by the boxes that lie behind the first one found so far. Another finds all boxes that the ray
+/// meets. All except trees take a list from `alloc` for what they find.
 pub fn first_entered<B: BroadPhase>(
     alloc: Global,
     table: &LiveTable,
     index: &B,
     ray: &Ray,
-    mask: u32,
+    groups: Groups,
 ) -> Result<Option<FirstHit>, NoMemory>
     requires table { IsTable table.now }
     requires sound { B.spent index.now ≡ false }
     requires bodies { B.bodies index.now ≡ bodies_of table.now.entries }
-    ensures first { IfOk result (IsFirstEntered table.now.entries ray.now mask) }
-    ensures handle { IfOk result (HasFirst (entered_of table.now.entries ray.now mask)) }
+    ensures first { IfOk result (IsFirstEntered table.now.entries ray.now groups) }
+    ensures handle { IfOk result (HasFirst (entered_of table.now.entries ray.now groups)) }
 {
-    let hit = first_met(alloc, table, index, ray, mask)?;
+    let hit = first_met(alloc, table, index, ray, groups)?;
     Ok(hit)
 }
 
-/// The live box that a box which is cast meets first on its way, of the groups that `mask` has: the first that `push_cast` would
+/// The live box that a box which is cast meets first on its way, of the groups that are asked for: the first that `push_cast` would
 /// tell, or `None` where it would tell none. Of those that it meets at one place that is the one with the lowest slot. With it
 /// comes the place and the face. The index has the live boxes.
 ///
@@ -55,15 +56,15 @@ pub fn first_cast<B: BroadPhase>(
     table: &LiveTable,
     index: &B,
     cast: &Cast,
-    mask: u32,
+    groups: Groups,
 ) -> Result<Option<FirstHit>, NoMemory>
     requires table { IsTable table.now }
     requires sound { B.spent index.now ≡ false }
     requires bodies { B.bodies index.now ≡ bodies_of table.now.entries }
-    ensures first { IfOk result (IsFirstTouched table.now.entries cast.now mask) }
-    ensures handle { IfOk result (HasFirst (cast_of table.now.entries cast.now mask)) }
+    ensures first { IfOk result (IsFirstTouched table.now.entries cast.now groups) }
+    ensures handle { IfOk result (HasFirst (cast_of table.now.entries cast.now groups)) }
 {
-    let hit = first_met(alloc, table, index, cast, mask)?;
+    let hit = first_met(alloc, table, index, cast, groups)?;
     Ok(hit)
 }
 
@@ -73,18 +74,18 @@ fn first_met<B: BroadPhase, P: Probe>(
     table: &LiveTable,
     index: &B,
     probe: &P,
-    mask: u32,
+    groups: Groups,
 ) -> Result<Option<FirstHit>, NoMemory>
     requires table { IsTable table.now }
     requires bodies { B.bodies index.now ≡ bodies_of table.now.entries }
-    ensures first { IfOk result (IsHitOfFirst (P.place probe.now) (P.face probe.now) (met_in_order (P.place probe.now) table.now.entries mask)) }
-    ensures handle { IfOk result (HasFirst (handles (met_in_order (P.place probe.now) table.now.entries mask))) }
+    ensures first { IfOk result (IsHitOfFirst (P.place probe.now) (P.face probe.now) (met_in_order (P.place probe.now) table.now.entries groups)) }
+    ensures handle { IfOk result (HasFirst (handles (met_in_order (P.place probe.now) table.now.entries groups))) }
 {
     let mut search = FirstSearch {
         table,
         probe,
         test: probe.test(),
-        mask,
+        groups,
         best: None,
     };
     index.visit(alloc, &mut search)?;
@@ -97,20 +98,20 @@ struct FirstSearch<'a, P: Probe> {
     table: &'a LiveTable,
     probe: &'a P,
     test: P::Test,
-    mask: u32,
+    groups: Groups,
     best: Option<Hit>,
 }
 
 impl<P: Probe> Visitor for FirstSearch<'_, P> {
-    ghost saw = { λ s seen. IsAsked (P.Test.asks s.test) (P.place s.probe.now) × FirstSeen (P.place s.probe.now) s.mask s.table.now.entries s.best seen };
+    ghost saw = { λ s seen. IsAsked (P.Test.asks s.test) (P.place s.probe.now) × FirstSeen (P.place s.probe.now) s.groups s.table.now.entries s.best seen };
 
-    ghost keeps = { λ a b. (b.probe.now ≡ a.probe.now) × (b.mask ≡ a.mask) × (b.table.now ≡ a.table.now) };
+    ghost keeps = { λ a b. (b.probe.now ≡ a.probe.now) × (b.groups ≡ a.groups) × (b.table.now ≡ a.table.now) };
 
     ghost keeps_itself = { λ _. (refl, refl, refl) };
 
     ghost keeps_on = { λ _ _ _ f g. (g.0 ∙ f.0, g.1 ∙ f.1, g.2 ∙ f.2) };
 
-    ghost any_order = { λ s shown other moved has. (has.0, any_order (P.place s.probe.now) s.mask s.table.now.entries s.best shown other moved has.1) };
+    ghost any_order = { λ s shown other moved has. (has.0, any_order (P.place s.probe.now) s.groups s.table.now.entries s.best shown other moved has.1) };
 
     fn query(&self) -> Query {
         self.probe.query()
@@ -127,7 +128,7 @@ impl<P: Probe> Visitor for FirstSearch<'_, P> {
     }
 
     fn meet(&mut self, slot: u32, _body: &FBox) -> Result<(), NoMemory> {
-        if let Some(hit) = hit_at(self.table, self.probe, self.mask, slot) {
+        if let Some(hit) = hit_at(self.table, self.probe, self.groups, slot) {
             self.best = Some(sooner(hit, self.best));
         }
         Ok(())

@@ -19,6 +19,7 @@ ghost use Rattle.pair_events.specs.declared.hpair.HPair.{HPair};
 ghost use Rattle.pair_events.specs.PairEvents.{is_in_order};
 ghost use Rattle.live_table.specs.declared.handle.Handle.{Handle};
 ghost use Rattle.live_table.specs.Entries.{slot_of, live_at, entered, with_body};
+ghost use Rattle.live_queries.specs.declared.groups.Groups.{Groups};
 ghost use Rattle.live_queries.specs.InHandles.{AreCurrent};
 ghost use Rattle.live_queries.specs.PairLaw.{IsPairOf};
 ghost use Rattle.live_queries.specs.Pairs.{pairs_of, hits_of, is_asked_for};
@@ -51,14 +52,15 @@ pub fn current_laws()
 /// by slots, each as often, and a cast those of the boxes that it meets; both rise by place and slot. The nearest have the
 /// slots of the nearest in the map of the boxes that are asked for, of which `nearest_law` of `near_boxes` speaks.
 pub fn queries_law()
-    ensures entered { (es : List Live) (ray : Ray) (mask : ℕ) → IsPermutation (hits_of es (Along ray) mask) (entered_of es ray mask) }
-    ensures cast { (es : List Live) (cast : Cast) (mask : ℕ) →
-        IsPermutation (handles (filter (λ e. in_cast cast.body cast.by e.body && is_asked_for mask e) es)) (cast_of es cast mask) }
-    ensures rising { (place : Bounds → Option Fraction) (es : List Live) (mask : ℕ) →
-        IsSorted (by_place place) (met_in_order place es mask) }
-    ensures nearest { (t : Table) (at : Point) (want mask : ℕ) → IsTable t →
-        map (λ handle. handle.slot) (nearest_to t.entries at want mask)
-        ≡ map (λ near. near.slot) (nearest (bodies_of (asked_for t.entries mask)) at want) }
+    ensures entered { (es : List Live) (ray : Ray) (groups : Groups) →
+        IsPermutation (hits_of es (Along ray) groups) (entered_of es ray groups) }
+    ensures cast { (es : List Live) (cast : Cast) (groups : Groups) →
+        IsPermutation (handles (filter (λ e. in_cast cast.body cast.by e.body && is_asked_for groups e) es)) (cast_of es cast groups) }
+    ensures rising { (place : Bounds → Option Fraction) (es : List Live) (groups : Groups) →
+        IsSorted (by_place place) (met_in_order place es groups) }
+    ensures nearest { (t : Table) (at : Point) (want : ℕ) (groups : Groups) → IsTable t →
+        map (λ handle. handle.slot) (nearest_to t.entries at want groups)
+        ≡ map (λ near. near.slot) (nearest (bodies_of (asked_for t.entries groups)) at want) }
 {
     cast_law();
     order_laws::<Live>();
@@ -68,8 +70,9 @@ pub fn queries_law()
 /// asked for and far enough off, of which `nearest_about_law` of `near_boxes` speaks; and the nearest to a point are those
 /// nearest to the flat box at it, from 0 on.
 pub fn nearest_box_law()
-    ensures nearest { (t : Table) (body : Bounds) (from want mask : ℕ) → IsTable t →
-        map (λ handle. handle.slot) (nearest_to_box t.entries body from want mask)
-        ≡ map (λ near. near.slot) (nearest_about (bodies_of (asked_from t.entries body from mask)) body want) }
-    ensures spot { (es : List Live) (at : Point) (want mask : ℕ) → nearest_to es at want mask ≡ nearest_to_box es (spot at) 0 want mask }
+    ensures nearest { (t : Table) (body : Bounds) (from want : ℕ) (groups : Groups) → IsTable t →
+        map (λ handle. handle.slot) (nearest_to_box t.entries body from want groups)
+        ≡ map (λ near. near.slot) (nearest_about (bodies_of (asked_from t.entries body from groups)) body want) }
+    ensures spot { (es : List Live) (at : Point) (want : ℕ) (groups : Groups) →
+        nearest_to es at want groups ≡ nearest_to_box es (spot at) 0 want groups }
 {}

@@ -10,6 +10,7 @@ ghost use Rattle.live_queries.specs.Beside.{AreBeside, IsBeside, IsHit, ListsMet
 ghost use Rattle.live_queries.specs.Queries.{entered_of, cast_of, handles, met_in_order};
 
 use crate::ask_room::MetRoom;
+use crate::groups::Groups;
 use crate::handles::push_handles;
 use crate::hit::Hit;
 use crate::hits::is_asked_for;
@@ -20,7 +21,7 @@ use live_table::{Handle, LiveTable};
 use ordered_lists::put_in_order;
 use ray_slabs::Ray;
 
-/// Appends the handles of the live boxes that a ray meets, of the groups that `mask` has, in the order in which it first
+/// Appends the handles of the live boxes that a ray meets, of the groups that are asked for, in the order in which it first
 /// meets them; those that it meets at one place come by their slots. The slots are those that an index of the live boxes has
 /// found for the ray. After an `Err` `out` is as before.
 ///
@@ -29,20 +30,20 @@ use ray_slabs::Ray;
 pub fn push_entered(
     table: &LiveTable,
     ray: &Ray,
-    mask: u32,
+    groups: Groups,
     slots: &[u32],
     room: &mut MetRoom,
     out: &mut Vec<Handle>,
 ) -> Result<(), NoMemory>
     requires table { IsTable table.now }
     requires found { slots.now ≡ found (bodies_of table.now.entries) (Along ray.now) }
-    ensures ok { OnOk result (out.new.items ≡ out.old.items ++ entered_of table.now.entries ray.now mask) }
+    ensures ok { OnOk result (out.new.items ≡ out.old.items ++ entered_of table.now.entries ray.now groups) }
     ensures err { OnErr result (out.new.items ≡ out.old.items) }
 {
-    push_met(table, ray, mask, slots, &mut room.hits, out)
+    push_met(table, ray, groups, slots, &mut room.hits, out)
 }
 
-/// Appends the handles of the live boxes that a box which is cast meets on its way, of the groups that `mask` has, in the
+/// Appends the handles of the live boxes that a box which is cast meets on its way, of the groups that are asked for, in the
 /// order in which it first meets them; those that it meets at one place come by their slots. The slots are those that an
 /// index of the live boxes has found for the cast. After an `Err` `out` is as before.
 ///
@@ -51,35 +52,35 @@ pub fn push_entered(
 pub fn push_cast(
     table: &LiveTable,
     cast: &Cast,
-    mask: u32,
+    groups: Groups,
     slots: &[u32],
     room: &mut MetRoom,
     out: &mut Vec<Handle>,
 ) -> Result<(), NoMemory>
     requires table { IsTable table.now }
     requires found { slots.now ≡ found (bodies_of table.now.entries) (Swept cast.now) }
-    ensures ok { OnOk result (out.new.items ≡ out.old.items ++ cast_of table.now.entries cast.now mask) }
+    ensures ok { OnOk result (out.new.items ≡ out.old.items ++ cast_of table.now.entries cast.now groups) }
     ensures err { OnErr result (out.new.items ≡ out.old.items) }
 {
     cast_law();
-    push_met(table, cast, mask, slots, &mut room.hits, out)
+    push_met(table, cast, groups, slots, &mut room.hits, out)
 }
 
 // Appends the handles of the boxes that are met on the way and asked for, in the order in which they are met.
 fn push_met<P: Probe>(
     table: &LiveTable,
     probe: &P,
-    mask: u32,
+    groups: Groups,
     slots: &[u32],
     hits: &mut Vec<Hit>,
     out: &mut Vec<Handle>,
 ) -> Result<(), NoMemory>
     requires table { IsTable table.now }
     requires met { ListsMet (P.place probe.now) table.now.entries slots.now }
-    ensures ok { OnOk result (out.new.items ≡ out.old.items ++ handles (met_in_order (P.place probe.now) table.now.entries mask)) }
+    ensures ok { OnOk result (out.new.items ≡ out.old.items ++ handles (met_in_order (P.place probe.now) table.now.entries groups)) }
     ensures err { OnErr result (out.new.items ≡ out.old.items) }
 {
-    find_hits(table, probe, mask, slots, hits)?;
+    find_hits(table, probe, groups, slots, hits)?;
     put_in_order(hits);
     push_handles(table, hits, out)
 }
@@ -88,17 +89,17 @@ fn push_met<P: Probe>(
 fn find_hits<P: Probe>(
     table: &LiveTable,
     probe: &P,
-    mask: u32,
+    groups: Groups,
     slots: &[u32],
     hits: &mut Vec<Hit>,
 ) -> Result<(), NoMemory>
     ensures { OnOk result (AreBeside (IsHit (P.place probe.now) table.now.entries) hits.new.items
-        (filter_map (met_at (P.place probe.now) mask table.now.entries) slots.now)) }
+        (filter_map (met_at (P.place probe.now) groups table.now.entries) slots.now)) }
 {
     hits.clear();
     let mut rest = slots;
     'slots: while let Some((slot, more)) = rest.split_first() {
-        if let Some(hit) = hit_at(table, probe, mask, *slot) {
+        if let Some(hit) = hit_at(table, probe, groups, *slot) {
             hits.push(hit)?;
         }
         rest = more;
@@ -107,11 +108,16 @@ fn find_hits<P: Probe>(
 }
 
 // The hit of a slot, where its box is met on the way and asked for.
-pub(crate) fn hit_at<P: Probe>(table: &LiveTable, probe: &P, mask: u32, slot: u32) -> Option<Hit>
-    ensures { IsBeside (IsHit (P.place probe.now) table.now.entries) result (met_at (P.place probe.now) mask table.now.entries slot) }
+pub(crate) fn hit_at<P: Probe>(
+    table: &LiveTable,
+    probe: &P,
+    groups: Groups,
+    slot: u32,
+) -> Option<Hit>
+    ensures { IsBeside (IsHit (P.place probe.now) table.now.entries) result (met_at (P.place probe.now) groups table.now.entries slot) }
 {
     let live = table.at(slot)?;
-    if !is_asked_for(mask, &live) {
+    if !is_asked_for(groups, &live) {
         return None;
     }
     let entry = probe.entry(&live.body)?;

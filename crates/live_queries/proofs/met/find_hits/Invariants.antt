@@ -9,9 +9,9 @@ abbrev pub invariant-slots : goal.invariant-slots
 invariant-slots g l =
     (more : List Hit)
     → AreBeside (IsHit (g.P.Probe.place l.probe) l.table.entries) more
-    (filter_map (met_at (g.P.Probe.place l.probe) l.mask l.table.entries) l.rest)
+    (filter_map (met_at (g.P.Probe.place l.probe) l.groups l.table.entries) l.rest)
     → AreBeside (IsHit (g.P.Probe.place l.probe) l.table.entries) (l.hits.items ++ more)
-    (filter_map (met_at (g.P.Probe.place l.probe) l.mask l.table.entries) l.slots)
+    (filter_map (met_at (g.P.Probe.place l.probe) l.groups l.table.entries) l.slots)
 
 abbrev pub decreases-slots : goal.decreases-slots
 decreases-slots g l = length l.rest

@@ -10,5 +10,5 @@ returns-clause-ok g c =
     let query = c.args.query.now in
     let entries = c.args.table.now.entries in
     on_ok_weaker c.push_nearest_box.result (λ is. is
-    ∙ ap (λ hs. c.args.out.now.items ++ hs) (ap (λ b. nearest_to_box entries b 0 query.want query.mask) c.spot.ensures
-    ∙ sym (at_spot entries query.at query.want query.mask))) c.push_nearest_box.ensures.ok
+    ∙ ap (λ hs. c.args.out.now.items ++ hs) (ap (λ b. nearest_to_box entries b 0 query.want query.groups) c.spot.ensures
+    ∙ sym (at_spot entries query.at query.want query.groups))) c.push_nearest_box.ensures.ok

@@ -9,7 +9,7 @@ returns-then-meets g c =
     record {
       passed = λ out shown more has inside. (
         has.0,
-        passed_behind (g.P.Probe.place s.probe.now) s.mask s.table.now.entries c.place_law.ensures c.args.hull.now
+        passed_behind (g.P.Probe.place s.probe.now) s.groups s.table.now.entries c.place_law.ensures c.args.hull.now
             s.best (c.may_hold.ensures out) shown more has.1 inside,
       );
     }
@@ -20,7 +20,7 @@ returns-else-meets g c =
     record {
       passed = λ out shown more has inside. (
         has.0,
-        passed_unmet (g.P.Probe.place s.probe.now) s.mask s.table.now.entries c.place_law.ensures c.args.hull.now
+        passed_unmet (g.P.Probe.place s.probe.now) s.groups s.table.now.entries c.place_law.ensures c.args.hull.now
             (sym (has.0 c.args.hull.now) ∙ sym c.meets.ensures ∙ out) s.best shown more has.1 inside,
       );
     }

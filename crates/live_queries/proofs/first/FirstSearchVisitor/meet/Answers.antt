@@ -10,6 +10,6 @@ returns-in-Some-clause-seen g c =
     let place = g.P.Probe.place s.probe.now in
     λ shown has. (
       has.0,
-      subst (λ h. FirstSeen place s.mask s.table.now.entries (Some h) (shown ++ (c.args.slot, c.args._body.now) ∷ [])) (sym c.sooner.ensures)
-          (met_some place s.mask s.table.now.entries c.in-Some.hit s.best shown c.args.slot c.args._body.now c.in-Some.ensures has.1),
+      subst (λ h. FirstSeen place s.groups s.table.now.entries (Some h) (shown ++ (c.args.slot, c.args._body.now) ∷ [])) (sym c.sooner.ensures)
+          (met_some place s.groups s.table.now.entries c.in-Some.hit s.best shown c.args.slot c.args._body.now c.in-Some.ensures has.1),
     )

@@ -9,7 +9,7 @@ returns g c =
     record {
       missed = λ shown more has out. (
         has.0,
-        missed (g.P.Probe.place s.probe.now) s.mask s.table.now.entries (query_meets c.query.result) c.query.ensures s.best
+        missed (g.P.Probe.place s.probe.now) s.groups s.table.now.entries (query_meets c.query.result) c.query.ensures s.best
             shown more has.1 out,
       );
     }
