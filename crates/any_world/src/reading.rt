@@ -14,7 +14,7 @@ use crate::AnyWorld;
 use box_cast::Cast;
 use broad_index::Query;
 use fixed_box::NoMemory;
-use live_queries::{AskRoom, FirstHit};
+use live_queries::{AskRoom, FirstHit, Groups};
 use live_table::{Handle, Live, LiveTable};
 use pair_events::{Events, HPair};
 use ray_slabs::Ray;
@@ -187,104 +187,104 @@ impl AnyWorld {
         }
     }
 
-    /// Appends the handles of the live boxes that meet a query and are in one of the groups that `mask` has, by their slots.
+    /// Appends the handles of the live boxes that meet a query, of the groups that are asked for, by their slots.
     /// After an `Err` `out` is as before. A spent world answers want of memory, here and in the queries below. They change nothing, so
     /// that several threads may ask one world at once, each with room of its own.
     pub fn hits(
         &self,
         query: &Query,
-        mask: u32,
+        groups: Groups,
         room: &mut AskRoom,
         out: &mut Vec<Handle>,
     ) -> Result<(), NoMemory>
         ensures sound { OnOk result ((state_of self.now).spent ≡ false) }
-        ensures ok { OnOk result (out.new.items ≡ out.old.items ++ hits_of (state_of self.now).time.now.table.entries query.now mask) }
+        ensures ok { OnOk result (out.new.items ≡ out.old.items ++ hits_of (state_of self.now).time.now.table.entries query.now groups) }
         ensures err { OnErr result (out.new.items ≡ out.old.items) }
     {
         match self {
-            AnyWorld::Plain(world) => world.hits(query, mask, room, out),
-            AnyWorld::Sap(world) => world.hits(query, mask, room, out),
-            AnyWorld::Tree(world) => world.hits(query, mask, room, out),
-            AnyWorld::Grid(world) => world.hits(query, mask, room, out),
-            AnyWorld::Skin(world) => world.hits(query, mask, room, out),
+            AnyWorld::Plain(world) => world.hits(query, groups, room, out),
+            AnyWorld::Sap(world) => world.hits(query, groups, room, out),
+            AnyWorld::Tree(world) => world.hits(query, groups, room, out),
+            AnyWorld::Grid(world) => world.hits(query, groups, room, out),
+            AnyWorld::Skin(world) => world.hits(query, groups, room, out),
         }
     }
 
-    /// Appends the handles of the live boxes that a ray meets, of the groups that `mask` has, in the order in which it first
+    /// Appends the handles of the live boxes that a ray meets, of the groups that are asked for, in the order in which it first
     /// meets them; those that it meets at one place come by their slots. After an `Err` `out` is as before.
     pub fn entered(
         &self,
         ray: &Ray,
-        mask: u32,
+        groups: Groups,
         room: &mut AskRoom,
         out: &mut Vec<Handle>,
     ) -> Result<(), NoMemory>
         ensures sound { OnOk result ((state_of self.now).spent ≡ false) }
-        ensures ok { OnOk result (out.new.items ≡ out.old.items ++ entered_of (state_of self.now).time.now.table.entries ray.now mask) }
+        ensures ok { OnOk result (out.new.items ≡ out.old.items ++ entered_of (state_of self.now).time.now.table.entries ray.now groups) }
         ensures err { OnErr result (out.new.items ≡ out.old.items) }
     {
         match self {
-            AnyWorld::Plain(world) => world.entered(ray, mask, room, out),
-            AnyWorld::Sap(world) => world.entered(ray, mask, room, out),
-            AnyWorld::Tree(world) => world.entered(ray, mask, room, out),
-            AnyWorld::Grid(world) => world.entered(ray, mask, room, out),
-            AnyWorld::Skin(world) => world.entered(ray, mask, room, out),
+            AnyWorld::Plain(world) => world.entered(ray, groups, room, out),
+            AnyWorld::Sap(world) => world.entered(ray, groups, room, out),
+            AnyWorld::Tree(world) => world.entered(ray, groups, room, out),
+            AnyWorld::Grid(world) => world.entered(ray, groups, room, out),
+            AnyWorld::Skin(world) => world.entered(ray, groups, room, out),
         }
     }
 
-    /// Appends the handles of the live boxes that a box which is cast meets on its way, of the groups that `mask` has, in the
+    /// Appends the handles of the live boxes that a box which is cast meets on its way, of the groups that are asked for, in the
     /// order in which it first meets them; those that it meets at one place come by their slots. After an `Err` `out` is as
     /// before.
     pub fn cast(
         &self,
         cast: &Cast,
-        mask: u32,
+        groups: Groups,
         room: &mut AskRoom,
         out: &mut Vec<Handle>,
     ) -> Result<(), NoMemory>
         ensures sound { OnOk result ((state_of self.now).spent ≡ false) }
-        ensures ok { OnOk result (out.new.items ≡ out.old.items ++ cast_of (state_of self.now).time.now.table.entries cast.now mask) }
+        ensures ok { OnOk result (out.new.items ≡ out.old.items ++ cast_of (state_of self.now).time.now.table.entries cast.now groups) }
         ensures err { OnErr result (out.new.items ≡ out.old.items) }
     {
         match self {
-            AnyWorld::Plain(world) => world.cast(cast, mask, room, out),
-            AnyWorld::Sap(world) => world.cast(cast, mask, room, out),
-            AnyWorld::Tree(world) => world.cast(cast, mask, room, out),
-            AnyWorld::Grid(world) => world.cast(cast, mask, room, out),
-            AnyWorld::Skin(world) => world.cast(cast, mask, room, out),
+            AnyWorld::Plain(world) => world.cast(cast, groups, room, out),
+            AnyWorld::Sap(world) => world.cast(cast, groups, room, out),
+            AnyWorld::Tree(world) => world.cast(cast, groups, room, out),
+            AnyWorld::Grid(world) => world.cast(cast, groups, room, out),
+            AnyWorld::Skin(world) => world.cast(cast, groups, room, out),
         }
     }
 
-    /// The live box that a ray enters first, of the groups that `mask` has, with the place and the face: the first that
+    /// The live box that a ray enters first, of the groups that are asked for, with the place and the face: the first that
     /// `entered` would tell, and `None` where it would tell none. The tree doesn't look at all that the ray meets, and then
     /// takes no memory.
-    pub fn first_entered(&self, ray: &Ray, mask: u32) -> Result<Option<FirstHit>, NoMemory>
+    pub fn first_entered(&self, ray: &Ray, groups: Groups) -> Result<Option<FirstHit>, NoMemory>
         ensures sound { OnOk result ((state_of self.now).spent ≡ false) }
-        ensures first { IfOk result (IsFirstEntered (state_of self.now).time.now.table.entries ray.now mask) }
-        ensures handle { IfOk result (HasFirst (entered_of (state_of self.now).time.now.table.entries ray.now mask)) }
+        ensures first { IfOk result (IsFirstEntered (state_of self.now).time.now.table.entries ray.now groups) }
+        ensures handle { IfOk result (HasFirst (entered_of (state_of self.now).time.now.table.entries ray.now groups)) }
     {
         match self {
-            AnyWorld::Plain(world) => world.first_entered(ray, mask),
-            AnyWorld::Sap(world) => world.first_entered(ray, mask),
-            AnyWorld::Tree(world) => world.first_entered(ray, mask),
-            AnyWorld::Grid(world) => world.first_entered(ray, mask),
-            AnyWorld::Skin(world) => world.first_entered(ray, mask),
+            AnyWorld::Plain(world) => world.first_entered(ray, groups),
+            AnyWorld::Sap(world) => world.first_entered(ray, groups),
+            AnyWorld::Tree(world) => world.first_entered(ray, groups),
+            AnyWorld::Grid(world) => world.first_entered(ray, groups),
+            AnyWorld::Skin(world) => world.first_entered(ray, groups),
         }
     }
 
-    /// The live box that a box which is cast meets first on its way, of the groups that `mask` has, with the place and the
+    /// The live box that a box which is cast meets first on its way, of the groups that are asked for, with the place and the
     /// face: the first that `cast` would tell, and `None` where it would tell none.
-    pub fn first_cast(&self, cast: &Cast, mask: u32) -> Result<Option<FirstHit>, NoMemory>
+    pub fn first_cast(&self, cast: &Cast, groups: Groups) -> Result<Option<FirstHit>, NoMemory>
         ensures sound { OnOk result ((state_of self.now).spent ≡ false) }
-        ensures first { IfOk result (IsFirstTouched (state_of self.now).time.now.table.entries cast.now mask) }
-        ensures handle { IfOk result (HasFirst (cast_of (state_of self.now).time.now.table.entries cast.now mask)) }
+        ensures first { IfOk result (IsFirstTouched (state_of self.now).time.now.table.entries cast.now groups) }
+        ensures handle { IfOk result (HasFirst (cast_of (state_of self.now).time.now.table.entries cast.now groups)) }
     {
         match self {
-            AnyWorld::Plain(world) => world.first_cast(cast, mask),
-            AnyWorld::Sap(world) => world.first_cast(cast, mask),
-            AnyWorld::Tree(world) => world.first_cast(cast, mask),
-            AnyWorld::Grid(world) => world.first_cast(cast, mask),
-            AnyWorld::Skin(world) => world.first_cast(cast, mask),
+            AnyWorld::Plain(world) => world.first_cast(cast, groups),
+            AnyWorld::Sap(world) => world.first_cast(cast, groups),
+            AnyWorld::Tree(world) => world.first_cast(cast, groups),
+            AnyWorld::Grid(world) => world.first_cast(cast, groups),
+            AnyWorld::Skin(world) => world.first_cast(cast, groups),
         }
     }
 }

@@ -11,7 +11,7 @@ use live_queries::{AskRoom, NearBoxQuery, NearQuery, push_nearest, push_nearest_
 use live_table::Handle;
 
 impl<B: BroadPhase + Drop> BoxWorld<B> {
-    /// Appends the handles of the live boxes that are nearest to a point, of the groups that the query's mask has: at most as
+    /// Appends the handles of the live boxes that are nearest to a point, of the groups that the query asks for: at most as
     /// many as it wants and at most `SLOTS`, in rising order of the square of their distance and then of their slot. After an
     /// `Err` `out` is as before.
     pub fn nearest(
@@ -22,7 +22,7 @@ impl<B: BroadPhase + Drop> BoxWorld<B> {
     ) -> Result<(), NoMemory>
         ensures sound { OnOk result (self.now.spent ≡ false) }
         ensures ok { OnOk result (out.new.items ≡ out.old.items
-            ++ nearest_to self.now.time.now.table.entries query.now.at (min query.now.want SLOTS) query.now.mask) }
+            ++ nearest_to self.now.time.now.table.entries query.now.at (min query.now.want SLOTS) query.now.groups) }
         ensures err { OnErr result (out.new.items ≡ out.old.items) }
     {
         if self.spent {
@@ -53,7 +53,7 @@ impl<B: BroadPhase + Drop> BoxWorld<B> {
     ) -> Result<(), NoMemory>
         ensures sound { OnOk result (self.now.spent ≡ false) }
         ensures ok { let wanted = min query.now.want SLOTS in OnOk result (out.new.items ≡ out.old.items
-            ++ nearest_to_box self.now.time.now.table.entries query.now.body query.now.from wanted query.now.mask) }
+            ++ nearest_to_box self.now.time.now.table.entries query.now.body query.now.from wanted query.now.groups) }
         ensures err { OnErr result (out.new.items ≡ out.old.items) }
     {
         if self.spent {

@@ -16,7 +16,8 @@ use box_cast::Cast;
 use broad_index::{BroadPhase, Query};
 use fixed_box::NoMemory;
 use live_queries::{
-    AskRoom, FirstHit, first_cast, first_entered, push_cast, push_entered, push_hits, push_pairs,
+    AskRoom, FirstHit, Groups, first_cast, first_entered, push_cast, push_entered, push_hits,
+    push_pairs,
 };
 use live_table::{Handle, Live, LiveTable};
 use pair_events::{Events, HPair};
@@ -146,18 +147,18 @@ impl<B: BroadPhase + Drop> BoxWorld<B> {
         }
     }
 
-    /// Appends the handles of the live boxes that meet a query and are in one of the groups that `mask` has, by their slots.
+    /// Appends the handles of the live boxes that meet a query, of the groups that are asked for, by their slots.
     /// After an `Err` `out` is as before. A spent world answers want of memory, here and in the queries below. They change nothing, so
     /// that several threads may ask one world at once, each with room of its own.
     pub fn hits(
         &self,
         query: &Query,
-        mask: u32,
+        groups: Groups,
         room: &mut AskRoom,
         out: &mut Vec<Handle>,
     ) -> Result<(), NoMemory>
         ensures sound { OnOk result (self.now.spent ≡ false) }
-        ensures ok { OnOk result (out.new.items ≡ out.old.items ++ hits_of self.now.time.now.table.entries query.now mask) }
+        ensures ok { OnOk result (out.new.items ≡ out.old.items ++ hits_of self.now.time.now.table.entries query.now groups) }
         ensures err { OnErr result (out.new.items ≡ out.old.items) }
     {
         if self.spent {
@@ -165,20 +166,20 @@ impl<B: BroadPhase + Drop> BoxWorld<B> {
         }
         room.slots.clear();
         self.parts.index.hits(query, &mut room.slots)?;
-        push_hits(&self.parts.table, query, mask, &room.slots, out)
+        push_hits(&self.parts.table, query, groups, &room.slots, out)
     }
 
-    /// Appends the handles of the live boxes that a ray meets, of the groups that `mask` has, in the order in which it first
+    /// Appends the handles of the live boxes that a ray meets, of the groups that are asked for, in the order in which it first
     /// meets them; those that it meets at one place come by their slots. After an `Err` `out` is as before.
     pub fn entered(
         &self,
         ray: &Ray,
-        mask: u32,
+        groups: Groups,
         room: &mut AskRoom,
         out: &mut Vec<Handle>,
     ) -> Result<(), NoMemory>
         ensures sound { OnOk result (self.now.spent ≡ false) }
-        ensures ok { OnOk result (out.new.items ≡ out.old.items ++ entered_of self.now.time.now.table.entries ray.now mask) }
+        ensures ok { OnOk result (out.new.items ≡ out.old.items ++ entered_of self.now.time.now.table.entries ray.now groups) }
         ensures err { OnErr result (out.new.items ≡ out.old.items) }
     {
         if self.spent {
@@ -190,25 +191,25 @@ impl<B: BroadPhase + Drop> BoxWorld<B> {
         push_entered(
             &self.parts.table,
             ray,
-            mask,
+            groups,
             &room.slots,
             &mut room.met,
             out,
         )
     }
 
-    /// Appends the handles of the live boxes that a box which is cast meets on its way, of the groups that `mask` has, in the
+    /// Appends the handles of the live boxes that a box which is cast meets on its way, of the groups that are asked for, in the
     /// order in which it first meets them; those that it meets at one place come by their slots. After an `Err` `out` is as
     /// before.
     pub fn cast(
         &self,
         cast: &Cast,
-        mask: u32,
+        groups: Groups,
         room: &mut AskRoom,
         out: &mut Vec<Handle>,
     ) -> Result<(), NoMemory>
         ensures sound { OnOk result (self.now.spent ≡ false) }
-        ensures ok { OnOk result (out.new.items ≡ out.old.items ++ cast_of self.now.time.now.table.entries cast.now mask) }
+        ensures ok { OnOk result (out.new.items ≡ out.old.items ++ cast_of self.now.time.now.table.entries cast.now groups) }
         ensures err { OnErr result (out.new.items ≡ out.old.items) }
     {
         if self.spent {
@@ -220,20 +221,20 @@ impl<B: BroadPhase + Drop> BoxWorld<B> {
         push_cast(
             &self.parts.table,
             cast,
-            mask,
+            groups,
             &room.slots,
             &mut room.met,
             out,
         )
     }
 
-    /// The live box that a ray enters first, of the groups that `mask` has, with the place and the face: the first that
+    /// The live box that a ray enters first, of the groups that are asked for, with the place and the face: the first that
     /// `entered` would tell, and `None` where it would tell none. An index that descends doesn't look at all that the ray
     /// meets, and then takes no memory.
-    pub fn first_entered(&self, ray: &Ray, mask: u32) -> Result<Option<FirstHit>, NoMemory>
+    pub fn first_entered(&self, ray: &Ray, groups: Groups) -> Result<Option<FirstHit>, NoMemory>
         ensures sound { OnOk result (self.now.spent ≡ false) }
-        ensures first { IfOk result (IsFirstEntered self.now.time.now.table.entries ray.now mask) }
-        ensures handle { IfOk result (HasFirst (entered_of self.now.time.now.table.entries ray.now mask)) }
+        ensures first { IfOk result (IsFirstEntered self.now.time.now.table.entries ray.now groups) }
+        ensures handle { IfOk result (HasFirst (entered_of self.now.time.now.table.entries ray.now groups)) }
     {
         if self.spent {
             return Err(NoMemory);
@@ -243,16 +244,16 @@ impl<B: BroadPhase + Drop> BoxWorld<B> {
             &self.parts.table,
             &self.parts.index,
             ray,
-            mask,
+            groups,
         )
     }
 
-    /// The live box that a box which is cast meets first on its way, of the groups that `mask` has, with the place and the
+    /// The live box that a box which is cast meets first on its way, of the groups that are asked for, with the place and the
     /// face: the first that `cast` would tell, and `None` where it would tell none.
-    pub fn first_cast(&self, cast: &Cast, mask: u32) -> Result<Option<FirstHit>, NoMemory>
+    pub fn first_cast(&self, cast: &Cast, groups: Groups) -> Result<Option<FirstHit>, NoMemory>
         ensures sound { OnOk result (self.now.spent ≡ false) }
-        ensures first { IfOk result (IsFirstTouched self.now.time.now.table.entries cast.now mask) }
-        ensures handle { IfOk result (HasFirst (cast_of self.now.time.now.table.entries cast.now mask)) }
+        ensures first { IfOk result (IsFirstTouched self.now.time.now.table.entries cast.now groups) }
+        ensures handle { IfOk result (HasFirst (cast_of self.now.time.now.table.entries cast.now groups)) }
     {
         if self.spent {
             return Err(NoMemory);
@@ -262,7 +263,7 @@ impl<B: BroadPhase + Drop> BoxWorld<B> {
             &self.parts.table,
             &self.parts.index,
             cast,
-            mask,
+            groups,
         )
     }
 }

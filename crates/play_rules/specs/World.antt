@@ -11,6 +11,7 @@ use Rattle.broad_index.specs.declared.query.Query.TheVariants.{Region, Spot, Alo
 use Rattle.broad_index.specs.declared.query.QKind.TheVariants as kind
 use Rattle.broad_index.specs.Found.{kind_of}
 use Rattle.pair_events.specs.PairEvents.{events}
+use Rattle.live_queries.specs.declared.groups.Groups.TheVariants.{Of}
 use Rattle.live_queries.specs.Pairs.{hits_of}
 use Rattle.live_queries.specs.Queries.{entered_of, cast_of, nearest_to}
 use Rattle.world_marks.specs.declared.TheConstants.{MOST_MARKS}
@@ -58,13 +59,13 @@ after counts w _ = w
 abbrev pub unless_live : World → Handle → List ℕ
 unless_live w handle = if is_some (entry_at handle (live_in w)) then [] else stale_line handle
 
--- the answer to a query
+-- the answer to a query: of the boxes in one of the mask's groups alone, here and below
 abbrev pub answer : World → Query → ℕ → List ℕ
-answer w query mask = hits_line (kind_of query) (hits_of (live_in w) query mask)
+answer w query mask = hits_line (kind_of query) (hits_of (live_in w) query (Of mask))
 
 -- the answer to a ray: by slots, or in the order in which it first meets the boxes
 abbrev pub ray_answer : World → Ray → ℕ → Bool → List ℕ
-ray_answer w ray mask true = hits_line kind.Along (entered_of (live_in w) ray mask)
+ray_answer w ray mask true = hits_line kind.Along (entered_of (live_in w) ray (Of mask))
 ray_answer w ray mask false = answer w (Along ray) mask
 
 -- the last line of a frame, where `shows` asks for it
@@ -96,8 +97,8 @@ reply shows w (BoxQ body mask) = answer w (Region body) mask
 reply shows w (PointQ at mask) = answer w (Spot at) mask
 reply shows w (RayQ ray mask entry) = ray_answer w ray mask entry
 reply shows w (SegQ seg mask) = answer w (Between seg) mask
-reply shows w (Cast cast mask) = cast_line (cast_of (live_in w) cast mask)
-reply shows w (Near at want mask) = near_line (nearest_to (live_in w) at want mask)
+reply shows w (Cast cast mask) = cast_line (cast_of (live_in w) cast (Of mask))
+reply shows w (Near at want mask) = near_line (nearest_to (live_in w) at want (Of mask))
 reply shows w Mark = mark_reply (length w.time.marks)
 reply shows w Back = back_reply w.time.marks
 reply shows w _ = []

@@ -6,7 +6,7 @@ use crate::worlds::NOBODYS;
 use any_world::{AnyWorld, Structure};
 use box_cast::Cast;
 use fixed_box::{FBox, Point};
-use live_queries::{AskRoom, Axis, Face, FirstHit, cast_meeting, ray_meeting};
+use live_queries::{AskRoom, Axis, Face, FirstHit, Groups, cast_meeting, ray_meeting};
 use live_table::{Handle, Live, Masks};
 use ray_slabs::{Ray, WPoint};
 use std::alloc::Global;
@@ -17,8 +17,8 @@ const LOW: i32 = i32::MIN;
 
 const HIGH: i32 = i32::MAX;
 
-// All groups.
-const ALL: u32 = u32::MAX;
+// In any group.
+const ALL: Groups = Groups::Of(u32::MAX);
 
 // What goes a way, in raw units.
 enum Way {
@@ -32,7 +32,7 @@ struct Case<'a> {
     name: &'a str,
     boxes: &'a [([[i32; 3]; 2], u32)],
     way: Way,
-    mask: u32,
+    groups: Groups,
     told: Option<(u32, (i64, i64), Option<(Axis, bool)>)>,
 }
 
@@ -45,7 +45,7 @@ const WHICH: &[Case<'static>] = &[
             from: [0, 5, 5],
             dir: [1, 0, 0],
         },
-        mask: ALL,
+        groups: ALL,
         told: None,
     },
     Case {
@@ -55,7 +55,7 @@ const WHICH: &[Case<'static>] = &[
             from: [0, 5, 5],
             dir: [1, 0, 0],
         },
-        mask: ALL,
+        groups: ALL,
         told: Some((0, (10, 1), Some((Axis::X, false)))),
     },
     Case {
@@ -65,7 +65,7 @@ const WHICH: &[Case<'static>] = &[
             from: [30, 5, 5],
             dir: [1, 0, 0],
         },
-        mask: ALL,
+        groups: ALL,
         told: None,
     },
     Case {
@@ -75,7 +75,7 @@ const WHICH: &[Case<'static>] = &[
             from: [0, 11, 5],
             dir: [1, 0, 0],
         },
-        mask: ALL,
+        groups: ALL,
         told: None,
     },
     Case {
@@ -88,7 +88,7 @@ const WHICH: &[Case<'static>] = &[
             from: [0, 5, 5],
             dir: [1, 0, 0],
         },
-        mask: ALL,
+        groups: ALL,
         told: Some((1, (10, 1), Some((Axis::X, false)))),
     },
     Case {
@@ -101,7 +101,7 @@ const WHICH: &[Case<'static>] = &[
             from: [0, 5, 5],
             dir: [1, 0, 0],
         },
-        mask: ALL,
+        groups: ALL,
         told: Some((0, (10, 1), Some((Axis::X, false)))),
     },
     Case {
@@ -114,7 +114,7 @@ const WHICH: &[Case<'static>] = &[
             from: [0, 5, 5],
             dir: [1, 0, 0],
         },
-        mask: ALL,
+        groups: ALL,
         told: Some((0, (10, 1), Some((Axis::X, false)))),
     },
     Case {
@@ -128,7 +128,7 @@ const WHICH: &[Case<'static>] = &[
             from: [0, 5, 5],
             dir: [1, 0, 0],
         },
-        mask: ALL,
+        groups: ALL,
         told: Some((1, (10, 1), Some((Axis::X, false)))),
     },
     Case {
@@ -141,7 +141,7 @@ const WHICH: &[Case<'static>] = &[
             from: [0, 5, 5],
             dir: [1, 0, 0],
         },
-        mask: 2,
+        groups: Groups::Of(2),
         told: Some((0, (30, 1), Some((Axis::X, false)))),
     },
     Case {
@@ -154,7 +154,43 @@ const WHICH: &[Case<'static>] = &[
             from: [0, 5, 5],
             dir: [1, 0, 0],
         },
-        mask: 4,
+        groups: Groups::Of(4),
+        told: None,
+    },
+    Case {
+        name: "one of no group, for any question of no group",
+        boxes: &[
+            ([[30, 0, 0], [40, 10, 10]], 2),
+            ([[10, 0, 0], [20, 10, 10]], 0),
+        ],
+        way: Way::Ray {
+            from: [0, 5, 5],
+            dir: [1, 0, 0],
+        },
+        groups: Groups::All,
+        told: Some((1, (10, 1), Some((Axis::X, false)))),
+    },
+    Case {
+        name: "one of no group, passed by for any mask",
+        boxes: &[
+            ([[30, 0, 0], [40, 10, 10]], 2),
+            ([[10, 0, 0], [20, 10, 10]], 0),
+        ],
+        way: Way::Cast {
+            body: [[0, 0, 0], [5, 5, 5]],
+            by: [100, 0, 0],
+        },
+        groups: ALL,
+        told: Some((0, (25, 100), Some((Axis::X, false)))),
+    },
+    Case {
+        name: "none for a mask of no group",
+        boxes: &[([[10, 0, 0], [20, 10, 10]], 1)],
+        way: Way::Ray {
+            from: [0, 5, 5],
+            dir: [1, 0, 0],
+        },
+        groups: Groups::Of(0),
         told: None,
     },
     Case {
@@ -167,7 +203,7 @@ const WHICH: &[Case<'static>] = &[
             from: [5, 5, 5],
             dir: [1, 0, 0],
         },
-        mask: ALL,
+        groups: ALL,
         told: Some((1, (0, 1), None)),
     },
 ];
@@ -181,7 +217,7 @@ const FACES: &[Case<'static>] = &[
             from: [50, 5, 5],
             dir: [-1, 0, 0],
         },
-        mask: ALL,
+        groups: ALL,
         told: Some((0, (30, 1), Some((Axis::X, true)))),
     },
     Case {
@@ -191,7 +227,7 @@ const FACES: &[Case<'static>] = &[
             from: [15, -7, 5],
             dir: [0, 1, 0],
         },
-        mask: ALL,
+        groups: ALL,
         told: Some((0, (7, 1), Some((Axis::Y, false)))),
     },
     Case {
@@ -201,7 +237,7 @@ const FACES: &[Case<'static>] = &[
             from: [15, 50, 5],
             dir: [0, -4, 0],
         },
-        mask: ALL,
+        groups: ALL,
         told: Some((0, (10, 1), Some((Axis::Y, true)))),
     },
     Case {
@@ -211,7 +247,7 @@ const FACES: &[Case<'static>] = &[
             from: [15, 5, -9],
             dir: [0, 0, 2],
         },
-        mask: ALL,
+        groups: ALL,
         told: Some((0, (9, 2), Some((Axis::Z, false)))),
     },
     Case {
@@ -221,7 +257,7 @@ const FACES: &[Case<'static>] = &[
             from: [15, 5, 11],
             dir: [0, 0, -1],
         },
-        mask: ALL,
+        groups: ALL,
         told: Some((0, (1, 1), Some((Axis::Z, true)))),
     },
     Case {
@@ -231,7 +267,7 @@ const FACES: &[Case<'static>] = &[
             from: [0, 0, 5],
             dir: [2, 1, 0],
         },
-        mask: ALL,
+        groups: ALL,
         told: Some((0, (8, 1), Some((Axis::Y, false)))),
     },
     Case {
@@ -241,7 +277,7 @@ const FACES: &[Case<'static>] = &[
             from: [0, 5, 20],
             dir: [1, 0, -1],
         },
-        mask: ALL,
+        groups: ALL,
         told: Some((0, (10, 1), Some((Axis::X, false)))),
     },
     Case {
@@ -251,7 +287,7 @@ const FACES: &[Case<'static>] = &[
             from: [15, 20, -10],
             dir: [0, -1, 1],
         },
-        mask: ALL,
+        groups: ALL,
         told: Some((0, (10, 1), Some((Axis::Y, true)))),
     },
     Case {
@@ -261,7 +297,7 @@ const FACES: &[Case<'static>] = &[
             from: [0, -10, -10],
             dir: [5, 5, 5],
         },
-        mask: ALL,
+        groups: ALL,
         told: Some((0, (10, 5), Some((Axis::X, false)))),
     },
     Case {
@@ -271,7 +307,7 @@ const FACES: &[Case<'static>] = &[
             from: [10, 5, 5],
             dir: [1, 0, 0],
         },
-        mask: ALL,
+        groups: ALL,
         told: Some((0, (0, 1), Some((Axis::X, false)))),
     },
     Case {
@@ -281,7 +317,7 @@ const FACES: &[Case<'static>] = &[
             from: [10, 5, 5],
             dir: [-1, 0, 0],
         },
-        mask: ALL,
+        groups: ALL,
         told: Some((0, (0, 1), None)),
     },
     Case {
@@ -291,7 +327,7 @@ const FACES: &[Case<'static>] = &[
             from: [10, 0, 5],
             dir: [0, 1, 0],
         },
-        mask: ALL,
+        groups: ALL,
         told: Some((0, (0, 1), Some((Axis::Y, false)))),
     },
     Case {
@@ -301,7 +337,7 @@ const FACES: &[Case<'static>] = &[
             from: [11, 5, 5],
             dir: [1, 1, 1],
         },
-        mask: ALL,
+        groups: ALL,
         told: Some((0, (0, 1), None)),
     },
     Case {
@@ -311,7 +347,7 @@ const FACES: &[Case<'static>] = &[
             from: [11, 5, 5],
             dir: [0, 0, 0],
         },
-        mask: ALL,
+        groups: ALL,
         told: Some((0, (0, 1), None)),
     },
     Case {
@@ -321,7 +357,7 @@ const FACES: &[Case<'static>] = &[
             from: [9, 5, 5],
             dir: [0, 0, 0],
         },
-        mask: ALL,
+        groups: ALL,
         told: None,
     },
     Case {
@@ -331,7 +367,7 @@ const FACES: &[Case<'static>] = &[
             from: [0, 5, 5],
             dir: [3, 0, 0],
         },
-        mask: ALL,
+        groups: ALL,
         told: Some((0, (10, 3), Some((Axis::X, false)))),
     },
 ];
@@ -345,7 +381,7 @@ const CASTS: &[Case<'static>] = &[
             body: [[0, 5, 5], [0, 5, 5]],
             by: [100, 0, 0],
         },
-        mask: ALL,
+        groups: ALL,
         told: Some((0, (10, 100), Some((Axis::X, false)))),
     },
     Case {
@@ -355,7 +391,7 @@ const CASTS: &[Case<'static>] = &[
             body: [[0, 2, 2], [4, 6, 6]],
             by: [100, 0, 0],
         },
-        mask: ALL,
+        groups: ALL,
         told: Some((0, (6, 100), Some((Axis::X, false)))),
     },
     Case {
@@ -365,7 +401,7 @@ const CASTS: &[Case<'static>] = &[
             body: [[0, 11, 2], [4, 15, 6]],
             by: [100, 0, 0],
         },
-        mask: ALL,
+        groups: ALL,
         told: None,
     },
     Case {
@@ -375,7 +411,7 @@ const CASTS: &[Case<'static>] = &[
             body: [[0, -5, -5], [4, 50, 50]],
             by: [100, 0, 0],
         },
-        mask: ALL,
+        groups: ALL,
         told: Some((0, (6, 100), Some((Axis::X, false)))),
     },
     Case {
@@ -385,7 +421,7 @@ const CASTS: &[Case<'static>] = &[
             body: [[0, 2, 2], [4, 6, 6]],
             by: [5, 0, 0],
         },
-        mask: ALL,
+        groups: ALL,
         told: None,
     },
     Case {
@@ -395,7 +431,7 @@ const CASTS: &[Case<'static>] = &[
             body: [[0, 2, 2], [4, 6, 6]],
             by: [6, 0, 0],
         },
-        mask: ALL,
+        groups: ALL,
         told: Some((0, (1, 1), Some((Axis::X, false)))),
     },
     Case {
@@ -405,7 +441,7 @@ const CASTS: &[Case<'static>] = &[
             body: [[40, 2, 2], [44, 6, 6]],
             by: [-100, 0, 0],
         },
-        mask: ALL,
+        groups: ALL,
         told: Some((0, (1, 5), Some((Axis::X, true)))),
     },
     Case {
@@ -415,7 +451,7 @@ const CASTS: &[Case<'static>] = &[
             body: [[12, -20, 2], [14, -10, 6]],
             by: [0, 40, 0],
         },
-        mask: ALL,
+        groups: ALL,
         told: Some((0, (1, 4), Some((Axis::Y, false)))),
     },
     Case {
@@ -425,7 +461,7 @@ const CASTS: &[Case<'static>] = &[
             body: [[12, 2, 25], [14, 6, 30]],
             by: [0, 0, -30],
         },
-        mask: ALL,
+        groups: ALL,
         told: Some((0, (1, 2), Some((Axis::Z, true)))),
     },
     Case {
@@ -435,7 +471,7 @@ const CASTS: &[Case<'static>] = &[
             body: [[0, -14, 2], [4, -6, 6]],
             by: [12, 12, 0],
         },
-        mask: ALL,
+        groups: ALL,
         told: Some((0, (1, 2), Some((Axis::X, false)))),
     },
     Case {
@@ -445,7 +481,7 @@ const CASTS: &[Case<'static>] = &[
             body: [[9, 2, 2], [14, 6, 6]],
             by: [100, 0, 0],
         },
-        mask: ALL,
+        groups: ALL,
         told: Some((0, (0, 1), None)),
     },
     Case {
@@ -455,7 +491,7 @@ const CASTS: &[Case<'static>] = &[
             body: [[0, 2, 2], [10, 6, 6]],
             by: [100, 0, 0],
         },
-        mask: ALL,
+        groups: ALL,
         told: Some((0, (0, 1), Some((Axis::X, false)))),
     },
     Case {
@@ -465,7 +501,7 @@ const CASTS: &[Case<'static>] = &[
             body: [[0, 2, 2], [10, 6, 6]],
             by: [0, 0, 0],
         },
-        mask: ALL,
+        groups: ALL,
         told: Some((0, (0, 1), None)),
     },
     Case {
@@ -475,7 +511,7 @@ const CASTS: &[Case<'static>] = &[
             body: [[0, 2, 2], [4, 6, 6]],
             by: [0, 0, 0],
         },
-        mask: ALL,
+        groups: ALL,
         told: None,
     },
     Case {
@@ -488,7 +524,7 @@ const CASTS: &[Case<'static>] = &[
             body: [[0, 2, 2], [4, 6, 6]],
             by: [100, 0, 0],
         },
-        mask: ALL,
+        groups: ALL,
         told: Some((1, (3, 50), Some((Axis::X, false)))),
     },
     Case {
@@ -501,7 +537,7 @@ const CASTS: &[Case<'static>] = &[
             body: [[0, 2, 2], [4, 6, 6]],
             by: [100, 0, 0],
         },
-        mask: ALL,
+        groups: ALL,
         told: Some((0, (6, 100), Some((Axis::X, false)))),
     },
     Case {
@@ -514,7 +550,7 @@ const CASTS: &[Case<'static>] = &[
             body: [[0, 2, 2], [4, 6, 6]],
             by: [100, 0, 0],
         },
-        mask: 2,
+        groups: Groups::Of(2),
         told: Some((0, (26, 100), Some((Axis::X, false)))),
     },
 ];
@@ -528,7 +564,7 @@ const EXTREMES: &[Case<'static>] = &[
             from: [-2_147_483_648, 0, 0],
             dir: [2_147_483_647, 0, 0],
         },
-        mask: ALL,
+        groups: ALL,
         told: Some((0, (4_294_967_295, 2_147_483_647), Some((Axis::X, false)))),
     },
     Case {
@@ -538,7 +574,7 @@ const EXTREMES: &[Case<'static>] = &[
             from: [17_179_869_184, 7, 7],
             dir: [-17_179_869_184, 0, 0],
         },
-        mask: ALL,
+        groups: ALL,
         told: Some((0, (19_327_352_832, 17_179_869_184), Some((Axis::X, true)))),
     },
     Case {
@@ -548,7 +584,7 @@ const EXTREMES: &[Case<'static>] = &[
             from: [-2_147_483_648, -2_147_483_648, -2_147_483_648],
             dir: [1, 1, 1],
         },
-        mask: ALL,
+        groups: ALL,
         told: Some((0, (0, 1), Some((Axis::X, false)))),
     },
     Case {
@@ -558,7 +594,7 @@ const EXTREMES: &[Case<'static>] = &[
             body: [[LOW, 0, 0], [LOW, 0, 0]],
             by: [HIGH, 0, 0],
         },
-        mask: ALL,
+        groups: ALL,
         told: Some((0, (1, 1), Some((Axis::X, false)))),
     },
     Case {
@@ -568,7 +604,7 @@ const EXTREMES: &[Case<'static>] = &[
             body: [[0, 0, 0], [1, 1, 1]],
             by: [HIGH, HIGH, HIGH],
         },
-        mask: ALL,
+        groups: ALL,
         told: Some((0, (2_147_483_646, 2_147_483_647), Some((Axis::X, false)))),
     },
     Case {
@@ -578,7 +614,7 @@ const EXTREMES: &[Case<'static>] = &[
             body: [[0, 0, 0], [0, 0, 0]],
             by: [LOW, LOW, LOW],
         },
-        mask: ALL,
+        groups: ALL,
         told: Some((0, (1, 1), Some((Axis::X, true)))),
     },
 ];
@@ -600,17 +636,17 @@ fn body_of(corners: &[[i32; 3]; 2]) -> Result<FBox, Fail> {
 }
 
 // What a way meets first.
-fn ask(world: &AnyWorld, way: &Way, mask: u32) -> Result<Option<FirstHit>, Fail> {
+fn ask(world: &AnyWorld, way: &Way, groups: Groups) -> Result<Option<FirstHit>, Fail> {
     match way {
         Way::Ray { from, dir } => {
             let from = wide_point(from)?;
             let dir = wide_point(dir)?;
-            Ok(world.first_entered(&Ray { from, dir }, mask)?)
+            Ok(world.first_entered(&Ray { from, dir }, groups)?)
         }
         Way::Cast { body, by } => {
             let body = body_of(body)?;
             let by = point(by);
-            Ok(world.first_cast(&Cast { body, by }, mask)?)
+            Ok(world.first_cast(&Cast { body, by }, groups)?)
         }
     }
 }
@@ -649,7 +685,7 @@ fn answers(alloc: Global, world: &mut AnyWorld, case: &Case<'_>) -> Result<(), F
         let masks = Masks { is: *is, sees: 1 };
         handles.push(world.add(body_of(corners)?, masks, NOBODYS)?)?;
     }
-    let hit = ask(world, &case.way, case.mask)?;
+    let hit = ask(world, &case.way, case.groups)?;
     let told = is_as_told(&hit, &handles, case);
     for handle in &handles {
         world.remove(*handle)?;
@@ -758,13 +794,22 @@ impl Random {
         Ok(FBox::new(lo, hi).ok_or("a box")?)
     }
 
-    // One group, or all three.
+    // One group, all three, or none.
     pub(crate) fn mask(&mut self) -> u32 {
-        match self.below(4) {
-            0 => ALL,
+        match self.below(5) {
+            0 => u32::MAX,
             1 => 1,
             2 => 2,
-            _ => 4,
+            3 => 4,
+            _ => 0,
+        }
+    }
+
+    // What looks at no group, or at those of a mask.
+    pub(crate) fn groups(&mut self) -> Groups {
+        match self.below(4) {
+            0 => Groups::All,
+            _ => Groups::Of(self.mask()),
         }
     }
 }
@@ -805,22 +850,22 @@ fn is_head(
     room: &mut AskRoom,
     handles: &mut Vec<Handle>,
 ) -> Result<bool, Fail> {
-    let mask = random.mask();
+    let groups = random.groups();
     let ray = Ray {
         from: WPoint::of(&random.point()),
         dir: WPoint::of(&random.way()),
     };
     handles.clear();
-    world.entered(&ray, mask, room, handles)?;
-    let first = world.first_entered(&ray, mask)?;
+    world.entered(&ray, groups, room, handles)?;
+    let first = world.first_entered(&ray, groups)?;
     let entered = is_first_of(&first, handles) && first == entered_alone(world, &ray, &first);
     let cast = Cast {
         body: random.body(20)?,
         by: random.way(),
     };
     handles.clear();
-    world.cast(&cast, mask, room, handles)?;
-    let first = world.first_cast(&cast, mask)?;
+    world.cast(&cast, groups, room, handles)?;
+    let first = world.first_cast(&cast, groups)?;
     let touched = is_first_of(&first, handles) && first == touched_alone(world, &cast, &first);
     Ok(entered && touched)
 }

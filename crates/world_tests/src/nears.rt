@@ -4,7 +4,7 @@ use crate::firsts::Random;
 use crate::worlds::NOBODYS;
 use any_world::{AnyWorld, Structure};
 use fixed_box::{FBox, Point};
-use live_queries::{AskRoom, NearBoxQuery, NearQuery};
+use live_queries::{AskRoom, Groups, NearBoxQuery, NearQuery};
 use live_table::{Handle, Masks};
 use std::alloc::Global;
 use std::mem;
@@ -87,8 +87,16 @@ fn question(world: &AnyWorld, random: &mut Random) -> Result<NearBoxQuery, Fail>
         body,
         from,
         want: u32::from(random.below(40)),
-        mask: random.mask(),
+        groups: random.groups(),
     })
+}
+
+// Whether a box of these groups is asked for.
+fn is_asked_for(is: u32, groups: Groups) -> bool {
+    match groups {
+        Groups::All => true,
+        Groups::Of(mask) => is & mask != 0,
+    }
 }
 
 // Every box that is asked for, by its square and its slot, in order; and of these the first so many.
@@ -97,7 +105,7 @@ fn look(world: &AnyWorld, query: &NearBoxQuery, seen: &mut Vec<(u128, u32)>) -> 
     for slot in 0..BOXES {
         if let Some(live) = world.at(slot) {
             let square = square_of(&query.body, &live.body);
-            if live.masks.is & query.mask != 0 && query.from <= square {
+            if is_asked_for(live.masks.is, query.groups) && query.from <= square {
                 seen.push((square, slot))?;
             }
         }
@@ -140,12 +148,12 @@ fn is_nearest(
         body: FBox::new(at, at).ok_or("a box")?,
         from: 0,
         want: query.want,
-        mask: query.mask,
+        groups: query.groups,
     };
     let about = NearQuery {
         at,
         want: query.want,
-        mask: query.mask,
+        groups: query.groups,
     };
     handles.clear();
     world.nearest(&about, room, handles)?;

@@ -8,7 +8,7 @@ use box_cast::Cast;
 use broad_index::{BroadPhase, PlainIndex, Query};
 use fixed_box::{FBox, Point, SLOTS};
 use live_queries::{
-    MetRoom, NearBoxQuery, NearQuery, push_cast, push_entered, push_hits, push_nearest,
+    Groups, MetRoom, NearBoxQuery, NearQuery, push_cast, push_entered, push_hits, push_nearest,
     push_nearest_box,
 };
 use live_table::{Group, Handle, LiveTable, Masks};
@@ -23,8 +23,8 @@ const HALF: i32 = 32_768;
 
 const LOW: i32 = i32::MIN;
 
-// All groups.
-const ALL: u32 = u32::MAX;
+// In any group.
+const ALL: Groups = Groups::Of(u32::MAX);
 
 // What is asked: which boxes a ray along the x axis meets, from a place on, by slot or by entry; which a box that is cast
 // along that axis meets; and which are nearest to a point, or to a box between two whole units along it, from a square on.
@@ -99,7 +99,7 @@ fn ask(
     table: &LiveTable,
     index: &PlainIndex,
     asked: &Asked,
-    mask: u32,
+    groups: Groups,
     out: &mut Vec<Handle>,
 ) -> Result<(), Fail>
     requires table { IsTable table.now }
@@ -111,12 +111,12 @@ fn ask(
         Asked::Hits(x) => {
             let query = Query::Along(ray_from(*x));
             index.hits(&query, &mut slots)?;
-            push_hits(table, &query, mask, &slots, out)?;
+            push_hits(table, &query, groups, &slots, out)?;
         }
         Asked::Entered(x) => {
             let ray = ray_from(*x);
             index.hits(&Query::Along(ray), &mut slots)?;
-            push_entered(table, &ray, mask, &slots, &mut MetRoom::new(alloc), out)?;
+            push_entered(table, &ray, groups, &slots, &mut MetRoom::new(alloc), out)?;
         }
         Asked::Cast { body, by } => {
             let cast = Cast {
@@ -124,13 +124,13 @@ fn ask(
                 by: Point { x: *by, y: 0, z: 0 },
             };
             index.hits(&Query::Swept(cast), &mut slots)?;
-            push_cast(table, &cast, mask, &slots, &mut MetRoom::new(alloc), out)?;
+            push_cast(table, &cast, groups, &slots, &mut MetRoom::new(alloc), out)?;
         }
         Asked::Nearest { at, want } => {
             let query = NearQuery {
                 at: point(at),
                 want: (*want).clamp(1, SLOTS),
-                mask,
+                groups,
             };
             push_nearest(table, index, &query, &mut Vec::new(alloc), out)?;
         }
@@ -139,7 +139,7 @@ fn ask(
                 body: body_of(&unit(*a, a.saturating_add(1)))?,
                 from: *from,
                 want: (*want).clamp(1, SLOTS),
-                mask,
+                groups,
             };
             push_nearest_box(table, index, &query, &mut Vec::new(alloc), out)?;
         }
@@ -153,7 +153,7 @@ fn answer(
     name: &str,
     boxes: &[[[i32; 3]; 2]],
     asked: Asked,
-    mask: u32,
+    groups: Groups,
     slots: &[u32],
 ) -> Result<(), Fail> {
     let mut table = LiveTable::new(alloc)?;
@@ -162,7 +162,7 @@ fn answer(
         enter(&mut table, &mut index, corners)?;
     }
     let mut handles = Vec::new(alloc);
-    ask(alloc, &table, &index, &asked, mask, &mut handles)?;
+    ask(alloc, &table, &index, &asked, groups, &mut handles)?;
     if are_first_of(&handles, slots) {
         Ok(())
     } else {
@@ -212,7 +212,7 @@ fn a_ray_meets_boxes_by_slot_or_by_entry(rt: HostRuntime) -> Result<(), Fail> {
         "a ray that begins in two boxes",
         &ahead,
         inside,
-        1,
+        Groups::Of(1),
         &[1, 2, 0],
     )?;
     answer(
@@ -220,7 +220,7 @@ fn a_ray_meets_boxes_by_slot_or_by_entry(rt: HostRuntime) -> Result<(), Fail> {
         "a ray for another group",
         &ahead,
         Asked::Entered(0),
-        2,
+        Groups::Of(2),
         &[],
     )
 }
@@ -298,7 +298,7 @@ fn the_nearest_come_first(rt: HostRuntime) -> Result<(), Fail> {
         "the nearest of another group",
         &crates,
         nearest(3),
-        2,
+        Groups::Of(2),
         &[],
     )
 }
@@ -324,7 +324,7 @@ fn the_nearest_to_a_box_go_on_from_a_distance(rt: HostRuntime) -> Result<(), Fai
         "the nearest of another group",
         &crates,
         nearest_box(0, 3),
-        2,
+        Groups::Of(2),
         &[],
     )
 }

@@ -4,7 +4,7 @@ use any_world::{AnyWorld, Structure};
 use box_world::{BoxWorld, Refusal};
 use broad_index::{BroadPhase, NoGate, PlainIndex, Query};
 use fixed_box::{FBox, Point, SLOTS};
-use live_queries::AskRoom;
+use live_queries::{AskRoom, Groups};
 use live_table::{Group, Handle, Masks};
 use pair_events::{Event, Events, HPair};
 use std::alloc::Global;
@@ -221,7 +221,8 @@ fn are_ordered(pairs: &[HPair]) -> bool {
 fn are_found(alloc: Global, world: &AnyWorld, boxes: Boxes) -> Result<bool, Fail> {
     let mut met = Vec::new(alloc);
     let mut room = AskRoom::new(alloc);
-    world.hits(&Query::Region(unit(0, 0)?), 1, &mut room, &mut met)?;
+    let about = Query::Region(unit(0, 0)?);
+    world.hits(&about, Groups::Of(1), &mut room, &mut met)?;
     Ok(met.len() == 2 && met[0] == boxes.first && met[1] == boxes.second)
 }
 

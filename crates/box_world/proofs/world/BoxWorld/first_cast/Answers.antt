@@ -6,4 +6,4 @@ use Rattle.box_world.proofs.world.BoxWorld.first_cast.Goals as goal
 
 pub returns-clause-handle : goal.returns-clause-handle
 returns-clause-handle g c =
-    subst (λ w. IfOk c.first_cast.result (HasFirst (cast_of w.time.now.table.entries c.args.cast.now c.args.mask))) c.self.view_is c.first_cast.ensures.handle
+    subst (λ w. IfOk c.first_cast.result (HasFirst (cast_of w.time.now.table.entries c.args.cast.now c.args.groups))) c.self.view_is c.first_cast.ensures.handle

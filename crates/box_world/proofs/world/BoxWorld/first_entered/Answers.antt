@@ -6,4 +6,4 @@ use Rattle.box_world.proofs.world.BoxWorld.first_entered.Goals as goal
 
 pub returns-clause-handle : goal.returns-clause-handle
 returns-clause-handle g c =
-    subst (λ w. IfOk c.first_entered.result (HasFirst (entered_of w.time.now.table.entries c.args.ray.now c.args.mask))) c.self.view_is c.first_entered.ensures.handle
+    subst (λ w. IfOk c.first_entered.result (HasFirst (entered_of w.time.now.table.entries c.args.ray.now c.args.groups))) c.self.view_is c.first_entered.ensures.handle
