@@ -5,6 +5,7 @@ use Rattle.broad_index.specs.declared.query.Query.{Query}
 use Rattle.broad_index.specs.declared.query.Query.TheVariants.{Region, Spot, Along, Between, Swept}
 use Rattle.broad_index.specs.declared.query.QKind.TheVariants as kind
 use Rattle.pair_report.specs.PairReport.{hits_line, cast_line}
+use Rattle.live_queries.specs.declared.groups.Groups.TheVariants.{Of}
 use Rattle.live_queries.specs.Pairs.{hits_of}
 use Rattle.live_queries.specs.Queries.{entered_of, cast_of}
 use Rattle.frame_player.specs.declared.asked.Asked.{Asked}
@@ -19,16 +20,16 @@ query_for (asked.Entered ray mask) = Along ray
 
 -- the line of the boxes that meet a query
 abbrev pub met_line : List Live → ℕ → Query → List ℕ
-met_line entries mask (Region body) = hits_line kind.Region (hits_of entries (Region body) mask)
-met_line entries mask (Spot at) = hits_line kind.Spot (hits_of entries (Spot at) mask)
-met_line entries mask (Along ray) = hits_line kind.Along (hits_of entries (Along ray) mask)
-met_line entries mask (Between seg) = hits_line kind.Between (hits_of entries (Between seg) mask)
-met_line entries mask (Swept cast) = cast_line (cast_of entries cast mask)
+met_line entries mask (Region body) = hits_line kind.Region (hits_of entries (Region body) (Of mask))
+met_line entries mask (Spot at) = hits_line kind.Spot (hits_of entries (Spot at) (Of mask))
+met_line entries mask (Along ray) = hits_line kind.Along (hits_of entries (Along ray) (Of mask))
+met_line entries mask (Between seg) = hits_line kind.Between (hits_of entries (Between seg) (Of mask))
+met_line entries mask (Swept cast) = cast_line (cast_of entries cast (Of mask))
 
 -- the line of an answer
 abbrev pub answer_line : List Live → Asked → List ℕ
 answer_line entries (asked.Hits query mask) = met_line entries mask query
-answer_line entries (asked.Entered ray mask) = hits_line kind.Along (entered_of entries ray mask)
+answer_line entries (asked.Entered ray mask) = hits_line kind.Along (entered_of entries ray (Of mask))
 
 -- a line for each, in their order
 abbrev pub answers : List Live → List Asked → List ℕ

@@ -19,27 +19,43 @@ pub(crate) fn reads_under(version: Option<Version>) -> Version
     }
 }
 
-// Why a command doesn't pass where it stands: before a header only that and blank lines do, later no second header does, nor does
-// a box for which there is no slot, where so many are live. It looks at the command where it is, since a copy costs more than
-// the question.
+// Why a command doesn't pass where it stands. Before a header only a header and blank lines pass. Later no second header does, and
+// no new box if so many are live that it has no slot. It looks at the command in its place, since a copy costs more than the
+// question.
 #[inline(always)]
 pub(crate) fn refusal(version: Option<Version>, live: u32, command: &Command) -> Option<Cause>
     ensures { unless_full live (allowed_in version (Ok command.now)) ≡ passes_unless command.now result }
 {
-    match version {
-        None => match command {
-            Command::Blank | Command::Header { .. } => None,
-            _ => Some(Cause::Header),
+    match command {
+        Command::Blank => None,
+        Command::Header { .. } => match version {
+            None => None,
+            Some(_) => Some(Cause::Header),
         },
-        Some(_) => match command {
-            Command::Header { .. } => Some(Cause::Header),
-            Command::Add { .. } if live >= SLOTS => Some(Cause::Full),
-            _ => None,
+        Command::Add { .. } => match version {
+            None => Some(Cause::Header),
+            Some(_) if live >= SLOTS => Some(Cause::Full),
+            Some(_) => None,
+        },
+        Command::Move { .. }
+        | Command::Mask { .. }
+        | Command::Remove { .. }
+        | Command::Frame
+        | Command::BoxQ { .. }
+        | Command::PointQ { .. }
+        | Command::RayQ { .. }
+        | Command::SegQ { .. }
+        | Command::Cast { .. }
+        | Command::Near { .. }
+        | Command::Mark
+        | Command::Back => match version {
+            None => Some(Cause::Header),
+            Some(_) => None,
         },
     }
 }
 
-// The cause for which a line of a fault is refused: before a header that it is none.
+// The cause for which a line of a fault is refused: before a header, that it isn't one.
 pub(crate) fn cause_for(version: Option<Version>, fault: LineFault) -> Cause
     ensures { allowed_in version (Err fault) ≡ Err result }
 {

@@ -2,6 +2,7 @@
 
 ghost use Rattle.std.specs.Prelude.{◌≡◌, ◌++◌, [], OnOk, OnErr};
 ghost use Rattle.broad_index.specs.Found.{found, kind_of};
+ghost use Rattle.live_queries.specs.declared.groups.Groups.TheVariants.{Of};
 ghost use Rattle.live_queries.specs.Pairs.{hits_of};
 ghost use Rattle.live_table.specs.Bodies.{bodies_of};
 ghost use Rattle.live_table.specs.Table.{IsTable};
@@ -10,7 +11,7 @@ ghost use Rattle.frame_player.specs.Owed.{query_for, answer_line, met_line};
 
 use broad_index::{QKind, Query};
 use fixed_box::NoMemory;
-use live_queries::{MetRoom, push_cast, push_entered, push_hits};
+use live_queries::{Groups, MetRoom, push_cast, push_entered, push_hits};
 use live_table::{Handle, LiveTable};
 use pair_report::{put_cast, put_hits};
 use ray_slabs::Ray;
@@ -54,7 +55,8 @@ impl Asked {
         match self {
             Asked::Hits { query, mask } => put_met(table, query, *mask, slots, handles, text),
             Asked::Entered { ray, mask } => {
-                push_entered(table, ray, *mask, slots, &mut MetRoom::new(alloc), handles)?;
+                let groups = Groups::Of(*mask);
+                push_entered(table, ray, groups, slots, &mut MetRoom::new(alloc), handles)?;
                 put_hits(QKind::Along, handles, text)
             }
         }
@@ -79,7 +81,15 @@ fn put_met(
     match query {
         Query::Swept(cast) => {
             let alloc = *handles.allocator();
-            push_cast(table, cast, mask, slots, &mut MetRoom::new(alloc), handles)?;
+            let groups = Groups::Of(mask);
+            push_cast(
+                table,
+                cast,
+                groups,
+                slots,
+                &mut MetRoom::new(alloc),
+                handles,
+            )?;
             put_cast(handles, text)
         }
         // each kind by itself, since its line is told by its kind
@@ -102,9 +112,9 @@ fn put_by_slots(
     requires table { IsTable table.now }
     requires found { slots.now ≡ found (bodies_of table.now.entries) query.now }
     requires empty { handles.old.items ≡ [] }
-    ensures ok { OnOk result (text.new.items ≡ text.old.items ++ hits_line (kind_of query.now) (hits_of table.now.entries query.now mask)) }
+    ensures ok { OnOk result (text.new.items ≡ text.old.items ++ hits_line (kind_of query.now) (hits_of table.now.entries query.now (Of mask))) }
     ensures err { OnErr result (text.new.items ≡ text.old.items) }
 {
-    push_hits(table, query, mask, slots, handles)?;
+    push_hits(table, query, Groups::Of(mask), slots, handles)?;
     put_hits(query.kind(), handles, text)
 }

@@ -5,8 +5,7 @@ ghost use Rattle.frame_player.specs.Deed.{asking, command_of};
 
 use crate::asked::Asked;
 use broad_index::Query;
-use fixed_box::FBox;
-use live_queries::NearQuery;
+use fixed_box::{FBox, Point};
 use live_table::{Group, Handle, Masks};
 use scene_words::{Command, Version};
 
@@ -18,11 +17,19 @@ pub(crate) enum Deed {
     // A query that can wait for its answer.
     Ask(Asked),
     // The nearest boxes, which are answered at once.
-    Nearest(NearQuery),
+    Nearest(NearestAsked),
     // The frame ends.
     EndFrame,
     // The world changes at once, and replies in at most one line.
     Change(Change),
+}
+
+// A question for the boxes that are nearest to a point, of the groups that its mask has.
+#[derive(Clone, Copy)]
+pub(crate) struct NearestAsked {
+    pub at: Point,
+    pub want: u32,
+    pub mask: u32,
 }
 
 // A change of the world.
@@ -75,7 +82,7 @@ impl Deed {
                 entry: true,
             } => Deed::Ask(Asked::Entered { ray, mask }),
             Command::Cast { cast, mask } => hits(Query::Swept(cast), mask),
-            Command::Near { at, want, mask } => Deed::Nearest(NearQuery { at, want, mask }),
+            Command::Near { at, want, mask } => Deed::Nearest(NearestAsked { at, want, mask }),
 
             Command::Header { version } => Deed::Change(Change::Header { version }),
             Command::Add { body, masks, group } => Deed::Change(Change::Add { body, masks, group }),

@@ -19,7 +19,7 @@ pub(crate) fn ended(status: Status, sent: Result<(), SinkFault>) -> Status
     }
 }
 
-// The answer where the sink failed. A read fault stays one.
+// The answer if the sink failed. A read fault stays one.
 fn after_fault(status: Status) -> Status
     ensures { result ≡ after_fault status }
 {

@@ -10,7 +10,7 @@ use pair_events::{Events, Told};
 use pair_report::{HandleTexts, put_exchanges, put_frame};
 use play_io::{Sink, SinkFault};
 
-// The line of a frame, one for each of its events, and that of its exchanges where they are to be shown. The text is
+// The line of a frame, one for each of its events, and that of its exchanges if they are to be shown. The text is
 // written a part at a time.
 #[tactic(auto, using(crate::proofs::Sending::report_out_of_memory))]
 pub(crate) fn send_frame<K: Sink>(

@@ -16,7 +16,7 @@ pub(crate) enum Last {
 }
 
 impl Last {
-    // How the play ends, where its text can be written.
+    // How the play ends, if its text can be written.
     pub(crate) fn status(self) -> Status
         ensures { result ≡ status_of self }
     {

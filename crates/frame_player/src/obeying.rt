@@ -1,6 +1,7 @@
 //! One line obeyed: a query waits, and any other line comes after the answers that are owed.
 
 ghost use Rattle.std.specs.Prelude.{◌≡◌, ◌++◌, Bool, false, Ok, OnOk, OnErr};
+ghost use Rattle.live_queries.specs.declared.groups.Groups.TheVariants.{Of};
 ghost use Rattle.live_queries.specs.Queries.{nearest_to};
 ghost use Rattle.pair_report.specs.PairReport.{near_line};
 ghost use Rattle.play_rules.specs.World.{after, allowed, reply};
@@ -10,20 +11,20 @@ ghost use Rattle.frame_player.specs.Outlet.{IsAppended, IsSentBy};
 ghost use Rattle.frame_player.specs.Owed.{owed, IsRun};
 ghost use Rattle.frame_player.specs.Player.{world_of, live_in, HasRoom};
 
-use crate::deed::{Change, Deed};
+use crate::deed::{Change, Deed, NearestAsked};
 use crate::player::Player;
 use crate::query_run::{QueryRun, gather, settle};
 use crate::report::Report;
 use crate::setup::Setup;
 use broad_index::{BroadPhase, Gate};
 use fixed_box::NoMemory;
-use live_queries::{AskRoom, NearQuery};
+use live_queries::{AskRoom, Groups, NearQuery};
 use pair_report::put_near;
 use play_io::{Sink, SinkFault};
 use scene_words::Command;
 use std::thread::Threads;
 
-// Does what a line asks for. A query is held, and any other line but a blank one comes after the answers that are owed.
+// Does what a line asks for. A query is held, and any other line, except a blank one, comes after the answers that are owed.
 pub(crate) fn obey<R: Threads + Sync, B: BroadPhase + Sync + Drop, G: Gate + Sync, K: Sink>(
     setup: &Setup<'_, R, G>,
     player: &mut Player<B>,
@@ -88,12 +89,12 @@ fn send_change<B: BroadPhase + Drop, K: Sink>(
 #[tactic(auto, using(crate::proofs::Sending::report_out_of_memory))]
 fn send_nearest<B: BroadPhase + Drop, K: Sink>(
     player: &Player<B>,
-    query: &NearQuery,
+    query: &NearestAsked,
     out: &mut Report<'_, K>,
 ) -> Result<(), SinkFault>
     requires wanted { IsWanted query.now.want }
     ensures sent { IsAppended K.written K.faults K.since out.old out.new
-        (near_line (nearest_to (live_in player.now.world) query.now.at query.now.want query.now.mask)) result }
+        (near_line (nearest_to (live_in player.now.world) query.now.at query.now.want (Of query.now.mask))) result }
 {
     put_nearest(player, query, out.text)?;
     out.hand_on()
@@ -101,16 +102,21 @@ fn send_nearest<B: BroadPhase + Drop, K: Sink>(
 
 fn put_nearest<B: BroadPhase + Drop>(
     player: &Player<B>,
-    query: &NearQuery,
+    query: &NearestAsked,
     text: &mut Vec<u8>,
 ) -> Result<(), NoMemory>
     requires wanted { IsWanted query.now.want }
     ensures ok { OnOk result (text.new.items ≡ text.old.items
-        ++ near_line (nearest_to (live_in player.now.world) query.now.at query.now.want query.now.mask)) }
+        ++ near_line (nearest_to (live_in player.now.world) query.now.at query.now.want (Of query.now.mask))) }
     ensures err { OnErr result (text.new.items ≡ text.old.items) }
 {
+    let near = NearQuery {
+        at: query.at,
+        want: query.want,
+        groups: Groups::Of(query.mask),
+    };
     let mut handles = Vec::new(player.alloc);
     let mut room = AskRoom::new(player.alloc);
-    player.world.nearest(query, &mut room, &mut handles)?;
+    player.world.nearest(&near, &mut room, &mut handles)?;
     put_near(&handles, text)
 }

@@ -169,7 +169,7 @@ impl<B: BroadPhase + Drop> Player<B> {
         }
     }
 
-    // The world is marked, where there is room for one more mark.
+    // The world is marked, if there is room for one more mark.
     fn mark(&mut self, out: &mut Vec<u8>) -> Result<(), NoMemory>
         requires sound { self.old.world.spent ≡ false }
         ensures obeyed { OnOk result (world_of self.new.version self.new.world ≡ after B.COUNTS (world_of self.old.version self.old.world) Command.Mark) }
@@ -184,7 +184,7 @@ impl<B: BroadPhase + Drop> Player<B> {
         }
     }
 
-    // The world is that of the newest mark again, where one is held.
+    // The world is that of the newest mark again, if one is held.
     fn back(&mut self, out: &mut Vec<u8>) -> Result<(), NoMemory>
         requires sound { self.old.world.spent ≡ false }
         ensures obeyed { OnOk result (world_of self.new.version self.new.world ≡ after B.COUNTS (world_of self.old.version self.old.world) Command.Back) }
@@ -227,7 +227,7 @@ impl<B: BroadPhase + Drop> Player<B> {
         )
     }
 
-    // The number of exchanges since the last frame, where it is to be shown.
+    // The number of exchanges since the last frame, if it is to be shown.
     fn shown_exchanges(&self, shows: bool) -> Option<u64>
         requires { self.now.world.spent ≡ false }
         ensures { shown_number result ≡ shown shows self.now.world.time.now.exchanges }

@@ -1,4 +1,4 @@
-//! A run of queries that are answered together, by several threads where it pays.
+//! A run of queries that are answered together, by several threads if it pays.
 
 ghost use Rattle.std.specs.Prelude.{◌≡◌, ◌≤◌, ◌++◌, ◌∷◌, [], false, length, map, OnOk};
 ghost use Rattle.broad_index.specs.Found.{found};
@@ -54,7 +54,7 @@ impl QueryRun {
     }
 }
 
-// Holds one more query, and answers the run where it is long enough.
+// Holds one more query, and answers the run if it is long enough.
 #[tactic(auto, using(crate::proofs::Sending::report_out_of_memory))]
 pub(crate) fn gather<R: Threads + Sync, B: BroadPhase + Sync + Drop, G: Gate + Sync, K: Sink>(
     setup: &Setup<'_, R, G>,

@@ -119,7 +119,20 @@ fn version_after(version: Option<Version>, command: &Command) -> Option<Version>
 {
     match command {
         Command::Header { version } => Some(*version),
-        _ => version,
+        Command::Blank
+        | Command::Add { .. }
+        | Command::Move { .. }
+        | Command::Mask { .. }
+        | Command::Remove { .. }
+        | Command::Frame
+        | Command::BoxQ { .. }
+        | Command::PointQ { .. }
+        | Command::RayQ { .. }
+        | Command::SegQ { .. }
+        | Command::Cast { .. }
+        | Command::Near { .. }
+        | Command::Mark
+        | Command::Back => version,
     }
 }
 
@@ -132,7 +145,20 @@ fn as_two(command: &Command) -> Command
         Command::Header { .. } => Command::Header {
             version: Version::Two,
         },
-        _ => *command,
+        Command::Blank
+        | Command::Add { .. }
+        | Command::Move { .. }
+        | Command::Mask { .. }
+        | Command::Remove { .. }
+        | Command::Frame
+        | Command::BoxQ { .. }
+        | Command::PointQ { .. }
+        | Command::RayQ { .. }
+        | Command::SegQ { .. }
+        | Command::Cast { .. }
+        | Command::Near { .. }
+        | Command::Mark
+        | Command::Back => *command,
     }
 }
 

@@ -17,7 +17,7 @@ use scene_words::{Command, LineFault, Version, read_command};
 /// What comes next of a scene.
 #[derive(Clone, Copy)]
 pub enum Step {
-    /// The next line, as a command that passes where it stands.
+    /// The next line, as a command that passes in its place.
     Command(Command),
     /// The next line is refused. Lines are numbered from 1.
     Refused { line: u32, cause: Cause },
@@ -27,10 +27,11 @@ pub enum Step {
     ReadFault,
 }
 
-/// Reads the next line of a scene as a command that passes, where a header named this version or none came, and so many boxes are live.
+/// Reads the next line of a scene as a command that passes. `version` is that of the last header, if one came, and `live` says how
+/// many boxes are live.
 ///
 /// The limit of lines comes first of the causes, then the length of the line, then what it says under its version, and at last
-/// room for one more box. A caller with no boxes says 0 live ones. The source is read only where the bytes held don't settle
+/// room for one more box. A caller with no boxes says 0 live ones. The source is read only if the bytes held don't settle
 /// the answer; nothing is allocated.
 ///
 /// After a command the reader stands behind its line, and may go on. Any other answer is the last: behind a refused line little
@@ -62,7 +63,7 @@ pub fn next_step<S: Source>(
     // Little more is read than a line that is refused.
     ensures ahead { OnRefused result (IsAhead (coming reader.old.held (S.left source.old)) reader.new.held (S.left source.new)) }
 
-    // Where no line comes, the bytes stay. A read that fails leaves no line that ended.
+    // If no line comes, the bytes stay. A read that fails leaves no line that ended.
     ensures kept { OnStop result (coming reader.new.held (S.left source.new) ≡ coming reader.old.held (S.left source.old)) }
     ensures counted { IfEnd result (λ lines. lines ≡ reader.old.number) }
     ensures fault { OnReadFault result (S.faults source.old < S.faults source.new) }
@@ -99,7 +100,7 @@ pub fn next_step<S: Source>(
     }
 }
 
-// What a line comes to that said this where it stands.
+// What a line that said this comes to in its place.
 #[inline(always)]
 fn step_for(
     line: u32,
