@@ -63,7 +63,7 @@ impl<B: BroadPhase + Drop> World<B> {
 
     /// Moves bodies to where they are now, and puts the pairs that touch then into `touching`, in rising order.
     ///
-    /// What `touching` had is dropped, and its memory serves again. Where a body is moved twice, the later move counts.
+    /// What `touching` had is dropped, and its memory serves again. If a body is moved twice, the later move counts.
     /// Each move begins a new count of exchanges, so the index's count tells nothing of the tick.
     pub fn tick(&mut self, moved: &[(u32, FBox)], touching: &mut Vec<Pair>) -> Result<(), NoMemory>
         requires sound { B.spent self.old.index ≡ false }
@@ -76,7 +76,7 @@ impl<B: BroadPhase + Drop> World<B> {
         ensures in_order { OnOk result (touching.new.items ≡ near (B.bodies self.new.index)) }
         ensures sound { OnOk result (B.spent self.new.index ≡ false) }
         ensures err { OnErr result (touching.new.items ≡ []) }
-        // Where a move ran out of memory the index is spent, and where the search did all moves are made.
+        // If a move ran out of memory the index is spent, and if the search did all moves are made.
         ensures left { OnErr result (B.spent self.new.index ≡ false → B.bodies self.new.index ≡ moved_all (B.bodies self.old.index) moved.now) }
     {
         order_laws();
