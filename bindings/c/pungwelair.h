@@ -46,11 +46,14 @@ extern "C" {
 /* The version, for #if and as a text. The shared library's soname has the major number: for a program that is linked already,
  * another major number is another library. */
 #define PW_VERSION_MAJOR 0
-#define PW_VERSION_MINOR 5
+#define PW_VERSION_MINOR 6
 #define PW_VERSION_PATCH 0
 #define PW_VERSION_QUOTED(major, minor, patch) #major "." #minor "." #patch
 #define PW_VERSION_OF(major, minor, patch) PW_VERSION_QUOTED(major, minor, patch)
 #define PW_VERSION PW_VERSION_OF(PW_VERSION_MAJOR, PW_VERSION_MINOR, PW_VERSION_PATCH)
+
+/* The same as one number, 6000 for 0.6.0, which pw_version tells of the library. */
+#define PW_VERSION_NUMBER (PW_VERSION_MAJOR * 1000000u + PW_VERSION_MINOR * 1000u + PW_VERSION_PATCH)
 
 /* The most boxes that live at once. Slots are below it, so an array of this length has room for the answer to any question.
  * (There may be more pairs, events and changes.) */
@@ -84,9 +87,10 @@ enum {
                              After pw_add, pw_move or pw_back a world over PW_PLAIN or PW_SAP may be spent, which pw_info tells;
                              one over PW_TREE, PW_GRID or PW_SKIN never is. A spent world keeps what it had: pw_get, pw_at,
                              pw_pairs, pw_events, pw_changes and pw_info tell its boxes, pairs, events, frames and marks, and
-                             pw_ray_meets, pw_cast_meets, pw_square_to and pw_square_apart answer about its boxes. Each other
-                             call that would change it or ask it gives PW_NO_MEMORY, also by a reader. Close it, open another
-                             one and add its boxes there. After any other call all is as before: ask again. */
+                             pw_ray_meets, pw_cast_meets, pw_square_to and pw_square_apart answer about its boxes, and so do
+                             these by a reader. Each other call that would change it or ask it gives PW_NO_MEMORY, also by a
+                             reader. Close it, open another one and add its boxes there. After any other call all is as before:
+                             ask again. */
     PW_INVERTED = 4,      /* not a box: lo > hi on some axis */
     PW_CLOSED = 5,        /* the world isn't open, as while readers read it; or the reader isn't, or it reads no world */
     PW_ARGUMENT = 6,      /* no such structure, no such kind of question, a region whose lo > hi, lengths that don't agree,
@@ -101,7 +105,7 @@ enum {
 };
 
 /* What each call may give beside PW_OK. Each that takes a world or a reader, except pw_open and pw_reader_open, may give PW_CLOSED
- * too. Each question by a reader, pw_reader_hits and the like, gives what the call without `reader_` gives.
+ * too. Each question by a reader, and each reading by one, gives what the call without `reader_` gives.
  *
  *     pw_open                              PW_ARGUMENT, PW_NO_MEMORY
  *     pw_add                               PW_ARGUMENT, PW_INVERTED, PW_FULL, PW_EXHAUSTED, PW_NO_MEMORY
@@ -179,12 +183,12 @@ typedef struct pw_box {
 } pw_box;
 
 /* The groups that a box is in and those that it sees, a bit each. Two boxes pair if each sees a group that the other is in. A box with
- * `is` 0 is in no group: it pairs with no box, and no question finds it, whatever `mask` is asked for. */
+ * `is` 0 is in no group: it pairs with no box, and a question finds it only if its mask is 0. */
 typedef struct pw_masks {
     uint32_t is, sees;
 } pw_masks;
 
-/* Whose a box is (0: nobody's), and whether it is fixed (any number but 0). Boxes of one owner don't pair, nor do two fixed
+/* Whose a box is (0: nobody's), and whether it is fixed (any number except 0). Boxes of one owner don't pair, nor do two fixed
  * ones. */
 typedef struct pw_group {
     uint32_t owner, fixed;
@@ -230,27 +234,27 @@ typedef struct pw_counts {
     size_t pairs, events, changes;
 } pw_counts;
 
-/* A question about the boxes of the groups of `mask`: PW_REGION, PW_POINT, PW_RAY or PW_SEGMENT. A mask of 0 finds no box, here and
- * below. */
+/* A question about boxes, by their groups: PW_REGION, PW_POINT, PW_RAY or PW_SEGMENT. Here and below a question with the mask 0 looks at
+ * no group: it finds every box, those in no group too. With any other mask it finds boxes that are in one of its groups. */
 typedef struct pw_query {
     uint32_t kind, mask;
     pw_point a, b;
 } pw_query;
 
-/* A ray without end, for the boxes of the groups of `mask`. A direction of zero asks for the boxes that hold `from`. */
+/* A ray without end, for the boxes that `mask` asks for. A direction of zero asks for the boxes that hold `from`. */
 typedef struct pw_ray {
     uint32_t mask;
     pw_point from, direction;
 } pw_ray;
 
-/* A box that is moved along a line, by a displacement, and meets boxes of the groups of `mask` on its way. */
+/* A box that is moved along a line, by a displacement, and meets boxes that `mask` asks for on its way. */
 typedef struct pw_cast {
     uint32_t mask;
     pw_box body;
     pw_point by;
 } pw_cast;
 
-/* The boxes that are nearest to a place: at most `want`, of the groups of `mask`. */
+/* The boxes that are nearest to a place: at most `want`, of those that `mask` asks for. */
 typedef struct pw_near {
     uint32_t mask, want;
     pw_point at;
@@ -272,8 +276,8 @@ typedef struct pw_square {
     uint64_t low, high;
 } pw_square;
 
-/* The boxes that are nearest to a box, from a distance on: at most `want`, of the groups of `mask`, whose squared distance from `body`
- * is at least `from`. */
+/* The boxes that are nearest to a box, from a distance on: at most `want`, of those that `mask` asks for and whose squared distance from
+ * `body` is at least `from`. */
 typedef struct pw_near_box {
     uint32_t mask, want;
     pw_box body;
@@ -294,6 +298,10 @@ typedef struct pw_bits_32 {
 typedef struct pw_bits_64 {
     uint64_t x, y, z;
 } pw_bits_64;
+
+/* The version of the library that runs: PW_VERSION_NUMBER of the header that it was built with. A program tells by it that the shared
+ * library is the one which it was compiled for. */
+uint32_t pw_version(void);
 
 /* Opens a closed world, with no box. It takes some half a megabyte and what the structure takes (at 8,192 boxes: see
  * docs/LIBRARY.md). PW_ARGUMENT: it is open, or there is no such structure. PW_NO_MEMORY: it stays closed. */
@@ -382,7 +390,7 @@ pw_status pw_nearest(pw_world *world, const pw_near *near_to, pw_handle *out, si
 
 /* The same for a box, from a distance on: of the live boxes whose square of the distance from `body` is at least `from`, the nearest,
  * in rising order of that square (0 for a box that meets it) and then of their slots. The square pw_square_apart tells. With `from` 0
- * none is too near. To go on behind an answer, ask from the square of its last box on: boxes as near as that are told again. The search
+ * no box is too near. To go on behind an answer, ask from the square of its last box on: boxes as near as that are told again. The search
  * comes by boxes that are too near as well. PW_INVERTED: `body` is no box. PW_NO_MEMORY. */
 pw_status pw_nearest_box(pw_world *world, const pw_near_box *near_to, pw_handle *out, size_t out_len, size_t *total);
 
@@ -477,8 +485,8 @@ pw_status pw_join(pw_reader *reader, pw_reader *other);
  * isn't, and the reader isn't open or reads none. After both all is as before. */
 pw_status pw_unshare(pw_reader *reader, pw_world *world);
 
-/* The questions, by a reader: each is the call without `reader_` of the world that it reads, with the same answer, statuses and cost.
- * PW_CLOSED: the reader isn't open or reads no world. What isn't here, as pw_get and pw_pairs, is read before the world is shared. */
+/* The questions and what is read, by a reader: each is the call without `reader_` of the world that it reads, with the same answer,
+ * statuses and cost. PW_CLOSED: the reader isn't open or reads no world. pw_pairs_now isn't here: ask it before the world is shared. */
 pw_status pw_reader_hits(pw_reader *reader, const pw_query *query, pw_handle *out, size_t out_len, size_t *total);
 pw_status pw_reader_ray_hits(pw_reader *reader, const pw_ray *ray, pw_handle *out, size_t out_len, size_t *total);
 pw_status pw_reader_cast_hits(pw_reader *reader, const pw_cast *cast, pw_handle *out, size_t out_len, size_t *total);
@@ -495,6 +503,12 @@ pw_status pw_reader_ray_meets(pw_reader *reader, const pw_ray *ray, pw_handle ha
 pw_status pw_reader_cast_meets(pw_reader *reader, const pw_cast *cast, pw_handle handle, pw_hit *out, size_t *count);
 pw_status pw_reader_square_to(pw_reader *reader, const pw_point *at, pw_handle handle, pw_square *out);
 pw_status pw_reader_square_apart(pw_reader *reader, const pw_box *body, pw_handle handle, pw_square *out);
+pw_status pw_reader_get(pw_reader *reader, pw_handle handle, pw_live *out);
+pw_status pw_reader_at(pw_reader *reader, uint32_t slot, pw_handle *handle, pw_live *out);
+pw_status pw_reader_pairs(pw_reader *reader, size_t from, pw_pair *out, size_t out_len, size_t *copied);
+pw_status pw_reader_events(pw_reader *reader, size_t from, pw_told *out, size_t out_len, size_t *copied);
+pw_status pw_reader_changes(pw_reader *reader, size_t from, pw_told *out, size_t out_len, size_t *copied);
+pw_status pw_reader_info(pw_reader *reader, pw_world_info *out);
 
 /* The greatest raw number that is at most 65,536 times a float, and the least that is at least that, by the float's bits. -0 is 0.
  * PW_NOT_A_NUMBER, PW_OUT_OF_RANGE: `out` is as it was. */

@@ -17,7 +17,7 @@ use Rattle.held_world.specs.declared.answers.Reply.{Reply}
 use Rattle.held_world.specs.declared.squares.PwSquare.{PwSquare}
 use Rattle.held_world.specs.declared.plain.PwHit.{PwHit}
 use Rattle.held_world.specs.Asks.{IsUnanswered}
-use Rattle.held_world.specs.Plain.{handle_out, square_out}
+use Rattle.held_world.specs.Plain.{groups_in, handle_out, square_out}
 
 -- an axis by its number
 abbrev pub axis_out : Axis → ℕ
@@ -94,7 +94,7 @@ apart_out None entry = Err INVERTED
 apart_out (Some body) None = Err STALE
 apart_out (Some body) (Some live) = Ok (square_out (square_apart body live.body))
 
--- the same for a box that is cast, where there is one, among live boxes of some groups
+-- the same for a box that is cast, where there is one, among live boxes of the groups that a mask asks for
 abbrev pub AsksFirstCast : Option Cast → List Live → ℕ → Bool → Reply → PwHit → PwHit → Type 0
 AsksFirstCast None entries mask spent reply room out = IsUnanswered INVERTED reply room out
-AsksFirstCast (Some cast) entries mask spent reply room out = AsksFirst (IsFirstTouched entries cast mask) spent reply room out
+AsksFirstCast (Some cast) entries mask spent reply room out = AsksFirst (IsFirstTouched entries cast (groups_in mask)) spent reply room out

@@ -10,7 +10,7 @@ use Rattle.held_world.specs.declared.plain.PwHandle.{PwHandle}
 use Rattle.held_world.specs.declared.plain.PwHit.{PwHit}
 use Rattle.held_world.specs.declared.plain.PwQuery.{PwQuery}
 use Rattle.held_world.specs.Copies.{copied}
-use Rattle.held_world.specs.Plain.{handle_out, query_in}
+use Rattle.held_world.specs.Plain.{groups_in, handle_out, query_in}
 
 -- ---- first hits
 -- what the room has where nothing is met: the handle of no box
@@ -43,10 +43,10 @@ pub record AsksEach {A : Type 0} (Says : A → Reply → PwHit → PwHit → Typ
   pub enough : length asked ≤ length room → AnswersEach Says asked reply room out
 
 -- ---- all hits
--- the boxes that meet a question, which is known or is none
+-- the boxes that meet a question, which is known or is none, of the groups that its mask asks for
 abbrev pub hits_for : List Live → ℕ → Option Query → List Handle
 hits_for entries mask None = []
-hits_for entries mask (Some asked) = hits_of entries asked mask
+hits_for entries mask (Some asked) = hits_of entries asked (groups_in mask)
 
 abbrev pub hits_in : List Live → PwQuery → List Handle
 hits_in entries query = hits_for entries query.mask (query_in query)

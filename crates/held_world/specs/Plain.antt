@@ -10,6 +10,8 @@ use Rattle.live_table.specs.declared.group.Group.{Group}
 use Rattle.live_table.specs.declared.handle.Handle.{Handle}
 use Rattle.live_table.specs.declared.live.Live.{Live}
 use Rattle.live_table.specs.declared.masks.Masks.{Masks}
+use Rattle.live_queries.specs.declared.groups.Groups.{Groups}
+use Rattle.live_queries.specs.declared.groups.Groups.TheVariants.{All, Of}
 use Rattle.live_queries.specs.declared.nearest.NearBoxQuery.{NearBoxQuery}
 use Rattle.live_queries.specs.declared.nearest.NearQuery.{NearQuery}
 use Rattle.pair_events.specs.declared.hpair.HPair.{HPair}
@@ -88,6 +90,10 @@ event_out Over = OVER
 abbrev pub told_out : Told → PwTold
 told_out t = record { event = event_out t.event; pair = pair_out t.pair }
 
+-- The groups that a question looks at: with the mask 0 it looks at none, and asks for each box.
+abbrev pub groups_in : ℕ → Groups
+groups_in mask = if mask == 0 then All else Of mask
+
 -- A question of one of the four kinds: a region isn't one where its corners are the wrong way round.
 abbrev pub query_in : PwQuery → Option Query
 query_in q =
@@ -120,7 +126,7 @@ abbrev pub cast_in : PwCast → Option Cast
 cast_in c = option_map (λ body. record { body = body; by = point_in c.by }) (body_in c.body)
 
 abbrev pub near_in : PwNear → NearQuery
-near_in n = record { at = point_in n.at; want = n.want; mask = n.mask }
+near_in n = record { at = point_in n.at; want = n.want; groups = groups_in n.mask }
 
 -- the square of a distance in two words
 abbrev pub square_out : ℕ → PwSquare
@@ -131,4 +137,4 @@ square_in s = s.high * 2 ^ 64 + s.low
 
 -- a box that isn't inverted, with the square of the distance from which others count
 abbrev pub near_box_in : PwNearBox → Option NearBoxQuery
-near_box_in n = option_map (λ body. record { body = body; from = square_in n.from; want = n.want; mask = n.mask }) (body_in n.body)
+near_box_in n = option_map (λ body. record { body = body; from = square_in n.from; want = n.want; groups = groups_in n.mask }) (body_in n.body)

@@ -5,10 +5,10 @@ ghost use Rattle.live_queries.specs.First.{IsFirstEntered};
 ghost use Rattle.any_world.specs.AnyWorld.{state_of};
 ghost use Rattle.held_world.specs.declared.TheConstants.{OK, NO_MEMORY};
 ghost use Rattle.held_world.specs.Firsts.{hit_out, axis_out, axis_of, side_of, hit_count, hit_told, AsksFirst, AsksFirstCast};
-ghost use Rattle.held_world.specs.Plain.{ray_in, cast_in};
+ghost use Rattle.held_world.specs.Plain.{groups_in, ray_in, cast_in};
 
 use crate::plain::{PwHit, handle_out};
-use crate::questions::{PwCast, PwRay, cast_of, ray_of};
+use crate::questions::{PwCast, PwRay, cast_of, groups_of, ray_of};
 use crate::{HeldWorld, INVERTED, LOWER, NO_AXIS, NO_MEMORY, OK, Reply, UPPER};
 use fixed_box::NoMemory;
 use live_queries::{Axis, Face, FirstHit};
@@ -18,9 +18,9 @@ impl HeldWorld {
     /// count is 1, or 0 where it meets none. After any status but `OK`, and where the count is 0, `out` is as before, here and below.
     pub fn first_entered(&self, ray: &PwRay, out: &mut PwHit) -> Reply
         ensures { let state = state_of self.now.world in
-            AsksFirst (IsFirstEntered state.time.now.table.entries (ray_in ray.now) ray.now.mask) state.spent result out.old out.new }
+            AsksFirst (IsFirstEntered state.time.now.table.entries (ray_in ray.now) (groups_in ray.now.mask)) state.spent result out.old out.new }
     {
-        let first = self.world.first_entered(&ray_of(ray), ray.mask);
+        let first = self.world.first_entered(&ray_of(ray), groups_of(ray.mask));
         told(first, out)
     }
 
@@ -35,7 +35,7 @@ impl HeldWorld {
                 count: 0,
             };
         };
-        let first = self.world.first_cast(&asked, cast.mask);
+        let first = self.world.first_cast(&asked, groups_of(cast.mask));
         told(first, out)
     }
 }

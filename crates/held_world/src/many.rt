@@ -6,11 +6,11 @@ ghost use Rattle.any_world.specs.AnyWorld.{state_of};
 ghost use Rattle.held_world.specs.declared.TheConstants.{ARGUMENT, OK};
 ghost use Rattle.held_world.specs.Firsts.{AsksFirst, AsksFirstCast};
 ghost use Rattle.held_world.specs.Many.{AsksAll, AsksEach, IsNoAnswer, hits_in, no_hit};
-ghost use Rattle.held_world.specs.Plain.{cast_in, query_in, ray_in};
+ghost use Rattle.held_world.specs.Plain.{cast_in, groups_in, query_in, ray_in};
 
 use crate::copying::copy_handles;
 use crate::plain::{PwHandle, PwHit, PwQuery, query_of};
-use crate::questions::{PwCast, PwRay};
+use crate::questions::{PwCast, PwRay, groups_of};
 use crate::{ARGUMENT, HeldRoom, HeldWorld, LOWER, NO_AXIS, NO_MEMORY, OK, Reply};
 use any_world::AnyWorld;
 
@@ -21,7 +21,8 @@ impl HeldWorld {
     /// nothing is asked, here and below.
     pub fn first_entered_each(&self, rays: &[PwRay], out: &mut [PwHit]) -> Reply
         ensures { let state = state_of self.now.world in
-            AsksEach (λ ray. AsksFirst (IsFirstEntered state.time.now.table.entries (ray_in ray) ray.mask) state.spent) rays.now result out.old out.new }
+            AsksEach (λ ray. AsksFirst (IsFirstEntered state.time.now.table.entries (ray_in ray) (groups_in ray.mask)) state.spent) rays.now
+            result out.old out.new }
     {
         if out.len() < rays.len() {
             return too_little_room();
@@ -110,7 +111,8 @@ impl HeldRoom {
         let Some(asked) = query_of(query) else {
             return ARGUMENT;
         };
-        match world.hits(&asked, query.mask, &mut self.asking, &mut self.found) {
+        let groups = groups_of(query.mask);
+        match world.hits(&asked, groups, &mut self.asking, &mut self.found) {
             Ok(()) => OK,
             Err(_) => NO_MEMORY,
         }

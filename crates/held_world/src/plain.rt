@@ -90,8 +90,8 @@ pub struct PwHit {
     pub side: u32,
 }
 
-/// A question about the boxes of the groups that `mask` has. What `a` and `b` are is told by its kind: `REGION`, `POINT`,
-/// `RAY` or `SEGMENT`.
+/// A question about the boxes of the groups that `mask` has, or with the mask 0 about all boxes, those of no group too. What `a` and
+/// `b` are is told by its kind: `REGION`, `POINT`, `RAY` or `SEGMENT`.
 #[repr(C)]
 #[derive(Clone, Copy)]
 pub struct PwQuery {

@@ -1,15 +1,15 @@
 //! Rays, moved boxes and nearest boxes as plain structs that C shares.
 
 ghost use Rattle.std.specs.Prelude.{◌≡◌};
-ghost use Rattle.held_world.specs.Plain.{ray_in, cast_in, near_in, near_box_in};
+ghost use Rattle.held_world.specs.Plain.{groups_in, ray_in, cast_in, near_in, near_box_in};
 
 use crate::plain::{PwBox, PwPoint, body_of, point_of};
 use crate::squares::{PwSquare, square_of};
 use box_cast::Cast;
-use live_queries::{NearBoxQuery, NearQuery};
+use live_queries::{Groups, NearBoxQuery, NearQuery};
 use ray_slabs::{Ray, WPoint};
 
-/// A ray without end, for the boxes of the groups that `mask` has. With a direction of zero it asks for those that hold `from`.
+/// A ray without end, for the boxes of the groups that `mask` asks for. With a direction of zero it asks for those that hold `from`.
 #[repr(C)]
 #[derive(Clone, Copy)]
 pub struct PwRay {
@@ -18,7 +18,7 @@ pub struct PwRay {
     pub direction: PwPoint,
 }
 
-/// A box that is moved along a line by a displacement, for the boxes of the groups that `mask` has.
+/// A box that is moved along a line by a displacement, for the boxes of the groups that `mask` asks for.
 #[repr(C)]
 #[derive(Clone, Copy)]
 pub struct PwCast {
@@ -27,7 +27,7 @@ pub struct PwCast {
     pub by: PwPoint,
 }
 
-/// The boxes that are nearest to a place: at most `want`, of the groups that `mask` has.
+/// The boxes that are nearest to a place: at most `want`, of the groups that `mask` asks for.
 #[repr(C)]
 #[derive(Clone, Copy)]
 pub struct PwNear {
@@ -37,7 +37,7 @@ pub struct PwNear {
 }
 
 /// The boxes that are nearest to a box, of those whose squared distance from it is at least `from`: at most `want`, of the groups that
-/// `mask` has. To go on after an answer, ask from the square of its last box on: boxes as near as that are told again.
+/// `mask` asks for. To go on after an answer, ask from the square of its last box on: boxes as near as that are told again.
 #[repr(C)]
 #[derive(Clone, Copy)]
 pub struct PwNearBox {
@@ -45,6 +45,17 @@ pub struct PwNearBox {
     pub want: u32,
     pub body: PwBox,
     pub from: PwSquare,
+}
+
+// The groups that a question looks at: with the mask 0 it looks at none, and finds boxes of no group too.
+pub(crate) fn groups_of(mask: u32) -> Groups
+    ensures { result ≡ groups_in mask }
+{
+    if mask == 0 {
+        Groups::All
+    } else {
+        Groups::Of(mask)
+    }
 }
 
 pub(crate) fn ray_of(ray: &PwRay) -> Ray
@@ -75,7 +86,7 @@ pub(crate) fn near_of(near: &PwNear) -> NearQuery
     NearQuery {
         at: point_of(&near.at),
         want: near.want,
-        mask: near.mask,
+        groups: groups_of(near.mask),
     }
 }
 
@@ -88,7 +99,7 @@ pub(crate) fn near_box_of(near: &PwNearBox) -> Option<NearBoxQuery>
             body,
             from: square_of(&near.from),
             want: near.want,
-            mask: near.mask,
+            groups: groups_of(near.mask),
         }),
         None => None,
     }

@@ -1,5 +1,5 @@
 -- What the exports say of a world that C holds.
-use Rattle.std.specs.Prelude.{◌≡◌, ◌≢◌, ◌↔◌, ◌⊎◌, ℕ, ◌+◌, ◌-◌, ◌<◌, ◌≤◌, ◌++◌, List, [], map, take, drop, zip, length, min, true, false, is_some}
+use Rattle.std.specs.Prelude.{◌≡◌, ◌≢◌, ◌↔◌, ◌⊎◌, ℕ, ◌+◌, ◌<◌, ◌≤◌, ◌++◌, List, [], map, take, drop, zip, length, true, false, is_some}
 use Rattle.std.specs.Prelude.{Option, None, Some, Result, Ok, Err, ok_or, option_map}
 use Rattle.fixed_box.specs.declared.TheConstants.{SLOTS}
 use Rattle.live_table.specs.declared.group.Group.{Group}
@@ -23,7 +23,6 @@ use Rattle.held_world.specs.declared.reading.PwInfo.{PwInfo}
 use Rattle.held_world.specs.Asks.{Asks, AsksPairs}
 use Rattle.held_world.specs.Batches.{IsBatch}
 use Rattle.held_world.specs.Changes.{adds, moves, removes, handles_given}
-use Rattle.held_world.specs.Copies.{copied}
 use Rattle.held_world.specs.Plain.{handle_out, placed_out, structure_in}
 use Rattle.held_world.specs.Reading.{info_of}
 use Rattle.held_world.specs.Tells.{Tells, mark_refusal}
@@ -98,11 +97,6 @@ pub record Asked (none : ℕ) (hits : List Live → Option (List Handle)) (reply
 pub record ListsPairs (from : ℕ) (reply : Reply) (room out : List PwPair) (was now : AnyWorld) : Type 0 where
   pub answer : AsksPairs (pairs (state_of was).time.now) from (state_of was).spent reply room out
   pub kept : IsAsBefore was now
-
--- What a call says that copies items from number `from` on.
-pub record Copies {A B : Type 0} (shape : A → B) (from : ℕ) (items : List A) (reply : Reply) (room out : List B) : Type 0 where
-  pub told : reply ≡ record { status = OK; count = min (length items - from) (length room) }
-  pub copied : out ≡ copied shape (drop from items) room
 
 -- what a call says that puts its answer into the caller's place, or tells a status and leaves that as it was
 abbrev pub Puts : {A : Type 0} → Result A ℕ → ℕ → A → A → Type 0

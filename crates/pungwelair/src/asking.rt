@@ -8,7 +8,7 @@ ghost use Rattle.live_queries.specs.Queries.{entered_of, cast_of, nearest_to, ne
 ghost use Rattle.any_world.specs.AnyWorld.{state_of};
 ghost use Rattle.held_world.specs.declared.TheConstants.{ARGUMENT, INVERTED};
 ghost use Rattle.held_world.specs.Firsts.{AsksFirst, AsksFirstCast};
-ghost use Rattle.held_world.specs.Plain.{query_in, ray_in, cast_in, near_in, near_box_in};
+ghost use Rattle.held_world.specs.Plain.{groups_in, query_in, ray_in, cast_in, near_in, near_box_in};
 ghost use Rattle.held_world.specs.declared.answers.Reply.{Reply};
 ghost use Rattle.pungwelair.specs.Exports.{Asked, Calls, IsClosed};
 
@@ -26,7 +26,7 @@ pub extern "C" fn pw_hits(
     count: &mut usize,
 ) -> u32
     ensures { let reply : Reply = record { status = result; count = count.new } in
-        Calls (λ was now. Asked ARGUMENT (λ entries. option_map (λ asked. hits_of entries asked query.now.mask) (query_in query.now))
+        Calls (λ was now. Asked ARGUMENT (λ entries. option_map (λ asked. hits_of entries asked (groups_in query.now.mask)) (query_in query.now))
         reply out.old out.new was.world now.world)
         (IsClosed reply out.old out.new) world.old.held.inner world.new.held.inner }
 {
@@ -51,7 +51,7 @@ pub extern "C" fn pw_ray_hits(
     count: &mut usize,
 ) -> u32
     ensures { let reply : Reply = record { status = result; count = count.new } in
-        Calls (λ was now. Asked ARGUMENT (λ entries. Some (entered_of entries (ray_in ray.now) ray.now.mask))
+        Calls (λ was now. Asked ARGUMENT (λ entries. Some (entered_of entries (ray_in ray.now) (groups_in ray.now.mask)))
         reply out.old out.new was.world now.world)
         (IsClosed reply out.old out.new) world.old.held.inner world.new.held.inner }
 {
@@ -76,7 +76,7 @@ pub extern "C" fn pw_cast_hits(
     count: &mut usize,
 ) -> u32
     ensures { let reply : Reply = record { status = result; count = count.new } in
-        Calls (λ was now. Asked INVERTED (λ entries. option_map (λ asked. cast_of entries asked cast.now.mask) (cast_in cast.now))
+        Calls (λ was now. Asked INVERTED (λ entries. option_map (λ asked. cast_of entries asked (groups_in cast.now.mask)) (cast_in cast.now))
         reply out.old out.new was.world now.world)
         (IsClosed reply out.old out.new) world.old.held.inner world.new.held.inner }
 {
@@ -101,7 +101,7 @@ pub extern "C" fn pw_nearest(
     count: &mut usize,
 ) -> u32
     ensures { let reply : Reply = record { status = result; count = count.new } in
-        Calls (λ was now. Asked ARGUMENT (λ entries. Some (nearest_to entries (near_in near.now).at (min near.now.want SLOTS) near.now.mask))
+        Calls (λ was now. Asked ARGUMENT (λ entries. Some (nearest_to entries (near_in near.now).at (min near.now.want SLOTS) (groups_in near.now.mask)))
         reply out.old out.new was.world now.world)
         (IsClosed reply out.old out.new) world.old.held.inner world.new.held.inner }
 {
@@ -126,7 +126,7 @@ pub extern "C" fn pw_nearest_box(
     count: &mut usize,
 ) -> u32
     ensures { let reply : Reply = record { status = result; count = count.new } in
-        Calls (λ was now. Asked INVERTED (λ entries. option_map (λ asked. nearest_to_box entries asked.body asked.from (min asked.want SLOTS) asked.mask)
+        Calls (λ was now. Asked INVERTED (λ entries. option_map (λ asked. nearest_to_box entries asked.body asked.from (min asked.want SLOTS) asked.groups)
         (near_box_in near.now)) reply out.old out.new was.world now.world)
         (IsClosed reply out.old out.new) world.old.held.inner world.new.held.inner }
 {
@@ -151,7 +151,7 @@ pub extern "C" fn pw_ray_first(
     count: &mut usize,
 ) -> u32
     ensures { let reply : Reply = record { status = result; count = count.new } in
-        Calls (λ was now. (now ≡ was) × AsksFirst (IsFirstEntered (state_of was.world).time.now.table.entries (ray_in ray.now) ray.now.mask)
+        Calls (λ was now. (now ≡ was) × AsksFirst (IsFirstEntered (state_of was.world).time.now.table.entries (ray_in ray.now) (groups_in ray.now.mask))
         (state_of was.world).spent reply out.old out.new)
         (IsClosed reply out.old out.new) world.old.held.inner world.new.held.inner }
 {

@@ -25,6 +25,8 @@ mod reader;
 mod reader_asking;
 mod reader_many;
 mod reader_meetings;
+mod reader_reading;
 mod reading;
 mod sharing;
+mod version;
 mod world;

@@ -9,7 +9,7 @@ ghost use Rattle.any_world.specs.AnyWorld.{state_of};
 ghost use Rattle.held_world.specs.declared.TheConstants.{ARGUMENT, INVERTED};
 ghost use Rattle.held_world.specs.Asks.{Asks};
 ghost use Rattle.held_world.specs.Firsts.{AsksFirst, AsksFirstCast};
-ghost use Rattle.held_world.specs.Plain.{query_in, ray_in, cast_in, near_in, near_box_in};
+ghost use Rattle.held_world.specs.Plain.{groups_in, query_in, ray_in, cast_in, near_in, near_box_in};
 ghost use Rattle.held_world.specs.declared.answers.Reply.{Reply};
 ghost use Rattle.pungwelair.specs.Exports.{IsClosed};
 ghost use Rattle.pungwelair.specs.Readers.{AsksReader};
@@ -30,7 +30,7 @@ pub extern "C" fn pw_reader_hits(
 ) -> u32
     ensures { let reply : Reply = record { status = result; count = count.new } in
         AsksReader (λ read. let state = state_of read.world in
-        Asks ARGUMENT (option_map (λ asked. hits_of state.time.now.table.entries asked query.now.mask) (query_in query.now)) state.spent
+        Asks ARGUMENT (option_map (λ asked. hits_of state.time.now.table.entries asked (groups_in query.now.mask)) (query_in query.now)) state.spent
         reply out.old out.new)
         (IsClosed reply out.old out.new) reader.old.held.inner reader.new.held.inner }
 {
@@ -56,7 +56,8 @@ pub extern "C" fn pw_reader_ray_hits(
 ) -> u32
     ensures { let reply : Reply = record { status = result; count = count.new } in
         AsksReader (λ read. let state = state_of read.world in
-        Asks ARGUMENT (Some (entered_of state.time.now.table.entries (ray_in ray.now) ray.now.mask)) state.spent reply out.old out.new)
+        Asks ARGUMENT (Some (entered_of state.time.now.table.entries (ray_in ray.now) (groups_in ray.now.mask))) state.spent
+        reply out.old out.new)
         (IsClosed reply out.old out.new) reader.old.held.inner reader.new.held.inner }
 {
     let Some(mut open) = reader.take(alloc) else {
@@ -81,7 +82,7 @@ pub extern "C" fn pw_reader_cast_hits(
 ) -> u32
     ensures { let reply : Reply = record { status = result; count = count.new } in
         AsksReader (λ read. let state = state_of read.world in
-        Asks INVERTED (option_map (λ asked. cast_of state.time.now.table.entries asked cast.now.mask) (cast_in cast.now)) state.spent
+        Asks INVERTED (option_map (λ asked. cast_of state.time.now.table.entries asked (groups_in cast.now.mask)) (cast_in cast.now)) state.spent
         reply out.old out.new)
         (IsClosed reply out.old out.new) reader.old.held.inner reader.new.held.inner }
 {
@@ -107,7 +108,7 @@ pub extern "C" fn pw_reader_nearest(
 ) -> u32
     ensures { let reply : Reply = record { status = result; count = count.new } in
         AsksReader (λ read. let state = state_of read.world in
-        Asks ARGUMENT (Some (nearest_to state.time.now.table.entries (near_in near.now).at (min near.now.want SLOTS) near.now.mask))
+        Asks ARGUMENT (Some (nearest_to state.time.now.table.entries (near_in near.now).at (min near.now.want SLOTS) (groups_in near.now.mask)))
         state.spent reply out.old out.new)
         (IsClosed reply out.old out.new) reader.old.held.inner reader.new.held.inner }
 {
@@ -133,7 +134,7 @@ pub extern "C" fn pw_reader_nearest_box(
 ) -> u32
     ensures { let reply : Reply = record { status = result; count = count.new } in
         AsksReader (λ read. let state = state_of read.world in
-        Asks INVERTED (option_map (λ asked. nearest_to_box state.time.now.table.entries asked.body asked.from (min asked.want SLOTS) asked.mask)
+        Asks INVERTED (option_map (λ asked. nearest_to_box state.time.now.table.entries asked.body asked.from (min asked.want SLOTS) asked.groups)
         (near_box_in near.now)) state.spent reply out.old out.new)
         (IsClosed reply out.old out.new) reader.old.held.inner reader.new.held.inner }
 {
@@ -159,7 +160,7 @@ pub extern "C" fn pw_reader_ray_first(
 ) -> u32
     ensures { let reply : Reply = record { status = result; count = count.new } in
         AsksReader (λ read. let state = state_of read.world in
-        AsksFirst (IsFirstEntered state.time.now.table.entries (ray_in ray.now) ray.now.mask) state.spent reply out.old out.new)
+        AsksFirst (IsFirstEntered state.time.now.table.entries (ray_in ray.now) (groups_in ray.now.mask)) state.spent reply out.old out.new)
         (IsClosed reply out.old out.new) reader.old.held.inner reader.new.held.inner }
 {
     let Some(open) = reader.take(alloc) else {

@@ -5,7 +5,7 @@ ghost use Rattle.live_queries.specs.First.{IsFirstEntered};
 ghost use Rattle.any_world.specs.AnyWorld.{state_of};
 ghost use Rattle.held_world.specs.Firsts.{AsksFirst, AsksFirstCast};
 ghost use Rattle.held_world.specs.Many.{AsksAll, AsksEach};
-ghost use Rattle.held_world.specs.Plain.{cast_in, ray_in};
+ghost use Rattle.held_world.specs.Plain.{cast_in, groups_in, ray_in};
 ghost use Rattle.held_world.specs.declared.answers.Reply.{Reply};
 ghost use Rattle.pungwelair.specs.Exports.{IsClosed};
 ghost use Rattle.pungwelair.specs.Readers.{AsksReader};
@@ -54,7 +54,8 @@ pub extern "C" fn pw_reader_ray_first_each(
 ) -> u32
     ensures { let reply : Reply = record { status = result; count = count.new } in
         AsksReader (λ read. let state = state_of read.world in
-        AsksEach (λ ray. AsksFirst (IsFirstEntered state.time.now.table.entries (ray_in ray) ray.mask) state.spent) rays.now reply out.old out.new)
+        AsksEach (λ ray. AsksFirst (IsFirstEntered state.time.now.table.entries (ray_in ray) (groups_in ray.mask)) state.spent) rays.now
+        reply out.old out.new)
         (IsClosed reply out.old out.new) reader.old.held.inner reader.new.held.inner }
 {
     let Some(open) = reader.take(alloc) else {

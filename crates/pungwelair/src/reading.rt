@@ -4,10 +4,11 @@ ghost use Rattle.std.specs.Prelude.{◌≡◌, ok_or, option_map};
 ghost use Rattle.live_table.specs.Entries.{entry_at};
 ghost use Rattle.any_world.specs.AnyWorld.{state_of};
 ghost use Rattle.held_world.specs.declared.TheConstants.{OK, STALE, CLOSED};
+ghost use Rattle.held_world.specs.Copies.{Copies};
 ghost use Rattle.held_world.specs.Plain.{handle_in, live_out, pair_out, told_out};
 ghost use Rattle.held_world.specs.Reading.{changes_of};
 ghost use Rattle.held_world.specs.declared.answers.Reply.{Reply};
-ghost use Rattle.pungwelair.specs.Exports.{Calls, IsClosed, Copies, ListsPairs, Puts, Places, IsInfo};
+ghost use Rattle.pungwelair.specs.Exports.{Calls, IsClosed, ListsPairs, Puts, Places, IsInfo};
 
 use crate::world::PwWorld;
 use held_world::{CLOSED, OK, PwHandle, PwInfo, PwLive, PwPair, PwTold, STALE};

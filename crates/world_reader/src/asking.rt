@@ -7,7 +7,7 @@ ghost use Rattle.live_queries.specs.Queries.{entered_of, cast_of, nearest_to, ne
 ghost use Rattle.any_world.specs.AnyWorld.{state_of};
 ghost use Rattle.held_world.specs.declared.TheConstants.{ARGUMENT, INVERTED};
 ghost use Rattle.held_world.specs.Asks.{Asks};
-ghost use Rattle.held_world.specs.Plain.{query_in, ray_in, cast_in, near_in, near_box_in};
+ghost use Rattle.held_world.specs.Plain.{groups_in, query_in, ray_in, cast_in, near_in, near_box_in};
 ghost use Rattle.world_reader.specs.Reads.{Reads, ReadsNone};
 
 use crate::answers::reads_none;
@@ -20,7 +20,7 @@ impl WorldReader {
     /// status but `OK` the count is 0 and `out` is as before. What the reader reads is as it was, whatever is asked.
     pub fn hits(&mut self, query: &PwQuery, out: &mut [PwHandle]) -> Reply
         ensures answer { Reads (λ read. let state = state_of read.world in
-            Asks ARGUMENT (option_map (λ asked. hits_of state.time.now.table.entries asked query.now.mask) (query_in query.now)) state.spent
+            Asks ARGUMENT (option_map (λ asked. hits_of state.time.now.table.entries asked (groups_in query.now.mask)) (query_in query.now)) state.spent
             result out.old out.new) (ReadsNone result out.old out.new) self.old }
         ensures same { self.new ≡ self.old }
     {
@@ -34,8 +34,8 @@ impl WorldReader {
     /// many as there is room for, and tells how many there are in all.
     pub fn entered(&mut self, ray: &PwRay, out: &mut [PwHandle]) -> Reply
         ensures answer { Reads (λ read. let state = state_of read.world in
-            Asks ARGUMENT (Some (entered_of state.time.now.table.entries (ray_in ray.now) ray.now.mask)) state.spent result out.old out.new)
-            (ReadsNone result out.old out.new) self.old }
+            Asks ARGUMENT (Some (entered_of state.time.now.table.entries (ray_in ray.now) (groups_in ray.now.mask))) state.spent
+            result out.old out.new) (ReadsNone result out.old out.new) self.old }
         ensures same { self.new ≡ self.old }
     {
         match &self.world {
@@ -47,7 +47,7 @@ impl WorldReader {
     /// The same for the boxes that a moved box meets on its way. `INVERTED` comes if it is none.
     pub fn cast(&mut self, cast: &PwCast, out: &mut [PwHandle]) -> Reply
         ensures answer { Reads (λ read. let state = state_of read.world in
-            Asks INVERTED (option_map (λ asked. cast_of state.time.now.table.entries asked cast.now.mask) (cast_in cast.now)) state.spent
+            Asks INVERTED (option_map (λ asked. cast_of state.time.now.table.entries asked (groups_in cast.now.mask)) (cast_in cast.now)) state.spent
             result out.old out.new) (ReadsNone result out.old out.new) self.old }
         ensures same { self.new ≡ self.old }
     {
@@ -61,8 +61,8 @@ impl WorldReader {
     /// their slots.
     pub fn nearest(&mut self, near: &PwNear, out: &mut [PwHandle]) -> Reply
         ensures answer { Reads (λ read. let state = state_of read.world in
-            Asks ARGUMENT (Some (nearest_to state.time.now.table.entries (near_in near.now).at (min near.now.want SLOTS) near.now.mask)) state.spent
-            result out.old out.new) (ReadsNone result out.old out.new) self.old }
+            Asks ARGUMENT (Some (nearest_to state.time.now.table.entries (near_in near.now).at (min near.now.want SLOTS) (groups_in near.now.mask)))
+            state.spent result out.old out.new) (ReadsNone result out.old out.new) self.old }
         ensures same { self.new ≡ self.old }
     {
         match &self.world {
@@ -75,7 +75,7 @@ impl WorldReader {
     /// it is no box.
     pub fn nearest_box(&mut self, near: &PwNearBox, out: &mut [PwHandle]) -> Reply
         ensures answer { Reads (λ read. let state = state_of read.world in
-            Asks INVERTED (option_map (λ asked. nearest_to_box state.time.now.table.entries asked.body asked.from (min asked.want SLOTS) asked.mask)
+            Asks INVERTED (option_map (λ asked. nearest_to_box state.time.now.table.entries asked.body asked.from (min asked.want SLOTS) asked.groups)
             (near_box_in near.now)) state.spent result out.old out.new) (ReadsNone result out.old out.new) self.old }
         ensures same { self.new ≡ self.old }
     {

@@ -7,6 +7,7 @@ mod held_reader;
 mod many;
 mod meetings;
 mod reader;
+mod reading;
 mod sending;
 #[cfg(test)]
 mod tests;

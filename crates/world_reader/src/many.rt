@@ -5,7 +5,7 @@ ghost use Rattle.live_queries.specs.First.{IsFirstEntered};
 ghost use Rattle.any_world.specs.AnyWorld.{state_of};
 ghost use Rattle.held_world.specs.Firsts.{AsksFirst, AsksFirstCast};
 ghost use Rattle.held_world.specs.Many.{AsksAll, AsksEach};
-ghost use Rattle.held_world.specs.Plain.{cast_in, ray_in};
+ghost use Rattle.held_world.specs.Plain.{cast_in, groups_in, ray_in};
 ghost use Rattle.world_reader.specs.Reads.{Reads, ReadsNone};
 
 use crate::answers::reads_none;
@@ -17,8 +17,8 @@ impl WorldReader {
     /// count tells how many rays were answered. `CLOSED` comes if the reader reads no world, here and below: then all is as before.
     pub fn first_entered_each(&self, rays: &[PwRay], out: &mut [PwHit]) -> Reply
         ensures { Reads (λ read. let state = state_of read.world in
-            AsksEach (λ ray. AsksFirst (IsFirstEntered state.time.now.table.entries (ray_in ray) ray.mask) state.spent) rays.now result out.old out.new)
-            (ReadsNone result out.old out.new) self.now }
+            AsksEach (λ ray. AsksFirst (IsFirstEntered state.time.now.table.entries (ray_in ray) (groups_in ray.mask)) state.spent) rays.now
+            result out.old out.new) (ReadsNone result out.old out.new) self.now }
     {
         match &self.world {
             Some(held) => held.first_entered_each(rays, out),

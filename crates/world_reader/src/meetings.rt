@@ -9,7 +9,7 @@ ghost use Rattle.near_boxes.specs.Nearest.{square};
 ghost use Rattle.any_world.specs.AnyWorld.{state_of};
 ghost use Rattle.held_world.specs.declared.TheConstants.{STALE, CLOSED};
 ghost use Rattle.held_world.specs.Firsts.{AsksFirst, AsksFirstCast, TellsMeeting, TellsCastMeeting, apart_out};
-ghost use Rattle.held_world.specs.Plain.{handle_in, point_in, ray_in, cast_in, body_in, square_out};
+ghost use Rattle.held_world.specs.Plain.{groups_in, handle_in, point_in, ray_in, cast_in, body_in, square_out};
 ghost use Rattle.world_reader.specs.Reads.{Reads, ReadsNone};
 
 use crate::answers::reads_none;
@@ -23,7 +23,7 @@ impl WorldReader {
     /// before.
     pub fn first_entered(&self, ray: &PwRay, out: &mut PwHit) -> Reply
         ensures { Reads (λ read. let state = state_of read.world in
-            AsksFirst (IsFirstEntered state.time.now.table.entries (ray_in ray.now) ray.now.mask) state.spent result out.old out.new)
+            AsksFirst (IsFirstEntered state.time.now.table.entries (ray_in ray.now) (groups_in ray.now.mask)) state.spent result out.old out.new)
             (ReadsNone result out.old out.new) self.now }
     {
         match &self.world {

@@ -6,20 +6,20 @@ use Rattle.held_world.specs.declared.answers.Reply.{Reply}
 use Rattle.held_world.specs.declared.plain.PwHit.{PwHit}
 use Rattle.held_world.specs.declared.questions.PwRay.{PwRay}
 use Rattle.held_world.specs.Firsts.{AsksFirst}
-use Rattle.held_world.specs.Plain.{ray_in}
+use Rattle.held_world.specs.Plain.{groups_in, ray_in}
 use Rattle.held_world.proofs.EachAnswered.{all_answered, none_answered, one_answered, one_refused}
 use Rattle.held_world.proofs.held.HeldWorld.first_entered_each.Goals as goal
 
 pub rays-init : goal.rays-init
 rays-init c =
     let state = state_of c.args.self.now.world in
-    let says : PwRay → Reply → PwHit → PwHit → Type 0 = λ ray. AsksFirst (IsFirstEntered state.time.now.table.entries (ray_in ray) ray.mask) state.spent in
+    let says : PwRay → Reply → PwHit → PwHit → Type 0 = λ ray. AsksFirst (IsFirstEntered state.time.now.table.entries (ray_in ray) (groups_in ray.mask)) state.spent in
     record { answered = none_answered says c.args.rays.now c.args.out.now }
 
 pub returns-then-reply-ne-OK : goal.returns-then-reply-ne-OK
 returns-then-reply-ne-OK c =
     let state = state_of c.args.self.now.world in
-    let says : PwRay → Reply → PwHit → PwHit → Type 0 = λ ray. AsksFirst (IsFirstEntered state.time.now.table.entries (ray_in ray) ray.mask) state.spent in
+    let says : PwRay → Reply → PwHit → PwHit → Type 0 = λ ray. AsksFirst (IsFirstEntered state.time.now.table.entries (ray_in ray) (groups_in ray.mask)) state.spent in
     let told = rw c.no_hit-hit.ensures at c.first_entered-reply.ensures in
     record {
       short = λ less. absurd (omega arith);
@@ -30,7 +30,7 @@ returns-then-reply-ne-OK c =
 pub rays-preserved : goal.rays-preserved
 rays-preserved c =
     let state = state_of c.args.self.now.world in
-    let says : PwRay → Reply → PwHit → PwHit → Type 0 = λ ray. AsksFirst (IsFirstEntered state.time.now.table.entries (ray_in ray) ray.mask) state.spent in
+    let says : PwRay → Reply → PwHit → PwHit → Type 0 = λ ray. AsksFirst (IsFirstEntered state.time.now.table.entries (ray_in ray) (groups_in ray.mask)) state.spent in
     let told = rw c.no_hit-hit.ensures at c.first_entered-reply.ensures in
     record {
       answered = one_answered says c.args.rays.now _ c.rays.count c.first_entered-reply.result c.args.out.now c.rays.out c.first_entered-reply.new.out
@@ -40,7 +40,7 @@ rays-preserved c =
 pub returns : goal.returns
 returns c =
     let state = state_of c.args.self.now.world in
-    let says : PwRay → Reply → PwHit → PwHit → Type 0 = λ ray. AsksFirst (IsFirstEntered state.time.now.table.entries (ray_in ray) ray.mask) state.spent in
+    let says : PwRay → Reply → PwHit → PwHit → Type 0 = λ ray. AsksFirst (IsFirstEntered state.time.now.table.entries (ray_in ray) (groups_in ray.mask)) state.spent in
     record {
       short = λ less. absurd (omega arith);
       enough = λ enough. all_answered says c.args.rays.now c.rays.count c.args.out.now c.rays.out c.rays.invariant.answered (omega arith);

@@ -12,8 +12,8 @@ use Rattle.held_world.proofs.room.HeldRoom.nearest.Goals as goal
 pub returns : goal.returns
 returns c =
     let old = state_of c.args.world.now in let entries = old.time.now.table.entries in let asked = c.near_of.result in
-    subst (λ (near : NearQuery). Asks ARGUMENT (Some (nearest_to entries near.at (min near.want SLOTS) near.mask)) old.spent c.answered.result
+    subst (λ (near : NearQuery). Asks ARGUMENT (Some (nearest_to entries near.at (min near.want SLOTS) near.groups)) old.spent c.answered.result
     c.args.out.now c.answered.new.out) c.near_of.ensures
-    (answered c.nearest-answer.result old.spent (nearest_to entries asked.at (min asked.want SLOTS) asked.mask) c.clear.new.self.items
+    (answered c.nearest-answer.result old.spent (nearest_to entries asked.at (min asked.want SLOTS) asked.groups) c.clear.new.self.items
     c.nearest-answer.new.out.items c.answered.result c.args.out.now c.answered.new.out c.clear.ensures.items c.nearest-answer.ensures.sound
     c.nearest-answer.ensures.ok c.answered.ensures.ok c.answered.ensures.err)
