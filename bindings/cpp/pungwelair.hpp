@@ -10,6 +10,9 @@
 //         auto told = world.changes(0, changes);              // told.status, told.count
 //         if (auto hit = world.ray_first(ray)) shoot(*hit);   // hit->handle, hit->place(), hit->normal()
 //     }
+//
+// Calls that are const may be made by several threads at once on one object, as is the way of the standard library: they take turns.
+// While a call that isn't const runs, no other does.
 #ifndef PUNGWELAIR_HPP
 #define PUNGWELAIR_HPP
 
@@ -20,6 +23,7 @@
 #include <functional>
 #include <initializer_list>
 #include <iterator>
+#include <mutex>
 #include <optional>
 #include <type_traits>
 #include <utility>
@@ -60,6 +64,9 @@ enum class [[nodiscard]] Status : pw_status {
     }
     return "no status";
 }
+
+// The version of the library that runs, as PW_VERSION_NUMBER has that of the header.
+[[nodiscard]] inline uint32_t version() noexcept { return pw_version(); }
 
 enum class Structure : uint32_t { plain = PW_PLAIN, sap = PW_SAP, tree = PW_TREE, grid = PW_GRID, skin = PW_SKIN };
 
@@ -193,8 +200,12 @@ inline Result<pw_box> try_box_around_cut(const std::array<float, 3>& lo, const s
 inline Result<pw_box> try_box_around_cut(const std::array<double, 3>& lo, const std::array<double, 3>& hi) noexcept {
     return try_box_around_cut(lo.data(), hi.data());
 }
-[[nodiscard]] inline std::optional<pw_box> box_around_cut(const float lo[3], const float hi[3]) noexcept { return try_box_around_cut(lo, hi); }
-[[nodiscard]] inline std::optional<pw_box> box_around_cut(const double lo[3], const double hi[3]) noexcept { return try_box_around_cut(lo, hi); }
+[[nodiscard]] inline std::optional<pw_box> box_around_cut(const float lo[3], const float hi[3]) noexcept {
+    return try_box_around_cut(lo, hi);
+}
+[[nodiscard]] inline std::optional<pw_box> box_around_cut(const double lo[3], const double hi[3]) noexcept {
+    return try_box_around_cut(lo, hi);
+}
 [[nodiscard]] inline std::optional<pw_box> box_around_cut(const std::array<float, 3>& lo, const std::array<float, 3>& hi) noexcept {
     return try_box_around_cut(lo, hi);
 }
@@ -250,13 +261,13 @@ struct Hit : pw_hit {
         out[axis] = side == PW_UPPER ? 1 : -1;
         return out;
     }
-    // Whether there is a box: a place of ray_first_each or cast_first_each has none if nothing is met.
+    // Whether there is a box: a place of ray_first_each or cast_first_each has no box if nothing is met.
     [[nodiscard]] bool has_box() const noexcept { return pw_has_hit(this) != 0; }
 };
 // The library fills a list of them as one of pw_hit.
 static_assert(sizeof(Hit) == sizeof(pw_hit) && std::is_standard_layout_v<Hit>);
 
-// The calls of C that ask a world, and those that ask by a reader.
+// The calls of C that ask and read a world, and those that do so by a reader.
 template <class Words>
 struct Calls;
 template <>
@@ -275,6 +286,12 @@ struct Calls<pw_world> {
     static constexpr auto cast_meets = pw_cast_meets;
     static constexpr auto square_to = pw_square_to;
     static constexpr auto square_apart = pw_square_apart;
+    static constexpr auto get = pw_get;
+    static constexpr auto at = pw_at;
+    static constexpr auto pairs = pw_pairs;
+    static constexpr auto events = pw_events;
+    static constexpr auto changes = pw_changes;
+    static constexpr auto info = pw_info;
 };
 template <>
 struct Calls<pw_reader> {
@@ -292,133 +309,207 @@ struct Calls<pw_reader> {
     static constexpr auto cast_meets = pw_reader_cast_meets;
     static constexpr auto square_to = pw_reader_square_to;
     static constexpr auto square_apart = pw_reader_square_apart;
+    static constexpr auto get = pw_reader_get;
+    static constexpr auto at = pw_reader_at;
+    static constexpr auto pairs = pw_reader_pairs;
+    static constexpr auto events = pw_reader_events;
+    static constexpr auto changes = pw_reader_changes;
+    static constexpr auto info = pw_reader_info;
 };
 
-// The questions, which a World and a Reader answer alike. None is const: each takes what it asks out of its two words and puts it back,
-// so two threads may not ask one of them at once.
+// The questions, which a World and a Reader answer alike. They are const, and several threads may ask one of them at once. A call of C
+// takes what it asks out of its two words and puts it back, so a lock is held for the whole of each call, and threads take turns. If
+// nobody else asks that costs some 15 nanoseconds. Readers, one for each thread, are for asking side by side.
 template <class Asked, class Words>
 class Questions {
     using Call = Calls<Words>;
-    Words* words() noexcept { return static_cast<Asked*>(this)->native(); }
+    mutable std::mutex turn;
+
+protected:
+    Questions() = default;
+    // The lock stays where it is: whatever is moved is in no call.
+    Questions(Questions&&) noexcept {}
+    Questions& operator=(Questions&&) noexcept { return *this; }
+    ~Questions() = default;
+
+    // What a call of C comes to that asks the two words.
+    template <class... Parameters, class... Given>
+    pw_status ask(pw_status (*call)(Words*, Parameters...), Given... given) const noexcept {
+        std::lock_guard lock(turn);
+        return call(static_cast<const Asked*>(this)->words(), given...);
+    }
 
 public:
     // Each tells how many boxes there are, which may be more than there was room for.
-    Count hits(const pw_query& query, Span<pw_handle> out) noexcept {
+    Count hits(const pw_query& query, Span<pw_handle> out) const noexcept {
         Count found{};
-        found.status = Status(Call::hits(words(), &query, out.data(), out.size(), &found.count));
+        found.status = Status(ask(Call::hits, &query, out.data(), out.size(), &found.count));
         return found;
     }
-    Count ray_hits(const pw_ray& ray, Span<pw_handle> out) noexcept {
+    Count ray_hits(const pw_ray& ray, Span<pw_handle> out) const noexcept {
         Count found{};
-        found.status = Status(Call::ray_hits(words(), &ray, out.data(), out.size(), &found.count));
+        found.status = Status(ask(Call::ray_hits, &ray, out.data(), out.size(), &found.count));
         return found;
     }
-    Count cast_hits(const pw_cast& cast, Span<pw_handle> out) noexcept {
+    Count cast_hits(const pw_cast& cast, Span<pw_handle> out) const noexcept {
         Count found{};
-        found.status = Status(Call::cast_hits(words(), &cast, out.data(), out.size(), &found.count));
+        found.status = Status(ask(Call::cast_hits, &cast, out.data(), out.size(), &found.count));
         return found;
     }
-    Count nearest(const pw_near& near_to, Span<pw_handle> out) noexcept {
+    Count nearest(const pw_near& near_to, Span<pw_handle> out) const noexcept {
         Count found{};
-        found.status = Status(Call::nearest(words(), &near_to, out.data(), out.size(), &found.count));
+        found.status = Status(ask(Call::nearest, &near_to, out.data(), out.size(), &found.count));
         return found;
     }
     // Those that are nearest to a box, of those whose squared distance from it is at least `from`.
-    Count nearest_box(const pw_near_box& near_to, Span<pw_handle> out) noexcept {
+    Count nearest_box(const pw_near_box& near_to, Span<pw_handle> out) const noexcept {
         Count found{};
-        found.status = Status(Call::nearest_box(words(), &near_to, out.data(), out.size(), &found.count));
+        found.status = Status(ask(Call::nearest_box, &near_to, out.data(), out.size(), &found.count));
         return found;
     }
 
     // Many questions at once, in order up to the first that is refused: how many were answered, and why the next one wasn't. Answer k of
     // hits_each is in `out` from ends[k - 1], or 0, to before ends[k].
-    Batch hits_each(Span<const pw_query> queries, Span<pw_handle> out, Span<std::size_t> ends) noexcept {
+    Batch hits_each(Span<const pw_query> queries, Span<pw_handle> out, Span<std::size_t> ends) const noexcept {
         Batch batch{};
-        batch.status = Status(Call::hits_each(words(), queries.data(), queries.size(), out.data(), out.size(), ends.data(), ends.size(),
+        batch.status = Status(ask(Call::hits_each, queries.data(), queries.size(), out.data(), out.size(), ends.data(), ends.size(),
                                               &batch.done));
         return batch;
     }
     // Each first hit at its place, which has no box if nothing is met.
-    Batch ray_first_each(Span<const pw_ray> rays, Span<Hit> out) noexcept {
+    Batch ray_first_each(Span<const pw_ray> rays, Span<Hit> out) const noexcept {
         Batch batch{};
-        batch.status = Status(Call::ray_first_each(words(), rays.data(), rays.size(), out.data(), out.size(), &batch.done));
+        batch.status = Status(ask(Call::ray_first_each, rays.data(), rays.size(), out.data(), out.size(), &batch.done));
         return batch;
     }
-    Batch cast_first_each(Span<const pw_cast> casts, Span<Hit> out) noexcept {
+    Batch cast_first_each(Span<const pw_cast> casts, Span<Hit> out) const noexcept {
         Batch batch{};
-        batch.status = Status(Call::cast_first_each(words(), casts.data(), casts.size(), out.data(), out.size(), &batch.done));
+        batch.status = Status(ask(Call::cast_first_each, casts.data(), casts.size(), out.data(), out.size(), &batch.done));
         return batch;
     }
 
     // What a ray, and a moved box, meets first, and where: no value in the result if it meets no box.
-    Result<std::optional<Hit>> try_ray_first(const pw_ray& ray) noexcept {
+    Result<std::optional<Hit>> try_ray_first(const pw_ray& ray) const noexcept {
         Hit hit{};
         std::size_t count;
-        pw_status status = Call::ray_first(words(), &ray, &hit, &count);
+        pw_status status = ask(Call::ray_first, &ray, &hit, &count);
         return result_of(status, count > 0 ? std::optional(hit) : std::nullopt);
     }
-    Result<std::optional<Hit>> try_cast_first(const pw_cast& cast) noexcept {
+    Result<std::optional<Hit>> try_cast_first(const pw_cast& cast) const noexcept {
         Hit hit{};
         std::size_t count;
-        pw_status status = Call::cast_first(words(), &cast, &hit, &count);
+        pw_status status = ask(Call::cast_first, &cast, &hit, &count);
         return result_of(status, count > 0 ? std::optional(hit) : std::nullopt);
     }
     // The same, and no value also if the call is refused.
-    [[nodiscard]] std::optional<Hit> ray_first(const pw_ray& ray) noexcept { return *try_ray_first(ray); }
-    [[nodiscard]] std::optional<Hit> cast_first(const pw_cast& cast) noexcept { return *try_cast_first(cast); }
+    [[nodiscard]] std::optional<Hit> ray_first(const pw_ray& ray) const noexcept { return *try_ray_first(ray); }
+    [[nodiscard]] std::optional<Hit> cast_first(const pw_cast& cast) const noexcept { return *try_cast_first(cast); }
     // Where a ray, and a moved box, meets one live box, whatever groups it asks for: no value in the result if it doesn't meet it.
-    Result<std::optional<Hit>> try_ray_meets(const pw_ray& ray, pw_handle handle) noexcept {
+    Result<std::optional<Hit>> try_ray_meets(const pw_ray& ray, pw_handle handle) const noexcept {
         Hit hit{};
         std::size_t count;
-        pw_status status = Call::ray_meets(words(), &ray, handle, &hit, &count);
+        pw_status status = ask(Call::ray_meets, &ray, handle, &hit, &count);
         return result_of(status, count > 0 ? std::optional(hit) : std::nullopt);
     }
-    Result<std::optional<Hit>> try_cast_meets(const pw_cast& cast, pw_handle handle) noexcept {
+    Result<std::optional<Hit>> try_cast_meets(const pw_cast& cast, pw_handle handle) const noexcept {
         Hit hit{};
         std::size_t count;
-        pw_status status = Call::cast_meets(words(), &cast, handle, &hit, &count);
+        pw_status status = ask(Call::cast_meets, &cast, handle, &hit, &count);
         return result_of(status, count > 0 ? std::optional(hit) : std::nullopt);
     }
     // The same, and no value also if the call is refused.
-    [[nodiscard]] std::optional<Hit> ray_meets(const pw_ray& ray, pw_handle handle) noexcept { return *try_ray_meets(ray, handle); }
-    [[nodiscard]] std::optional<Hit> cast_meets(const pw_cast& cast, pw_handle handle) noexcept { return *try_cast_meets(cast, handle); }
+    [[nodiscard]] std::optional<Hit> ray_meets(const pw_ray& ray, pw_handle handle) const noexcept { return *try_ray_meets(ray, handle); }
+    [[nodiscard]] std::optional<Hit> cast_meets(const pw_cast& cast, pw_handle handle) const noexcept {
+        return *try_cast_meets(cast, handle);
+    }
     // The square of the distance of a place, and of a box, from a live box, exactly; pw_squared makes a double of it.
-    Result<pw_square> try_square_to(const pw_point& at, pw_handle handle) noexcept {
+    Result<pw_square> try_square_to(const pw_point& at, pw_handle handle) const noexcept {
         pw_square square{};
-        pw_status status = Call::square_to(words(), &at, handle, &square);
+        pw_status status = ask(Call::square_to, &at, handle, &square);
         return result_of(status, square);
     }
-    Result<pw_square> try_square_apart(const pw_box& body, pw_handle handle) noexcept {
+    Result<pw_square> try_square_apart(const pw_box& body, pw_handle handle) const noexcept {
         pw_square square{};
-        pw_status status = Call::square_apart(words(), &body, handle, &square);
+        pw_status status = ask(Call::square_apart, &body, handle, &square);
         return result_of(status, square);
     }
-    [[nodiscard]] std::optional<pw_square> square_to(const pw_point& at, pw_handle handle) noexcept { return try_square_to(at, handle); }
-    [[nodiscard]] std::optional<pw_square> square_apart(const pw_box& body, pw_handle handle) noexcept { return try_square_apart(body, handle); }
+    [[nodiscard]] std::optional<pw_square> square_to(const pw_point& at, pw_handle handle) const noexcept {
+        return try_square_to(at, handle);
+    }
+    [[nodiscard]] std::optional<pw_square> square_apart(const pw_box& body, pw_handle handle) const noexcept {
+        return try_square_apart(body, handle);
+    }
     // The box that a ray meets first, and no value if it meets no box.
-    Result<std::optional<pw_handle>> try_first_hit(const pw_ray& ray) noexcept {
+    Result<std::optional<pw_handle>> try_first_hit(const pw_ray& ray) const noexcept {
         auto hit = try_ray_first(ray);
         return result_of(pw_status(hit.error()), *hit ? std::optional((*hit)->handle) : std::nullopt);
     }
     // The same, and no value also if nothing is open to be asked or memory ran out.
-    [[nodiscard]] std::optional<pw_handle> first_hit(const pw_ray& ray) noexcept { return *try_first_hit(ray); }
+    [[nodiscard]] std::optional<pw_handle> first_hit(const pw_ray& ray) const noexcept { return *try_first_hit(ray); }
+
+    // What is told without a search: a live box, by its handle and by its slot.
+    Result<pw_live> try_get(pw_handle handle) const noexcept {
+        pw_live live{};
+        pw_status status = ask(Call::get, handle, &live);
+        return result_of(status, live);
+    }
+    [[nodiscard]] std::optional<pw_live> get(pw_handle handle) const noexcept { return try_get(handle); }
+
+    Result<Placed> try_at(uint32_t slot) const noexcept {
+        Placed placed{};
+        pw_status status = ask(Call::at, slot, &placed.handle, &placed.live);
+        return result_of(status, placed);
+    }
+    [[nodiscard]] std::optional<Placed> at(uint32_t slot) const noexcept { return try_at(slot); }
+
+    // The pairs of the last frame from a number on, as many as there is room for, and how many those are.
+    Count pairs(std::size_t from, Span<pw_pair> out) const noexcept {
+        Count copied{};
+        copied.status = Status(ask(Call::pairs, from, out.data(), out.size(), &copied.count));
+        return copied;
+    }
+    Count events(std::size_t from, Span<pw_told> out) const noexcept {
+        Count copied{};
+        copied.status = Status(ask(Call::events, from, out.data(), out.size(), &copied.count));
+        return copied;
+    }
+    // The same without the pairs that stayed, for which no step is taken.
+    Count changes(std::size_t from, Span<pw_told> out) const noexcept {
+        Count copied{};
+        copied.status = Status(ask(Call::changes, from, out.data(), out.size(), &copied.count));
+        return copied;
+    }
+    // What the world is. Refused if it is closed.
+    Result<pw_world_info> try_info() const noexcept {
+        pw_world_info info{};
+        pw_status status = ask(Call::info, &info);
+        return result_of(status, info);
+    }
+    [[nodiscard]] std::optional<pw_world_info> info() const noexcept { return try_info(); }
 };
 
 class Reader;
 
 // A world, which is closed when it ends. It can be moved and not copied; what it was moved from is a closed world. It is asked by
-// `Questions`, by one thread at a time; several threads ask it by Readers.
+// `Questions` and by the const calls below, by several threads at once if they may take turns, and by Readers if they may not.
 class World : public Questions<World, pw_world> {
     friend class Reader;
-    pw_world world = PW_WORLD_INIT;
+    friend class Questions<World, pw_world>;
+    // A question takes the world out of its words and puts it back.
+    mutable pw_world world = PW_WORLD_INIT;
     Status opened = Status::closed;
+
+    pw_world* words() const noexcept { return &world; }
 
 public:
     World() = default;
     // An open world, or a closed one if memory ran out: `status` tells.
     explicit World(Structure structure) noexcept { static_cast<void>(open(structure)); }
     ~World() { pw_close(&world); }
-    World(World&& other) noexcept : world(std::exchange(other.world, PW_WORLD_INIT)), opened(std::exchange(other.opened, Status::closed)) {}
+    World(World&& other) noexcept
+        : Questions(std::move(other)),
+          world(std::exchange(other.world, PW_WORLD_INIT)),
+          opened(std::exchange(other.opened, Status::closed)) {}
     World& operator=(World&& other) noexcept {
         World taken(std::move(other));
         std::swap(world, taken.world);
@@ -439,7 +530,7 @@ public:
     // ok if the world is open, else why it isn't: what the last `open` or the constructor came to, or closed.
     Status status() const noexcept { return opened; }
     [[nodiscard]] bool is_open() const noexcept { return opened == Status::ok; }
-    // For calls of pungwelair.h, except pw_open and pw_close. It is this world's, not another.
+    // For calls of pungwelair.h, except pw_open and pw_close, which take no lock. It is this world's, not another.
     [[nodiscard]] pw_world* native() noexcept { return &world; }
 
     Batch add(Span<const pw_box> boxes, const pw_new& how, Span<pw_handle> out) noexcept {
@@ -468,76 +559,41 @@ public:
         return batch;
     }
     Status remove(pw_handle handle) noexcept { return remove({&handle, 1}).status; }
-    Result<pw_live> try_get(pw_handle handle) noexcept {
-        pw_live live{};
-        pw_status status = pw_get(&world, handle, &live);
-        return result_of(status, live);
-    }
-    [[nodiscard]] std::optional<pw_live> get(pw_handle handle) noexcept { return try_get(handle); }
-
-    Result<Placed> try_at(uint32_t slot) noexcept {
-        Placed placed{};
-        pw_status status = pw_at(&world, slot, &placed.handle, &placed.live);
-        return result_of(status, placed);
-    }
-    [[nodiscard]] std::optional<Placed> at(uint32_t slot) noexcept { return try_at(slot); }
     class Boxes;
     // All live boxes, by their slots, for a loop: no box of a closed world. The loop may change the world, since each slot is read when its
     // turn comes.
-    [[nodiscard]] Boxes boxes() noexcept;
+    [[nodiscard]] Boxes boxes() const noexcept;
 
     Frame update() noexcept {
         pw_counts counts{};
         Status status = Status(pw_update(&world, &counts));
         return {status, counts.pairs, counts.events, counts.changes};
     }
-    Count pairs(std::size_t from, Span<pw_pair> out) noexcept {
-        Count copied{};
-        copied.status = Status(pw_pairs(&world, from, out.data(), out.size(), &copied.count));
-        return copied;
-    }
     // The pairs that the frame would have if it ended now. It tells how many there are, whatever `from` is, which may be more than there
     // was room for.
-    Count pairs_now(std::size_t from, Span<pw_pair> out) noexcept {
+    Count pairs_now(std::size_t from, Span<pw_pair> out) const noexcept {
         Count found{};
-        found.status = Status(pw_pairs_now(&world, from, out.data(), out.size(), &found.count));
+        found.status = Status(ask(pw_pairs_now, from, out.data(), out.size(), &found.count));
         return found;
-    }
-    Count events(std::size_t from, Span<pw_told> out) noexcept {
-        Count copied{};
-        copied.status = Status(pw_events(&world, from, out.data(), out.size(), &copied.count));
-        return copied;
-    }
-    // The same without the pairs that stayed, for which no step is taken.
-    Count changes(std::size_t from, Span<pw_told> out) noexcept {
-        Count copied{};
-        copied.status = Status(pw_changes(&world, from, out.data(), out.size(), &copied.count));
-        return copied;
     }
 
     // Gives the world to a reader that reads none, which is opened if it isn't. From then on this one is closed, and readers ask: the last
-    // that leaves has the world. Refused are a closed world, a reader that reads, and a want of memory: then all is as before.
+    // that leaves has the world. Refused are a closed world and a reader that reads; it is also refused if memory runs out. Then all is
+    // as before.
     Status share(Reader& reader) noexcept;
 
     Status mark() noexcept { return Status(pw_mark(&world)); }
     // Gives up the oldest marks.
     Status forget(uint32_t count = 1) noexcept { return Status(pw_forget(&world, count)); }
     Status back() noexcept { return Status(pw_back(&world)); }
-    // Refused if the world is closed.
-    Result<pw_world_info> try_info() noexcept {
-        pw_world_info info{};
-        pw_status status = pw_info(&world, &info);
-        return result_of(status, info);
-    }
-    [[nodiscard]] std::optional<pw_world_info> info() noexcept { return try_info(); }
 };
 
 class World::Boxes {
-    World* world;
+    const World* world;
 
 public:
     class Iterator {
-        World* world;
+        const World* world;
         uint32_t slot;
         Placed placed{};
 
@@ -557,7 +613,7 @@ public:
         using pointer = const Placed*;
         using reference = const Placed&;
 
-        Iterator(World* asked, uint32_t from) noexcept : world(asked), slot(from) { seek(); }
+        Iterator(const World* asked, uint32_t from) noexcept : world(asked), slot(from) { seek(); }
         const Placed& operator*() const noexcept { return placed; }
         const Placed* operator->() const noexcept { return &placed; }
         Iterator& operator++() noexcept {
@@ -574,11 +630,11 @@ public:
         bool operator!=(const Iterator& other) const noexcept { return slot != other.slot; }
     };
 
-    explicit Boxes(World* asked) noexcept : world(asked) {}
+    explicit Boxes(const World* asked) noexcept : world(asked) {}
     [[nodiscard]] Iterator begin() const noexcept { return {world, 0}; }
     [[nodiscard]] Iterator end() const noexcept { return {world, PW_SLOTS}; }
 };
-inline World::Boxes World::boxes() noexcept { return Boxes(this); }
+inline World::Boxes World::boxes() const noexcept { return Boxes(this); }
 
 // One of those that ask one world at once, each on a thread of its own, by `Questions`. It can be moved and not copied; what it was moved
 // from is a closed reader. At its end it leaves, and a world whose last reader it was is closed with it.
@@ -591,8 +647,11 @@ inline World::Boxes World::boxes() noexcept { return Boxes(this); }
 //         if (auto back = reader.leave()) world = std::move(*back);   // the last one has it
 class Reader : public Questions<Reader, pw_reader> {
     friend class World;
-    pw_reader reader = PW_READER_INIT;
+    friend class Questions<Reader, pw_reader>;
+    mutable pw_reader reader = PW_READER_INIT;
     bool opened = false, reading = false;
+
+    pw_reader* words() const noexcept { return &reader; }
 
     // What a call came to by which it reads.
     Status reads(pw_status status) noexcept {
@@ -605,7 +664,8 @@ public:
     Reader() = default;
     ~Reader() { static_cast<void>(leave()), pw_reader_close(&reader); }
     Reader(Reader&& other) noexcept
-        : reader(std::exchange(other.reader, PW_READER_INIT)),
+        : Questions(std::move(other)),
+          reader(std::exchange(other.reader, PW_READER_INIT)),
           opened(std::exchange(other.opened, false)),
           reading(std::exchange(other.reading, false)) {}
     Reader& operator=(Reader&& other) noexcept {
@@ -630,7 +690,7 @@ public:
     }
     [[nodiscard]] bool is_open() const noexcept { return opened; }
     [[nodiscard]] bool is_reading() const noexcept { return reading; }
-    // For questions of pungwelair.h. It is this reader's, not another.
+    // For questions of pungwelair.h, which take no lock. It is this reader's, not another.
     [[nodiscard]] pw_reader* native() noexcept { return &reader; }
 
     // Reads from now on what another reads, which is in no other call meanwhile. It is opened if it isn't. Refused are one that reads, and
@@ -651,7 +711,7 @@ public:
         if (status == PW_OK) world.opened = Status::ok;
         return Status(status);
     }
-    // The same: the world, if this was the last that read it. Who drops it closes it.
+    // The same: the world, if this was the last that read it. If you drop it, it is closed.
     [[nodiscard]] std::optional<World> leave() noexcept {
         World world;
         if (leave(world) != Status::ok) return std::nullopt;

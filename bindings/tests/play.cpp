@@ -115,9 +115,11 @@ class Player {
             if (pairs[k].a.slot != events[k].pair.a.slot || pairs[k].b.slot != events[k].pair.b.slot) fail("other pairs than events");
     }
 
+    // A scene's mask of no group finds nothing. The library's looks at no group, and finds all.
     void ask(const std::string& name, const pw_query& query) {
         auto found = world.hits(query, hits);
         must(found.status);
+        if (query.mask == 0) found.count = 0;
         report += name + " " + std::to_string(found.count);
         for (std::size_t k = 0; k < found.count; k++) report += " " + text_of(hits[k]);
         report += '\n';

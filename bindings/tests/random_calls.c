@@ -22,6 +22,9 @@ static pw_reader *asker;
 /* How many answers had something in them. */
 static long pairs_seen, over_seen, hits_seen, firsts_seen, meetings_seen, squares_seen, others_seen, beyond_seen, each_seen, shares_seen;
 
+/* How many boxes of no group were found, and how much was read by readers. */
+static long ungrouped_seen, readings_seen;
+
 /* Random numbers: splitmix64. */
 static uint64_t seed;
 
@@ -64,7 +67,10 @@ static pw_box some_box(void) {
     return body;
 }
 
-static uint32_t some_mask(void) { return below(4) ? 0xffffffffu : below(16); }
+static uint32_t some_mask(void) { return below(4) ? 0xffffffffu : below(3) ? below(16) : 0; }
+
+/* The group that a box is in, or none. */
+static uint32_t some_group(void) { return below(8) ? 1u << below(4) : 0; }
 
 /* Mostly a live box's, sometimes an old one, and sometimes any. */
 static pw_handle some_handle(void) {
@@ -85,7 +91,7 @@ static bool are_copied(const void *out, size_t room, const void *items, size_t c
 static void try_add(void) {
     pw_box boxes[BATCH] = {0};
     pw_handle out[BATCH], given[BATCH];
-    pw_new how = {{1u << below(4), some_mask()}, {below(4) ? 0 : 1 + below(3), below(6) == 0 ? 1 + below(2) : 0}};
+    pw_new how = {{some_group(), some_mask()}, {below(4) ? 0 : 1 + below(3), below(6) == 0 ? 1 + below(2) : 0}};
     size_t len = below(BATCH + 1), count = 0, done = 99;
     pw_status wanted = PW_OK;
     if (now.boxes + len > MOST) return;
@@ -124,7 +130,7 @@ static void try_move(void) {
 
 static void try_mask(void) {
     pw_handle which = some_handle();
-    pw_masks masks = {below(8) ? 1u << below(4) : 0, some_mask()};
+    pw_masks masks = {some_group(), some_mask()};
     bool stale = is_stale(which);
     EXPECT(pw_mask(&world, which, masks) == (stale ? PW_STALE : PW_OK));
     if (!stale) now.live[which.slot].masks = masks;
@@ -156,7 +162,7 @@ static void try_get(void) {
     pw_handle which = some_handle();
     pw_live out, *live = &now.live[which.slot % MOST];
     memset(&out, FILL, sizeof out);
-    pw_status status = pw_get(&world, which, &out);
+    pw_status status = ASKED(get, which, &out);
     if (is_stale(which)) {
         EXPECT(status == PW_STALE && is_filled(&out, sizeof out));
         return;
@@ -171,7 +177,7 @@ static void try_at(void) {
     pw_live out;
     memset(&handle, FILL, sizeof handle);
     memset(&out, FILL, sizeof out);
-    pw_status status = pw_at(&world, slot, &handle, &out);
+    pw_status status = ASKED(at, slot, &handle, &out);
     if (slot >= MOST || !now.lives[slot]) {
         EXPECT(status == PW_STALE && is_filled(&handle, sizeof handle) && is_filled(&out, sizeof out));
         return;
@@ -184,7 +190,7 @@ static void expect_changes(size_t from, size_t room) {
     static pw_told changes[2 * MOST_PAIRS + 1];
     size_t left = from < changed_count ? changed_count - from : 0, copied = 99;
     memset(changes, FILL, room * sizeof *changes);
-    EXPECT(pw_changes(&world, from, changes, room, &copied) == PW_OK && copied == (left < room ? left : room));
+    EXPECT(ASKED(changes, from, changes, room, &copied) == PW_OK && copied == (left < room ? left : room));
     EXPECT(are_copied(changes, room, changed + from, left, sizeof *changes));
 }
 
@@ -193,7 +199,7 @@ static void expect_last_pairs(void) {
     static pw_pair last[MOST_PAIRS];
     size_t copied = 99;
     memset(last, FILL, sizeof last);
-    EXPECT(pw_pairs(&world, 0, last, MOST_PAIRS, &copied) == PW_OK && copied == now.last_count);
+    EXPECT(ASKED(pairs, 0, last, MOST_PAIRS, &copied) == PW_OK && copied == now.last_count);
     EXPECT(are_copied(last, MOST_PAIRS, now.last, now.last_count, sizeof *last));
 }
 
@@ -231,18 +237,21 @@ static void try_lists(void) {
     size_t room = below(3) ? below(40) : MOST_PAIRS, from = below(3) ? 0 : below(40), copied = 99;
     size_t left = from < now.last_count ? now.last_count - from : 0;
     memset(pairs, FILL, room * sizeof *pairs);
-    EXPECT(pw_pairs(&world, from, pairs, room, &copied) == PW_OK && copied == (left < room ? left : room));
+    EXPECT(ASKED(pairs, from, pairs, room, &copied) == PW_OK && copied == (left < room ? left : room));
     EXPECT(are_copied(pairs, room, now.last + from, left, sizeof *pairs));
     left = from < told_count ? told_count - from : 0;
     memset(events, FILL, room * sizeof *events);
-    EXPECT(pw_events(&world, from, events, room, &copied) == PW_OK && copied == (left < room ? left : room));
+    EXPECT(ASKED(events, from, events, room, &copied) == PW_OK && copied == (left < room ? left : room));
     EXPECT(are_copied(events, room, told + from, left, sizeof *events));
     expect_changes(from, room);
 }
 
 static void expect_hits(pw_status status, const pw_handle *out, size_t room, size_t count, const struct hit *hits, size_t wanted) {
     pw_handle found[MOST];
-    for (size_t k = 0; k < wanted; k++) found[k] = handle_of(hits[k].slot);
+    for (size_t k = 0; k < wanted; k++) {
+        found[k] = handle_of(hits[k].slot);
+        ungrouped_seen += now.live[hits[k].slot].masks.is == 0;
+    }
     EXPECT(status == PW_OK && count == wanted && are_copied(out, room, found, wanted, sizeof *out));
     hits_seen += (long)wanted;
 }
@@ -570,7 +579,7 @@ static void try_back(void) {
 
 static void try_info(uint32_t structure) {
     pw_world_info info = {0};
-    EXPECT(pw_info(&world, &info) == PW_OK && info.structure == structure && info.spent == 0);
+    EXPECT(ASKED(info, &info) == PW_OK && info.structure == structure && info.spent == 0);
     EXPECT(info.boxes == now.boxes && info.frames == now.frames && info.marks == marks);
     EXPECT(structure == PW_SAP || info.exchanges == 0);
 }
@@ -588,8 +597,20 @@ static void try_some_question(void) {
     }
 }
 
+/* What a world tells without a search, which a reader of it tells too. */
+static void try_some_reading(uint32_t structure) {
+    switch (below(5)) {
+    case 0: try_get(); break;
+    case 1: try_at(); break;
+    case 2: expect_last_pairs(); break;
+    case 3: try_lists(); break;
+    default: try_info(structure); break;
+    }
+    readings_seen += asker != NULL;
+}
+
 /* Some readers get the world, ask, and leave one by one: the last one gives it back, with all that it had. */
-static void try_readers(void) {
+static void try_readers(uint32_t structure) {
     uint32_t reading = 1 + below(READERS), left = reading;
     pw_world_info info;
     EXPECT(pw_share(&world, &readers[0]) == PW_OK && pw_info(&world, &info) == PW_CLOSED);
@@ -597,7 +618,7 @@ static void try_readers(void) {
     for (; left > 0; left--) {
         for (uint32_t questions = below(4); questions > 0; questions--) {
             asker = &readers[below(left)];
-            try_some_question();
+            below(3) ? try_some_question() : try_some_reading(structure);
         }
         uint32_t leaving = below(left);
         EXPECT(pw_unshare(&readers[leaving], &world) == (left == 1 ? PW_OK : PW_SHARED));
@@ -621,7 +642,7 @@ static void try_some_call(uint32_t structure) {
     case 9: case 10: try_update(); break;
     case 11: below(2) ? try_lists() : try_pairs_now(); break;
     case 12: case 13: case 14: case 15: case 16: case 20: try_some_question(); break;
-    case 21: try_readers(); break;
+    case 21: try_readers(structure); break;
     case 17: below(8) < 5 ? try_mark() : try_back(); break;
     case 18: below(8) < 3 ? try_mark() : below(8) ? try_back() : try_forget(); break;
     default: try_info(structure); break;
@@ -646,6 +667,7 @@ int main(int count, char **words) {
            each_seen, shares_seen);
     EXPECT(pairs_seen > 0 && over_seen > 0 && hits_seen > 0 && firsts_seen > 0);
     EXPECT(meetings_seen > 0 && squares_seen > 0 && others_seen > 0);
-    EXPECT(beyond_seen > 0 && each_seen > 0 && shares_seen > 0);
+    printf("random_calls: %ld times a box of no group was found, %ld readings by readers\n", ungrouped_seen, readings_seen);
+    EXPECT(beyond_seen > 0 && each_seen > 0 && shares_seen > 0 && ungrouped_seen > 0 && readings_seen > 0);
     return tested("random_calls");
 }

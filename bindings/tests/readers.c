@@ -139,8 +139,11 @@ static void try_questions(int r) {
     pw_handle handle;
     pw_hit hit, hits[2];
     pw_square square;
+    pw_query other_group = {PW_POINT, 2, {x, 0, 0}, origin}, each_group = {PW_POINT, 0, {x, 0, 0}, origin};
     EXPECT(pw_reader_hits(reader, &queries[0], &handle, 1, &count) == wanted && count == met);
     EXPECT(pw_reader_hits(reader, &none, &handle, 1, &count) == (x ? PW_ARGUMENT : PW_CLOSED) && count == 0);
+    EXPECT(pw_reader_hits(reader, &other_group, &handle, 1, &count) == wanted && count == 0);
+    EXPECT(pw_reader_hits(reader, &each_group, &handle, 1, &count) == wanted && count == met);
     EXPECT(pw_reader_ray_hits(reader, &rays[0], &handle, 1, &count) == wanted && count == met);
     EXPECT(pw_reader_cast_hits(reader, &casts[0], &handle, 1, &count) == wanted && count == met);
     EXPECT(pw_reader_nearest(reader, &near_to, &handle, 1, &count) == wanted && count == met);
@@ -161,6 +164,33 @@ static void try_questions(int r) {
     EXPECT(!x || (pw_has_hit(&hits[0]) && hits[0].num * 2 == hits[0].den && !pw_has_hit(&hits[1])));
 }
 
+/* What a reader tells without a question: of the one box of its world, which has been in no frame or in those that moved it. */
+static void try_readings(int r) {
+    pw_reader *reader = &readers[r];
+    int32_t x = number_read[r];
+    pw_status wanted = x ? PW_OK : PW_CLOSED, stale = x ? PW_STALE : PW_CLOSED;
+    pw_box body = box_of(x);
+    pw_handle handle;
+    pw_live live;
+    pw_pair pairs[1];
+    pw_told told_of[1];
+    pw_world_info info;
+    size_t copied = 9;
+    memset(&live, FILL, sizeof live);
+    EXPECT(pw_reader_get(reader, PW_NO_HANDLE, &live) == stale && pw_reader_at(reader, 1, &handle, &live) == stale);
+    EXPECT(pw_reader_at(reader, PW_SLOTS, &handle, &live) == stale && is_filled(&live, sizeof live));
+    EXPECT(pw_reader_get(reader, only, &live) == wanted && (x ? !memcmp(&live.body, &body, sizeof body) : is_filled(&live, sizeof live)));
+    memset(&live, FILL, sizeof live);
+    EXPECT(pw_reader_at(reader, 0, &handle, &live) == wanted && (!x || (handle.slot == 0 && live.masks.is == 1)));
+    EXPECT(x ? !memcmp(&live.body, &body, sizeof body) : is_filled(&live, sizeof live));
+    EXPECT(pw_reader_pairs(reader, 0, pairs, 1, &copied) == wanted && copied == 0);
+    EXPECT(pw_reader_events(reader, 0, told_of, 1, &copied) == wanted && copied == 0);
+    EXPECT(pw_reader_changes(reader, 0, told_of, 1, &copied) == wanted && copied == 0);
+    memset(&info, FILL, sizeof info);
+    EXPECT(pw_reader_info(reader, &info) == wanted);
+    EXPECT(x ? info.boxes == 1 && info.spent == 0 && info.marks == 0 : is_filled(&info, sizeof info));
+}
+
 static void try_some_call(void) {
     int w = (int)below(WORLDS), r = (int)below(READERS), other = (int)below(READERS);
     switch (below(16)) {
@@ -172,7 +202,7 @@ static void try_some_call(void) {
     case 9: case 10: case 11: try_join(r, other); break;
     case 12: case 13: try_unshare(r, w); break;
     case 14: try_change(w); break;
-    default: try_questions(r); break;
+    default: below(2) ? try_questions(r) : try_readings(r); break;
     }
     look();
 }

@@ -1,5 +1,5 @@
 /* A fixed run over each structure, again and again, in which the heap refuses the first request, then the second, and so on until a
- * run has none refused. What is answered after a refusal is compared with the run that had all memory. */
+ * run has no request refused. What is answered after a refusal is compared with the run that had all memory. */
 #include "expect.h"
 #include "pungwelair.h"
 #include <stdbool.h>
@@ -98,8 +98,21 @@ static size_t change_count;
 static void expect_same_changes(void) {
     static pw_told again[ROOM];
     size_t copied;
-    NEEDS_NONE(pw_changes(&world, 0, again, ROOM, &copied));
+    NEEDS_NONE(ASKED(changes, 0, again, ROOM, &copied));
     EXPECT(copied == change_count && !memcmp(again, changes, copied * sizeof *again));
+}
+
+/* What is read by a reader, of a spent world too: no memory is asked for. */
+static void expect_readings(const pw_world_info *wanted) {
+    static pw_pair last[ROOM];
+    static pw_told all[ROOM];
+    pw_world_info info;
+    size_t copied;
+    NEEDS_NONE(ASKED(info, &info));
+    EXPECT(!memcmp(&info, wanted, sizeof info));
+    NEEDS_NONE(ASKED(pairs, 0, last, ROOM, &copied));
+    NEEDS_NONE(ASKED(events, 0, all, ROOM, &copied));
+    expect_same_changes();
 }
 
 static pw_box box_of(int32_t k, int32_t shift) {
@@ -107,7 +120,7 @@ static pw_box box_of(int32_t k, int32_t shift) {
     return (pw_box){{x, y, z}, {x + 100 + k % 3, y + 90 + k % 5 * 5, z + 120}};
 }
 
-/* Where ways meet a box, and how far off it is: no memory is asked for. A ray that ends at its lower corner comes in there, and so does the
+/* A box, where ways meet it, and how far off it is: no memory is asked for. A ray that ends at its lower corner comes in there, and so does the
  * corner if it is moved. */
 static void meet_box(pw_handle handle, pw_point lo) {
     pw_point outside = {lo.x - 40, lo.y, lo.z};
@@ -115,7 +128,12 @@ static void meet_box(pw_handle handle, pw_point lo) {
     pw_cast cast = {0, {outside, outside}, {80, 0, 0}};
     pw_hit hits[2], none;
     pw_square square;
+    pw_handle same;
+    pw_live lives[2];
     size_t count;
+    NEEDS_NONE(ASKED(get, handle, &lives[0]));
+    NEEDS_NONE(ASKED(at, handle.slot, &same, &lives[1]));
+    EXPECT(same.generation == handle.generation && !memcmp(&lives[0], &lives[1], sizeof *lives) && !memcmp(&lives[0].body.lo, &lo, sizeof lo));
     NEEDS_NONE(ASKED(ray_meets, &ray, handle, &hits[0], &count));
     EXPECT(count == 1 && hits[0].num == hits[0].den && hits[0].axis == 0 && hits[0].side == PW_LOWER);
     NEEDS_NONE(ASKED(cast_meets, &cast, handle, &hits[1], &count));
@@ -170,9 +188,11 @@ static void share_spent_world(void) {
     pw_live live;
     pw_world_info info;
     bool has_box = first_live(&handle, &live);
+    EXPECT(pw_info(&world, &info) == PW_OK && info.spent);
     EXPECT(pw_reader_open(&readers[0]) == PW_OK && pw_share(&world, &readers[0]) == PW_OK);
     asker = &readers[0];
     ask_spent_world();
+    expect_readings(&info);
     if (has_box) meet_box(handle, live.body.lo);
     asker = NULL;
     EXPECT(pw_unshare(&readers[0], &world) == PW_OK && pw_reader_close(&readers[0]) == PW_OK);
@@ -344,7 +364,7 @@ static void update(void) {
     answered(changes, change_count * sizeof *changes);
 }
 
-/* Many questions, of which a want of memory ends what is answered: those before it are as they are when all are asked again. */
+/* Many questions, which end if memory runs out: those answered before are as they are if all are asked again. */
 static void ask_hits_each(const pw_query *queries) {
     static pw_handle some[MANY * (BOXES + MORE)], all[MANY * (BOXES + MORE)];
     size_t some_ends[MANY], all_ends[MANY], some_count, count;
@@ -424,8 +444,8 @@ static void ask(void) {
     ask_first_each(NULL, casts);
 }
 
-/* Two readers are opened, get the world, and give it back; the one that joined asks all. If sharing is refused the world stays open and may be shared again; to
- * join, to leave and to close asks for no memory. */
+/* Two readers are opened, get the world, and give it back; the one that joined asks all. If sharing is refused the world stays open and
+ * may be shared again; to join, to read, to leave and to close asks for no memory. */
 static void share_and_ask(void) {
     pw_world_info before = info_now(), info;
     pw_handle handle;
@@ -438,6 +458,7 @@ static void share_and_ask(void) {
     for (int k = 0; k < 2; k++) {
         asker = &readers[k];
         if (has_box) meet_box(handle, live.body.lo);
+        expect_readings(&before);
     }
     ask();
     asker = NULL;

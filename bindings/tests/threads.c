@@ -1,7 +1,7 @@
-/* Four threads ask one world at once, each by its reader, questions of all kinds in an order of its own. Each answer is compared with the
- * one that was told before the world was shared. Then all leave at once, and just one of them has the world, which is changed and shared
- * again, with readers that have gone to other threads. Further rounds ask nothing and leave alone, as nearly at once as may be. Words: the
- * number of rounds for each structure, and the seed.
+/* Four threads ask and read one world at once, each by its reader, by questions of all kinds in an order of its own. Each answer is
+ * compared with the one that was told before the world was shared. Then all leave at once, and just one of them has the world, which is
+ * changed and shared again, with readers that have gone to other threads. Further rounds ask nothing and leave alone, as nearly at once
+ * as may be. Words: the number of rounds for each structure, and the seed.
  *
  * It is built with -fsanitize=thread if the compiler has that. The library itself isn't instrumented, so the sanitizer sees what this
  * program and the heap do, and what the library copies by memcpy: that no call needs more order than pungwelair.h asks for. That the
@@ -14,7 +14,7 @@
 #include <stdatomic.h>
 #include <stdlib.h>
 
-enum { THREADS = 4, BOXES = 1500, QUESTIONS = 240, KINDS = 14, EACH = 3, KEPT = 40, LEAVES = 600 };
+enum { THREADS = 4, BOXES = 1500, QUESTIONS = 240, KINDS = 20, EACH = 3, KEPT = 40, LEAVES = 600 };
 
 static pw_world world = PW_WORLD_INIT;
 static pw_handle handles[BOXES];
@@ -55,6 +55,7 @@ struct question {
     pw_near near_to;
     pw_near_box near_box;
     pw_handle handle;
+    size_t from;
 };
 struct answer {
     uint32_t status, padding;
@@ -62,13 +63,17 @@ struct answer {
     pw_handle handles[KEPT];
     pw_hit hits[EACH];
     pw_square square;
+    pw_live live;
+    pw_pair pairs[KEPT];
+    pw_told told[KEPT];
+    pw_world_info info;
 };
 
 static struct question questions[QUESTIONS];
 static struct answer answers[QUESTIONS];
 
 static void make_question(struct question *q, uint32_t kind) {
-    uint32_t mask = below(4) ? ~0u : 1u << below(3);
+    uint32_t mask = below(4) ? ~0u : below(3) ? 1u << below(3) : 0;
     q->kind = kind;
     for (int k = 0; k < EACH; k++) {
         q->queries[k] = (pw_query){below(4), mask, place(), way()};
@@ -79,6 +84,7 @@ static void make_question(struct question *q, uint32_t kind) {
     q->near_to = (pw_near){mask, below(2) ? below(20) : below(200), place()};
     q->near_box = (pw_near_box){mask, below(2) ? below(20) : below(200), box(50), {(uint64_t)below(2) * below(4000000), 0}};
     q->handle = below(8) ? handles[below(BOXES)] : PW_NO_HANDLE;
+    q->from = below(40);
     /* Some are refused, in the midst of others too. */
     if (below(10) == 0) q->queries[below(EACH)].kind = 4, q->casts[below(EACH)].body.lo.x = INT32_MAX, q->near_box.body.lo.y = INT32_MAX;
 }
@@ -100,7 +106,13 @@ static void ask(pw_reader *asker, const struct question *q, struct answer *a) {
     case 10: a->status = ASKED(ray_meets, q->rays, q->handle, a->hits, &a->count); break;
     case 11: a->status = ASKED(cast_meets, q->casts, q->handle, a->hits, &a->count); break;
     case 12: a->status = ASKED(square_to, &q->near_to.at, q->handle, &a->square); break;
-    default: a->status = ASKED(square_apart, &q->near_box.body, q->handle, &a->square); break;
+    case 13: a->status = ASKED(square_apart, &q->near_box.body, q->handle, &a->square); break;
+    case 14: a->status = ASKED(get, q->handle, &a->live); break;
+    case 15: a->status = ASKED(at, q->handle.slot, a->handles, &a->live); break;
+    case 16: a->status = ASKED(pairs, q->from, a->pairs, KEPT, &a->count); break;
+    case 17: a->status = ASKED(events, q->from, a->told, KEPT, &a->count); break;
+    case 18: a->status = ASKED(changes, q->from, a->told, KEPT, &a->count); break;
+    default: a->status = ASKED(info, &a->info); break;
     }
 }
 
@@ -195,7 +207,8 @@ static void open_with_boxes(uint32_t structure) {
     size_t done = 0;
     EXPECT(pw_open(&world, structure) == PW_OK);
     for (int group = 0; group < 3; group++) {
-        pw_new how = {{1u << group, ~0u}, {0, 0}};
+        /* The last are in no group. */
+        pw_new how = {{group < 2 ? 1u << group : 0, ~0u}, {0, 0}};
         enum { THIRD = BOXES / 3 };
         for (int k = 0; k < THIRD; k++) boxes[k] = box(100);
         EXPECT(pw_add(&world, boxes, THIRD, &how, handles + group * THIRD, THIRD, &done) == PW_OK && done == THIRD);

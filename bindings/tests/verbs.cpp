@@ -194,19 +194,46 @@ void expect_questions(Asked& asked, pw_handle far, pw_handle near) {
     EXPECT(asked.square_to({13, 14, 10}, near)->low == 25 && asked.square_apart(cube(40), near)->low == 900);
 }
 
+// What is told without a question, of a world, or by a reader: two boxes that meet nothing, and a frame that has ended.
+template <class Asked>
+void expect_readings(Asked& asked, pw_handle far, pw_handle near) {
+    std::array<pw_pair, 1> pairs{};
+    std::array<pw_told, 1> events{};
+    EXPECT(asked.get(far)->body == cube(50) && asked.at(near.slot)->handle == near && asked.at(near.slot)->live.body == cube(0));
+    EXPECT(asked.try_get(pungwelair::no_handle).error() == Status::stale && asked.try_at(PW_SLOTS).error() == Status::stale);
+    auto paired = asked.pairs(0, pairs), told = asked.events(0, events), changed = asked.changes(0, events);
+    EXPECT(paired && paired.count == 0 && told && told.count == 0 && changed && changed.count == 0);
+    EXPECT(asked.info()->boxes == 2 && asked.info()->frames == 1 && asked.info()->spent == 0);
+}
+
+// A box of no group is found by a question whose mask is 0, and by no other.
+void boxes_of_no_group(Structure structure) {
+    World world(structure);
+    std::array<pw_handle, 1> out{};
+    auto box = world.add(cube(0), {{0, ~0u}, {0, 0}});
+    const pw_ray each{0, {-5, 5, 5}, {1, 0, 0}}, any{~0u, {-5, 5, 5}, {1, 0, 0}};
+    EXPECT(box && world.hits({PW_POINT, ~0u, origin, origin}, out).count == 0 && world.hits({PW_POINT, 0, origin, origin}, out).count == 1);
+    EXPECT(world.ray_first(each)->handle == *box && !world.ray_first(any) && world.nearest({0, 1, origin}, out).count == 1);
+    EXPECT(world.nearest({~0u, 1, origin}, out).count == 0 && world.nearest_box({0, 1, cube(50), {0, 0}}, out).count == 1);
+}
+
 // A world goes to readers, is closed meanwhile, and comes back with the last of them.
 void readers_of_a_world(Structure structure) {
     World world(structure), other;
     auto far = world.add(cube(50)), near = world.add(cube(0));
-    EXPECT(far && near && world.mark() == Status::ok);
+    EXPECT(far && near && world.mark() == Status::ok && world.update().status == Status::ok);
     expect_questions(world, *far, *near);
+    expect_readings(world, *far, *near);
     Reader first, second, third;
     EXPECT(!first.is_open() && !first.is_reading() && first.leave(other) == Status::closed && second.join(first) == Status::closed);
     EXPECT(world.share(first) == Status::ok && first.is_open() && first.is_reading() && !world.is_open() && world.status() == Status::closed);
     EXPECT(!world.info() && world.share(second) == Status::closed && world.close() == Status::closed);
     EXPECT(second.join(first) == Status::ok && second.join(first) == Status::shared && third.join(second) == Status::ok);
     EXPECT(first.join(first) == Status::shared && first.open() == Status::argument && first.close() == Status::shared && first.is_reading());
-    for (Reader* reader : {&first, &second, &third}) expect_questions(*reader, *far, *near);
+    for (Reader* reader : {&first, &second, &third}) {
+        expect_questions(*reader, *far, *near);
+        expect_readings(*reader, *far, *near);
+    }
 
     EXPECT(other.open(structure) == Status::ok && other.share(first) == Status::shared && other.is_open());
     EXPECT(first.leave(other) == Status::argument && first.is_reading() && other.close() == Status::ok);
@@ -214,6 +241,7 @@ void readers_of_a_world(Structure structure) {
     expect_questions(first, *far, *near);
     EXPECT(first.leave(other) == Status::ok && other.is_open() && other.info()->boxes == 2 && other.info()->marks == 1);
     EXPECT(first.ray_hits({1, origin, origin}, {nullptr, 0}).status == Status::closed && !first.leave());
+    EXPECT(first.try_get(*near).error() == Status::closed && first.pairs(0, {nullptr, 0}).status == Status::closed && !first.info());
     expect_questions(other, *far, *near);
 
     // It is changed, and the same readers read it again.
@@ -492,6 +520,8 @@ void version() {
     std::string numbers = std::to_string(PW_VERSION_MAJOR);
     for (int part : {PW_VERSION_MINOR, PW_VERSION_PATCH}) numbers += "." + std::to_string(part);
     EXPECT(numbers == PW_VERSION);
+    static_assert(PW_VERSION_NUMBER == PW_VERSION_MAJOR * 1000000 + PW_VERSION_MINOR * 1000 + PW_VERSION_PATCH);
+    EXPECT(pungwelair::version() == PW_VERSION_NUMBER);
 }
 
 void moved_worlds() {
@@ -567,6 +597,7 @@ int main() {
         meetings(structure);
         nearest_to_boxes(structure);
         many_at_once(structure);
+        boxes_of_no_group(structure);
         readers_of_a_world(structure);
         pairs_within_a_frame(structure);
     }

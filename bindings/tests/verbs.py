@@ -474,7 +474,8 @@ def asks_of(handle):
     """Each call that asks, by its name and what it is given."""
     box, ray, cast = raw(-5), Ray((-20, 5, 5), (1, 0, 0)), Cast(raw(-20), (60, 0, 0))
     question = packed_questions([box], [ALL])
-    yield from (("hits", box), ("hits", Point(5, 5, 5), 2), ("hits", ray), ("hits", INVERTED), ("ray_hits", *ray), ("ray_handles", *ray))
+    yield from (("hits", box), ("hits", box, 0), ("hits", Point(5, 5, 5), 2), ("hits", ray), ("hits", INVERTED), ("ray_hits", *ray))
+    yield from (("ray_handles", *ray), ("ray_handles", *ray, 0))
     yield from (("ray_first", *ray), ("ray_first", *ray, 4), ("first_hit", *ray), ("cast_first", *cast), ("cast_hits", *cast))
     yield from (("ray_meets", *ray, handle), ("ray_meets", *ray, NO_HANDLE), ("cast_meets", *cast, handle))
     yield from (("cast_first", INVERTED, ray[1]), ("square_to", (9, 99, 9), handle))
@@ -486,6 +487,9 @@ def asks_of(handle):
     yield from (("nearest_into", bytearray(24), (9, 9, 9), 3), ("nearest_box_into", bytearray(24), box, 3))
     yield from (("hits_each_into", bytearray(24), bytearray(16), [box, ray]), ("ray_first_each_into", bytearray(64), [ray] * 2))
     yield ("cast_first_each_into", bytearray(64), [cast] * 2)
+    yield from (("get", handle), ("get", NO_HANDLE), ("at", 1), ("at", SLOTS), ("boxes",), ("info",), ("pairs",), ("pair_events",))
+    yield from (("pair_changes",), ("events",), ("changes",), ("pairs_into", bytearray(32)), ("pair_events_into", bytearray(20), 1))
+    yield from (("pair_changes_into", bytearray(60)), ("pairs_into", bytearray(16), 9))
 
 
 def answer_to(asked, name, *given):
@@ -493,6 +497,8 @@ def answer_to(asked, name, *given):
     given = [copy.copy(one) for one in given]
     try:
         answer = getattr(asked, name)(*given)
+        if inspect.isgenerator(answer):
+            answer = list(answer)
     except Stopped as fault:
         answer = fault.status, fault.done
     except Refused as fault:
@@ -503,11 +509,17 @@ def answer_to(asked, name, *given):
 def readers_answer_as_worlds(world):
     handles = world.add_all([raw(30 * k) for k in range(5)])
     world.mask(handles[2], 2, ALL)
+    world.mask(handles[3], 0, ALL)
+    world.move_all(handles[:2], [raw(0), raw(2)])
+    world.end_frame()
+    world.move(handles[1], raw(30))
     asks = list(asks_of(handles[1]))
     names = {name for name in dir(Reader) if not name.startswith("_")} - {"join", "leave", "closed"}
     assert names == {name for name, *_ in asks}, names ^ {name for name, *_ in asks}
+    # The one in no group is found if no group is looked at.
+    assert world.hits(raw(90)) == [] and world.hits(raw(90), 0) == [handles[3]]
     answers = [answer_to(world, *ask) for ask in asks]
-    assert answers[0][0] == handles[:1] and answers[3][0] is Status.ARGUMENT and len({str(answer) for answer in answers}) > 15
+    assert answers[0][0] == answers[1][0] == handles[:1] and answers[4][0] is Status.ARGUMENT and len({str(answer) for answer in answers}) > 15
     with world.share() as first, first.join() as second:
         for reader in (first, second, first):
             assert [answer_to(reader, *ask) for ask in asks] == answers
@@ -526,6 +538,7 @@ def the_last_reader(world):
     told = (world.info(), world.pairs(), list(world.boxes()))
     first = world.share()
     assert world.closed and not first.closed
+    assert told == (first.info(), first.pairs(), list(first.boxes()))
     for call in (world.share, world.info, world.end_frame, world.mark, lambda: world.add(raw(0)), lambda: list(world.boxes())):
         refused(Status.CLOSED, call)
     refused(Status.CLOSED, Reader, world)
@@ -543,6 +556,7 @@ def the_last_reader(world):
     assert not held.state and not held.held and world.closed
     assert third.leave() is True and third.leave() is False and not world.closed
     assert told == (world.info(), world.pairs(), list(world.boxes()))
+    refused(Status.CLOSED, third.info)
     world.back()
     assert world.get(kept[1]).box == raw(0)
     # As often as one likes, also if an exception ends the block.
@@ -568,7 +582,7 @@ def ends_of_shared_worlds(world):
     assert world.closed and not world._held.held
     refused(Status.CLOSED, world.share)
 
-    # Who has a reader alone has the world still.
+    # If you have a reader alone you have the world still.
     world = World(structure)
     world.add(raw(0))
     reader, held = world.share(), world._held
@@ -650,8 +664,9 @@ def compared(asked, model, seed, rounds):
         return Point(*(dice.randint(-reach, reach) for _ in range(3)))
 
     for _ in range(rounds):
-        mask, region, origin, way, want = dice.choice((1, 2, 3)), raw_at(place(), dice), place(500), place(3), dice.randint(0, 9)
-        seen = [(handle, box) for handle, box, groups in model if groups & mask]
+        mask, region, origin, way, want = dice.choice((0, 1, 2, 3)), raw_at(place(), dice), place(500), place(3), dice.randint(0, 9)
+        # A mask of 0 looks at no group.
+        seen = [(handle, box) for handle, box, groups in model if not mask or groups & mask]
         touched = [handle for handle, box in seen if square_between(region, box) == 0]
         holders = [handle for handle, box in seen if square_between(Box(origin, origin), box) == 0]
         assert asked.hits(region, mask) == touched and asked.hits_each([region, origin], mask) == [touched, holders]
@@ -1177,6 +1192,10 @@ def types_of_the_library():
         if line.startswith("pw_status pw_"):
             function = getattr(library, line[len("pw_status ") : line.index("(")])
             assert function.argtypes and function.restype is ctypes.c_uint32, line
+    major, minor, patch = (
+        int(line.split()[2]) for line in header.splitlines() if line.startswith(("#define PW_VERSION_M", "#define PW_VERSION_PATCH"))
+    )
+    assert pungwelair.version() == major * 1_000_000 + minor * 1_000 + patch
     structs = "Point Box New Handle Live Pair Told Counts Query Ray Cast Near NearBox Hit Square Info World Reader".split()
     sizes = [ctypes.sizeof(getattr(pungwelair._library, f"Raw{name}")) for name in structs]
     assert sizes == [12, 24, 16, 8, 40, 16, 20, 24, 32, 28, 40, 20, 48, 32, 16, 32, 16, 16] or ctypes.sizeof(ctypes.c_void_p) != 8

@@ -108,15 +108,32 @@ static void closed_to_questions(void) {
     EXPECT(pw_reader_square_apart(&reader, &inverted_box, none, square) == PW_CLOSED && is_filled(square, sizeof square));
 }
 
+/* What is read, by the same. */
+static void closed_to_readings(void) {
+    pw_handle handle[1], none = {0, 0};
+    pw_pair pairs[ROOM];
+    pw_told events[ROOM];
+    pw_live live[1];
+    pw_world_info info[1];
+    size_t count;
+    CLOSED_TO(pairs, count, pairs, 0, pairs, ROOM, &count);
+    CLOSED_TO(events, count, events, 0, events, ROOM, &count);
+    CLOSED_TO(changes, count, events, 0, events, ROOM, &count);
+    memset(live, FILL, sizeof live);
+    EXPECT(pw_get(&world, none, live) == PW_CLOSED && pw_reader_get(&reader, none, live) == PW_CLOSED && is_filled(live, sizeof live));
+    memset(handle, FILL, sizeof handle);
+    EXPECT(pw_at(&world, 0, handle, live) == PW_CLOSED && pw_reader_at(&reader, 0, handle, live) == PW_CLOSED);
+    EXPECT(is_filled(handle, sizeof handle) && is_filled(live, sizeof live));
+    memset(info, FILL, sizeof info);
+    EXPECT(pw_info(&world, info) == PW_CLOSED && pw_reader_info(&reader, info) == PW_CLOSED && is_filled(info, sizeof info));
+}
+
 static void closed_world(void) {
     pw_new how = pw_seen_by_all();
     pw_handle out[ROOM], none = {0, 0};
     pw_pair pairs[ROOM];
-    pw_told events[ROOM];
-    pw_live live[1];
     pw_ray ray = {~0u, origin, origin};
     pw_counts counts = {99, 99, 99};
-    pw_world_info info[1];
     size_t count;
     EXPECT(pw_close(&world) == PW_CLOSED);
     EXPECT(pw_open(&world, 5) == PW_ARGUMENT);
@@ -127,26 +144,19 @@ static void closed_world(void) {
     EMPTY(pw_move(&world, &none, 0, boxes, 1, &count), PW_CLOSED, count, out);
     EMPTY(pw_remove(&world, &none, 1, &count), PW_CLOSED, count, out);
     EXPECT(pw_mask(&world, none, how.masks) == PW_CLOSED && pw_regroup(&world, none, how.group) == PW_CLOSED);
-    memset(live, FILL, sizeof live);
-    EXPECT(pw_get(&world, none, live) == PW_CLOSED && is_filled(live, sizeof live));
-    memset(out, FILL, sizeof out);
-    EXPECT(pw_at(&world, 0, out, live) == PW_CLOSED && is_filled(out, sizeof out) && is_filled(live, sizeof live));
     EXPECT(pw_update(&world, &counts) == PW_CLOSED && counts.pairs == 0 && counts.events == 0 && counts.changes == 0);
-    EMPTY(pw_pairs(&world, 0, pairs, ROOM, &count), PW_CLOSED, count, pairs);
     EMPTY(pw_pairs_now(&world, 0, pairs, ROOM, &count), PW_CLOSED, count, pairs);
     EMPTY(pw_pairs_now(&world, 0, pairs, 0, &count), PW_CLOSED, count, pairs);
-    EMPTY(pw_events(&world, 0, events, ROOM, &count), PW_CLOSED, count, events);
-    EMPTY(pw_changes(&world, 0, events, ROOM, &count), PW_CLOSED, count, events);
     EMPTY(pw_first_hit(&world, &ray, out, &count), PW_CLOSED, count, out);
     closed_to_questions();
+    closed_to_readings();
     EXPECT(pw_reader_close(&reader) == PW_CLOSED && pw_reader_open(&reader) == PW_OK && pw_reader_open(&reader) == PW_ARGUMENT);
     closed_to_questions();
+    closed_to_readings();
     EXPECT(pw_share(&world, &reader) == PW_CLOSED && pw_unshare(&reader, &world) == PW_CLOSED);
     EXPECT(pw_reader_close(&reader) == PW_OK && pw_reader_close(&reader) == PW_CLOSED);
     EXPECT(pw_share(&world, &reader) == PW_CLOSED && pw_unshare(&reader, &world) == PW_CLOSED);
     EXPECT(pw_mark(&world) == PW_CLOSED && pw_forget(&world, 0) == PW_CLOSED && pw_back(&world) == PW_CLOSED);
-    memset(info, FILL, sizeof info);
-    EXPECT(pw_info(&world, info) == PW_CLOSED && is_filled(info, sizeof info));
     EXPECT(pw_close(&world) == PW_CLOSED);
 }
 
@@ -348,7 +358,7 @@ static void wrong_among_many(void) {
     enum { MANY = 4 };
     pw_query right = {PW_REGION, ~0u, origin, {9, 9, 9}}, wrong[2] = {{4, ~0u, origin, origin}, {PW_REGION, ~0u, {1, 0, 0}, origin}};
     pw_cast cast = {~0u, boxes[0], origin}, inverted = {~0u, inverted_on(2), origin};
-    pw_ray rays[MANY] = {{~0u, {-5, 1, 1}, {1, 0, 0}}, {~0u, {-5, 1, 1}, {-1, 0, 0}}, {0, origin, origin}, {~0u, {55, 0, 55}, {0, 1, 0}}};
+    pw_ray rays[MANY] = {{~0u, {-5, 1, 1}, {1, 0, 0}}, {~0u, {-5, 1, 1}, {-1, 0, 0}}, {2, origin, origin}, {~0u, {55, 0, 55}, {0, 1, 0}}};
     pw_handle out[2 * MANY + 1];
     pw_hit hit[MANY + 1];
     size_t ends[MANY + 1], count;
@@ -434,7 +444,7 @@ static void first_hits(void) {
                 {{4, 4, 4}, {-1, 2, 3}, 0, 0, PW_NO_AXIS, 0},      {{4, 4, 4}, {0, 0, 0}, 0, 0, PW_NO_AXIS, 0},
                 {{0, 5, 5}, {1, 0, 0}, 0, 0, 0, PW_LOWER},         {{55, 60, 55}, {0, -7, 0}, 2, 0, 1, PW_UPPER}};
     pw_cast cast = {~0u, {{-20, 2, 2}, {-10, 4, 4}}, {40, 0, 0}}, within = {~0u, boxes[0], {1, 0, 0}}, ends_short = cast;
-    pw_ray no_group = {0, {-5, 1, 1}, {1, 0, 0}}, beside = {~0u, {-5, 10, 1}, {1, 0, 0}};
+    pw_ray other_group = {2, {-5, 1, 1}, {1, 0, 0}}, each_group = {0, {-5, 1, 1}, {1, 0, 0}}, beside = {~0u, {-5, 10, 1}, {1, 0, 0}};
     pw_hit hit[1];
     pw_handle first[1];
     size_t count;
@@ -449,14 +459,15 @@ static void first_hits(void) {
     EXPECT(pw_cast_first(&world, &within, hit, &count) == PW_OK && count == 1 && is_hit(hit, 0, 0, PW_NO_AXIS, 0));
     EMPTY(pw_cast_first(&world, &ends_short, hit, &count), PW_OK, count, hit);
     EMPTY(pw_ray_first(&world, &beside, hit, &count), PW_OK, count, hit);
-    EMPTY(pw_ray_first(&world, &no_group, hit, &count), PW_OK, count, hit);
+    EMPTY(pw_ray_first(&world, &other_group, hit, &count), PW_OK, count, hit);
+    EXPECT(pw_ray_first(&world, &each_group, hit, &count) == PW_OK && count == 1 && is_hit(hit, 0, 5, 0, PW_LOWER));
     EMPTY(pw_first_hit(&world, &beside, first, &count), PW_OK, count, first);
 }
 
-/* One box is asked of: also one that isn't met first, and one of no group that is asked for. */
+/* One box is asked of: also one that isn't met first, and by a mask that the box isn't in. */
 static void meetings(void) {
-    pw_ray ray = {~0u, {-5, 1, 1}, {1, 0, 0}}, back = {0, {60, 5, 5}, {-80, 0, 0}}, within = {0, {55, 55, 55}, {0, 0, 0}};
-    pw_cast cast = {0, {{-20, 2, 2}, {-10, 4, 4}}, {40, 0, 0}}, ends_short = {~0u, {{-20, 2, 2}, {-10, 4, 4}}, {18, 0, 0}};
+    pw_ray ray = {~0u, {-5, 1, 1}, {1, 0, 0}}, back = {2, {60, 5, 5}, {-80, 0, 0}}, within = {2, {55, 55, 55}, {0, 0, 0}};
+    pw_cast cast = {2, {{-20, 2, 2}, {-10, 4, 4}}, {40, 0, 0}}, ends_short = {~0u, {{-20, 2, 2}, {-10, 4, 4}}, {18, 0, 0}};
     pw_point least = {INT32_MIN, INT32_MIN, INT32_MIN}, within_0 = {9, 4, 0}, beside = {-3, 13, 9};
     pw_square square[1];
     pw_hit hit[1];
@@ -496,8 +507,10 @@ static void nearest_to_a_box(void) {
         EXPECT(is_filled(out + count, sizeof out - count * sizeof *out));
         near_to.want = 0;
         STAYS(EMPTY(pw_nearest_box(&world, &near_to, out, ROOM, &count), PW_OK, count, out));
-        near_to.want = 1, near_to.mask = 0;
+        near_to.want = 1, near_to.mask = 2;
         STAYS(EMPTY(pw_nearest_box(&world, &near_to, out, ROOM, &count), PW_OK, count, out));
+        near_to.want = ~0u, near_to.mask = 0;
+        STAYS(EXPECT(pw_nearest_box(&world, &near_to, out, ROOM, &count) == PW_OK && count == asked[k].count));
     }
     STAYS(EXPECT(pw_square_apart(&world, &body, handles[0], square) == PW_OK && square->low == 25 && square->high == 0));
     EXPECT(pw_square_apart(&world, &body, handles[1], square) == PW_OK && square->low == 16 && square->high == 0);
@@ -526,10 +539,13 @@ static void farthest(void) {
     EXPECT(pw_move(&world, &handles[2], 1, &boxes[2], 1, &done) == PW_OK);
 }
 
-/* A box with no group is live, and no question finds it. */
+/* A box with no group is live. A question finds it if its mask is 0, which looks at no group, and no other question does. */
 static void no_group(void) {
     pw_masks nothing = {0, ~0u}, as_before = pw_seen_by_all().masks;
-    pw_ray ray = {~0u, {55, 55, 0}, {0, 0, 1}};
+    pw_ray ray = {~0u, {55, 55, 0}, {0, 0, 1}}, each_ray = {0, {55, 55, 0}, {0, 0, 1}};
+    pw_cast cast = {~0u, {{55, 55, 0}, {55, 55, 0}}, {0, 0, 100}}, each_cast = cast;
+    pw_query query = {PW_POINT, ~0u, {55, 55, 55}, origin}, each_query = {PW_POINT, 0, {55, 55, 55}, origin};
+    pw_near_box near_box = {~0u, ROOM, boxes[2], {0, 0}};
     pw_hit hit[1];
     pw_handle out[ROOM];
     size_t count;
@@ -537,8 +553,20 @@ static void no_group(void) {
     EXPECT(pw_mask(&world, handles[2], nothing) == PW_OK);
     EMPTY(pw_ray_first(&world, &ray, hit, &count), PW_OK, count, hit);
     EMPTY(pw_ray_hits(&world, &ray, out, ROOM, &count), PW_OK, count, out);
+    EMPTY(pw_cast_first(&world, &cast, hit, &count), PW_OK, count, hit);
+    EMPTY(pw_cast_hits(&world, &cast, out, ROOM, &count), PW_OK, count, out);
+    EMPTY(pw_hits(&world, &query, out, ROOM, &count), PW_OK, count, out);
     EXPECT(pw_nearest(&world, &near_to, out, ROOM, &count) == PW_OK && count == 2 && out[0].slot == 1);
-    /* It is found by its handle alone. */
+    EXPECT(pw_nearest_box(&world, &near_box, out, ROOM, &count) == PW_OK && count == 2 && out[0].slot == 1);
+    each_cast.mask = near_to.mask = near_box.mask = 0;
+    EXPECT(pw_ray_first(&world, &each_ray, hit, &count) == PW_OK && count == 1 && is_hit(hit, 2, 50, 2, PW_LOWER));
+    EXPECT(pw_ray_hits(&world, &each_ray, out, ROOM, &count) == PW_OK && count == 1 && out[0].slot == 2);
+    EXPECT(pw_cast_first(&world, &each_cast, hit, &count) == PW_OK && count == 1 && is_hit(hit, 2, 0.5, 2, PW_LOWER));
+    EXPECT(pw_cast_hits(&world, &each_cast, out, ROOM, &count) == PW_OK && count == 1 && out[0].slot == 2);
+    EXPECT(pw_hits(&world, &each_query, out, ROOM, &count) == PW_OK && count == 1 && out[0].slot == 2);
+    EXPECT(pw_nearest(&world, &near_to, out, ROOM, &count) == PW_OK && count == 3 && out[0].slot == 2);
+    EXPECT(pw_nearest_box(&world, &near_box, out, ROOM, &count) == PW_OK && count == 3 && out[0].slot == 2);
+    /* By its handle it is found as well. */
     EXPECT(pw_ray_meets(&world, &ray, handles[2], hit, &count) == PW_OK && count == 1 && is_hit(hit, 2, 50, 2, PW_LOWER));
     EXPECT(pw_mask(&world, handles[2], as_before) == PW_OK);
     EXPECT(pw_ray_first(&world, &ray, hit, &count) == PW_OK && count == 1 && is_hit(hit, 2, 50, 2, PW_LOWER));
@@ -549,11 +577,11 @@ static void questions_at_the_ends(void) {
     const int32_t least = INT32_MIN, most = INT32_MAX;
     pw_handle out[ROOM];
     size_t count;
-    pw_ray ray = {~0u, {least, least, least}, {most, most, most}}, no_group = {0, {-5, 1, 1}, {1, 0, 0}};
+    pw_ray ray = {~0u, {least, least, least}, {most, most, most}}, other_group = {2, {-5, 1, 1}, {1, 0, 0}};
     pw_cast cast = {~0u, {{least, least, least}, {least, least, least}}, {most, most, most}};
     pw_query segment = {PW_SEGMENT, ~0u, {least, 0, 0}, {most, 0, 0}}, all = {PW_REGION, ~0u, {least, least, least}, {most, most, most}};
     pw_hit hit[1];
-    pw_near none = {~0u, 0, origin}, nobody = {0, 5, origin}, everybody = {~0u, ~0u, {most, most, most}};
+    pw_near none = {~0u, 0, origin}, nobody = {2, 5, origin}, each_group = {0, 5, origin}, everybody = {~0u, ~0u, {most, most, most}};
     EXPECT(pw_ray_hits(&world, &ray, out, ROOM, &count) == PW_OK && count == 3 && !memcmp(out, handles, sizeof handles));
     EXPECT(pw_cast_hits(&world, &cast, out, ROOM, &count) == PW_OK && count == 0);
     EXPECT(pw_ray_first(&world, &ray, hit, &count) == PW_OK && count == 1 && is_hit(hit, 0, 2147483648.0 / 2147483647, 0, PW_LOWER));
@@ -561,9 +589,10 @@ static void questions_at_the_ends(void) {
     EXPECT(pw_hits(&world, &segment, out, ROOM, &count) == PW_OK && count == 2);
     EXPECT(pw_hits(&world, &all, out, ROOM, &count) == PW_OK && count == 3);
     EXPECT(pw_nearest(&world, &everybody, out, ROOM, &count) == PW_OK && count == 3 && out[0].slot == 2);
-    EMPTY(pw_ray_hits(&world, &no_group, out, ROOM, &count), PW_OK, count, out);
+    EMPTY(pw_ray_hits(&world, &other_group, out, ROOM, &count), PW_OK, count, out);
     EMPTY(pw_nearest(&world, &none, out, ROOM, &count), PW_OK, count, out);
     EMPTY(pw_nearest(&world, &nobody, out, ROOM, &count), PW_OK, count, out);
+    EXPECT(pw_nearest(&world, &each_group, out, ROOM, &count) == PW_OK && count == 3);
 }
 
 static void slots_with_and_without_boxes(void) {
@@ -715,6 +744,7 @@ static void doubles_where_floats_are_taken(void) {
 }
 
 int main(void) {
+    EXPECT(pw_version() == PW_VERSION_NUMBER);
     closed_world();
     for (uint32_t structure = PW_PLAIN; structure <= PW_SKIN; structure++) {
         open_with_boxes(structure);

@@ -21,7 +21,7 @@ the wrong type is a TypeError and a number that doesn't fit a ValueError, before
 """
 
 from ._asking import Asker
-from ._library import ALL, MOST_MARKS, SLOTS, library
+from ._library import ALL, MOST_MARKS, SLOTS, library, version
 from ._reader import Reader
 from ._values import (
     BEGIN, GRID, LOWER, NO_HANDLE, OVER, PLAIN, REFUSALS, SAP, SKIN, STAY, TREE, UPPER, Box, Cast, Event, Frame, Handle, Hit, Info, Live,
@@ -34,5 +34,5 @@ __all__ = [
     "ALL", "Asker", "BEGIN", "Box", "Cast", "Event", "Frame", "GRID", "Handle", "Hit", "Info", "LOWER", "Live", "MOST_MARKS", "NO_HANDLE",
     "OVER", "PLAIN", "Pair", "Point", "Question", "REFUSALS", "Ray", "Reader", "Refused", "SAP", "SKIN", "SLOTS", "STAY", "Segment", "Side",
     "Status", "Stopped", "Structure", "TREE", "Told", "UPPER", "World", "box_around", "box_around_cut", "call", "fix_above", "fix_below",
-    "library",
+    "library", "version",
 ]  # fmt: skip

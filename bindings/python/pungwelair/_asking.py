@@ -15,6 +15,7 @@ from ._library import (
 from ._questions import (
     casts_of, packed_cast, packed_near, packed_near_box, packed_point, packed_query, packed_ray, questions_of, rays_of,
 )  # fmt: skip
+from ._telling import Teller, checked, counted
 from ._values import LOWER, NO_HANDLE, UPPER, Box, Handle, Hit, Question, Refused, Side, Stopped, made
 
 if TYPE_CHECKING:
@@ -22,20 +23,6 @@ if TYPE_CHECKING:
 
 _SIDES: Tuple[Side, ...] = (LOWER, UPPER)
 _SLOT = struct.Struct("=I4x")
-
-
-def checked(status: int, count: int) -> int:
-    """A count, if the call that told it wasn't refused. A frame that raises holds no buffer of the caller: its traceback would."""
-    if status:
-        raise Refused(status)
-    return count
-
-
-def counted(work: Workspace) -> int:
-    """What a call counted, and its workspace is put back."""
-    count = work.count.value
-    kept.append(work)
-    return count
 
 
 def handles_of(memory: bytearray, count: int) -> List[Handle]:
@@ -53,8 +40,11 @@ def _hits(memory: bytearray) -> List[Optional[Hit]]:
     return [_hit(numbers) if numbers[:2] != NO_HANDLE else None for numbers in HIT.iter_unpack(memory)]
 
 
-class Asker:
+class Asker(Teller):
     """What asks a world: the `World` itself, or a `Reader` of it.
+
+    With the mask 0 a question looks at no group: it finds every box, those in no group too. With any other mask it finds boxes that are
+    in one of its groups.
 
     The calls that end in `_each` ask many questions at once, in order up to the first that is refused: that is `Stopped`, which tells how
     many were answered. Questions come as a list of values, all for the groups of one mask, or as a buffer, whose rows have a mask each:
@@ -64,15 +54,6 @@ class Asker:
     question.
     """
 
-    #: The two words that the library has, a pointer to them, and a lock for their call.
-    _held: Any
-    _held_at: Any
-    _lock: Any
-
-    #: The calls of pungwelair.h that ask by such words: the functions as they are, and those that look at their arguments.
-    _asks: Any
-    _careful: Any
-
     def __init_subclass__(cls, calls: str = "", **others: Any) -> None:
         super().__init_subclass__(**others)
         if calls:
@@ -80,7 +61,7 @@ class Asker:
             cls._careful = SimpleNamespace(**{name: getattr(library, calls + name) for name in ASKS})
 
     def hits(self, question: Question, mask: int = ALL) -> List[Handle]:
-        """The live boxes of the groups of `mask` that meet a box, hold a point, or meet a ray or a segment, in order of their slots.
+        """The live boxes that `mask` asks for and that meet a box, hold a point, or meet a ray or a segment, in order of their slots.
 
         ARGUMENT if a box is inverted, NO_MEMORY.
         """

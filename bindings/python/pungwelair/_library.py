@@ -16,7 +16,7 @@ from typing import Any, Dict, List, Tuple
 SLOTS = 8192
 #: The most marks that a world holds.
 MOST_MARKS = 64
-#: A mask with all 32 groups.
+#: A mask with all 32 groups. (A question with the mask 0 looks at no group: it finds every box, those in no group too.)
 ALL = 0xFFFFFFFF
 
 
@@ -156,6 +156,7 @@ class _To:
 _WORLD, _BOX, _HANDLE, _NUMBER, _COUNT = _To(RawWorld), _To(RawBox), _To(RawHandle), _To(c_int32), _To(c_size_t)
 _READER, _QUERY, _RAY, _CAST, _HIT, _SQUARE = map(_To, (RawReader, RawQuery, RawRay, RawCast, RawHit, RawSquare))
 _FOUND, _FIRSTS = (_HANDLE, c_size_t, _COUNT), (_HIT, c_size_t, _COUNT)
+_takes("pw_version")
 _takes("pw_open", _WORLD, c_uint32)
 _takes("pw_close", _WORLD)
 _takes("pw_add", _WORLD, _BOX, c_size_t, _To(RawNew), _HANDLE, c_size_t, _COUNT)
@@ -163,17 +164,11 @@ _takes("pw_move", _WORLD, _HANDLE, c_size_t, _BOX, c_size_t, _COUNT)
 _takes("pw_mask", _WORLD, RawHandle, RawMasks)
 _takes("pw_regroup", _WORLD, RawHandle, RawGroup)
 _takes("pw_remove", _WORLD, _HANDLE, c_size_t, _COUNT)
-_takes("pw_get", _WORLD, RawHandle, _To(RawLive))
-_takes("pw_at", _WORLD, c_uint32, _HANDLE, _To(RawLive))
 _takes("pw_update", _WORLD, _To(RawCounts))
-_takes("pw_pairs", _WORLD, c_size_t, _To(RawPair), c_size_t, _COUNT)
 _takes("pw_pairs_now", _WORLD, c_size_t, _To(RawPair), c_size_t, _COUNT)
-_takes("pw_events", _WORLD, c_size_t, _To(RawTold), c_size_t, _COUNT)
-_takes("pw_changes", _WORLD, c_size_t, _To(RawTold), c_size_t, _COUNT)
 _takes("pw_mark", _WORLD)
 _takes("pw_forget", _WORLD, c_uint32)
 _takes("pw_back", _WORLD)
-_takes("pw_info", _WORLD, _To(RawInfo))
 _takes("pw_reader_open", _READER)
 _takes("pw_reader_close", _READER)
 _takes("pw_share", _WORLD, _READER)
@@ -186,7 +181,7 @@ _takes("pw_fix_above_64", c_uint64, _NUMBER)
 _takes("pw_box_around_32", _To(RawFloats), _To(RawFloats), _BOX)
 _takes("pw_box_around_64", _To(RawDoubles), _To(RawDoubles), _BOX)
 
-#: The calls that ask, and what each takes behind the words of a world (`pw_hits`) or a reader (`pw_reader_hits`).
+#: The calls that ask and read, and what each takes behind the words of a world (`pw_hits`) or a reader (`pw_reader_hits`).
 ASKS: Dict[str, Tuple[Any, ...]] = {
     "hits": (_QUERY, *_FOUND),
     "ray_hits": (_RAY, *_FOUND),
@@ -202,10 +197,21 @@ ASKS: Dict[str, Tuple[Any, ...]] = {
     "hits_each": (_QUERY, c_size_t, _HANDLE, c_size_t, _COUNT, c_size_t, _COUNT),
     "ray_first_each": (_RAY, c_size_t, *_FIRSTS),
     "cast_first_each": (_CAST, c_size_t, *_FIRSTS),
+    "get": (RawHandle, _To(RawLive)),
+    "at": (c_uint32, _HANDLE, _To(RawLive)),
+    "pairs": (c_size_t, _To(RawPair), c_size_t, _COUNT),
+    "events": (c_size_t, _To(RawTold), c_size_t, _COUNT),
+    "changes": (c_size_t, _To(RawTold), c_size_t, _COUNT),
+    "info": (_To(RawInfo),),
 }
 for _name, _types in ASKS.items():
     _takes(f"pw_{_name}", _WORLD, *_types)
     _takes(f"pw_reader_{_name}", _READER, *_types)
+
+
+def version() -> int:
+    """The version of the library that runs, as one number: 6000 for 0.6.0."""
+    return int(library.pw_version())
 
 
 def unchecked(name: str) -> Any:

@@ -46,6 +46,7 @@ class Reader(Asker, calls="pw_reader_"):
         if status:
             raise Refused(status)
         self._world = world
+        self._counts = world._counts
 
     def join(self) -> Reader:
         """Another reader of the same world, for another thread. CLOSED if this one left, NO_MEMORY."""

@@ -64,7 +64,7 @@ LOWER, UPPER = Side
 
 
 class Refused(Exception):
-    """A call was refused, and changed nothing but what its comment names. `status` tells why, and the text says it."""
+    """A call was refused, and changed nothing except what its comment names. `status` tells why, and the text says it."""
 
     status: Status
 
@@ -197,7 +197,7 @@ Question = Union[Box, Point, Ray, Segment]
 class Live(NamedTuple):
     """A live box, and how it came: `groups` and `sees` are masks, and `owner` is 0 for nobody's.
 
-    With `groups` 0 it pairs with no box, and no question finds it.
+    With `groups` 0 it pairs with no box, and a question finds it only if its mask is 0.
     """
 
     box: Box
@@ -246,7 +246,8 @@ class Frame(NamedTuple):
 class Info(NamedTuple):
     """What a world is. `exchanges` are those of the endpoint lists since the last frame over SAP, and else 0.
 
-    A `spent` world ran out of memory in a change: it tells what it had, and answers nothing else.
+    A `spent` world ran out of memory in a change. It tells what it had, as by `get` and `pairs`, and where one of its boxes is met and how
+    far off it is. It refuses each other change and question with NO_MEMORY.
     """
 
     structure: Structure

@@ -6,42 +6,26 @@ import struct
 import threading
 from ctypes import byref, c_size_t, c_uint32
 from operator import index
-from typing import TYPE_CHECKING, Any, Callable, Iterable, Iterator, List, NoReturn, Optional, Tuple, TypeVar
+from typing import TYPE_CHECKING, Any, List, NoReturn, Tuple
 
-from ._asking import Asker, checked, counted, handles_of
-from ._buffers import BOXES, EVENTS, HANDLES, PAIRS, Boxes, Handles, Kind, Rows, new_rows, packed_handle, room_of, rows_of
+from ._asking import Asker, handles_of
+from ._buffers import BOXES, HANDLES, PAIRS, Boxes, Handles, Rows, new_rows, packed_handle, room_of, rows_of
 from ._library import (
-    ALL, BOX, HANDLE, INFO, LIVE, NEW, NONE, ONE, PAIR, SLOTS, TOLD, RawCounts, RawGroup, RawHandle, RawMasks, RawNew, RawWorld, kept,
-    library, unchecked, workspace,
+    ALL, BOX, HANDLE, NEW, ONE, RawCounts, RawGroup, RawHandle, RawMasks, RawNew, RawWorld, kept, library, unchecked, workspace,
 )  # fmt: skip
 from ._reader import Reader
-from ._values import (
-    BEGIN, OVER, STAY, TREE, Box, Event, Frame, Handle, Info, Live, Pair, Refused, Status, Stopped, Structure, Told, made, refuse_kind,
-    refuse_places, refuse_words,
-)  # fmt: skip
+from ._telling import checked, counted, pairs_of, start_of
+from ._values import TREE, Box, Frame, Handle, Pair, Refused, Stopped, made, refuse_kind, refuse_places, refuse_words
 
 if TYPE_CHECKING:
     from typing_extensions import Buffer
 
-_Value = TypeVar("_Value")
-
-_EVENTS: Tuple[Event, ...] = (BEGIN, STAY, OVER)
-_SLOTS_TOLD = struct.Struct("=II4xI4x")
-
 _pack_box, _pack_handle, _pack_new, _handle_from = BOX.pack, HANDLE.pack, NEW.pack, HANDLE.unpack_from
 
-_pw_open, _pw_close, _pw_info, _pw_at = map(unchecked, ("pw_open", "pw_close", "pw_info", "pw_at"))
+_pw_open, _pw_close, _pw_update = map(unchecked, ("pw_open", "pw_close", "pw_update"))
 _pw_mark, _pw_forget, _pw_back = map(unchecked, ("pw_mark", "pw_forget", "pw_back"))
-_pw_add, _pw_move, _pw_remove, _pw_get = map(unchecked, ("pw_add", "pw_move", "pw_remove", "pw_get"))
+_pw_add, _pw_move, _pw_remove = map(unchecked, ("pw_add", "pw_move", "pw_remove"))
 _pw_mask, _pw_regroup = map(unchecked, ("pw_mask", "pw_regroup"))
-_pw_update, _pw_pairs, _pw_events, _pw_changes = map(unchecked, ("pw_update", "pw_pairs", "pw_events", "pw_changes"))
-
-
-def _from(start: int) -> int:
-    """A number to go on from. No list has as many as the number that stands for those that are larger."""
-    if index(start) < 0:
-        raise ValueError(f"start is {start}: it must be 0 or more")
-    return min(index(start), 2**31)
 
 
 class World(Asker, calls="pw_"):
@@ -183,38 +167,6 @@ class World(Asker, calls="pw_"):
         if status:
             raise Refused(status)
 
-    def get(self, handle: Handle) -> Live:
-        """The live box that has a handle. STALE."""
-        name, work = RawHandle.from_buffer_copy(packed_handle(handle)), workspace()
-        with self._lock:
-            status = _pw_get(self._held_at, name, work.live_at)
-        numbers = LIVE.unpack_from(work.live)
-        kept.append(work)
-        if status:
-            raise Refused(status)
-        return _live(numbers)
-
-    def at(self, slot: int) -> Tuple[Handle, Live]:
-        """The live box in a slot, with its handle. STALE, as in each slot from SLOTS on."""
-        refuse_words(slot=slot)
-        work = workspace()
-        with self._lock:
-            status = _pw_at(self._held_at, c_uint32(slot), work.handle_at, work.live_at)
-        handle, numbers = made(Handle, _handle_from(work.handle)), LIVE.unpack_from(work.live)
-        kept.append(work)
-        if status:
-            raise Refused(status)
-        return handle, _live(numbers)
-
-    def boxes(self) -> Iterator[Tuple[Handle, Live]]:
-        """All live boxes with their handles, by their slots. Each slot is read when its turn comes, so the loop may change the world."""
-        for slot in range(SLOTS):
-            try:
-                yield self.at(slot)
-            except Refused as refusal:
-                if refusal.status != Status.STALE:
-                    raise
-
     def add_all(self, boxes: Boxes, groups: int = 1, sees: int = ALL, owner: int = 0, fixed: bool = False) -> List[Handle]:
         """Adds boxes in order, all in one way, and gives their handles.
 
@@ -299,10 +251,6 @@ class World(Asker, calls="pw_"):
         with self._lock:
             return Frame(self._counts.pairs, self._counts.events, self._counts.changes)
 
-    def pairs(self) -> List[Pair]:
-        """The pairs of the last frame that ended, in order of their slots. After `back` they are those before the mark."""
-        return self._read(_pw_pairs, library.pw_pairs, PAIRS, self._counts.pairs, _pairs)
-
     def pairs_now(self) -> List[Pair]:
         """The pairs that the frame would have if it ended now, in order of their slots. NO_MEMORY.
 
@@ -314,73 +262,12 @@ class World(Asker, calls="pw_"):
             memory, rows = new_rows(PAIRS, room)
             count = checked(*self._copied(library.pw_pairs_now, 0, rows))
             if count <= room:
-                return _pairs(memory[: count * PAIRS.size])
+                return pairs_of(memory[: count * PAIRS.size])
             room = count
-
-    def pair_events(self) -> List[Told]:
-        """What became of each pair in the last frame that ended: each of its pairs, and then those that are over."""
-        return self._read(_pw_events, library.pw_events, EVENTS, self._counts.events, _told)
-
-    def pair_changes(self) -> List[Told]:
-        """The same without the pairs that stayed: those that began, and then those that are over."""
-        return self._read(_pw_changes, library.pw_changes, EVENTS, self._counts.changes, _told)
-
-    def events(self) -> List[Tuple[int, int, int]]:
-        """What became of each pair, as an event and the two slots. Take `pair_events`, which gives the handles."""
-        return self._read(_pw_events, library.pw_events, EVENTS, self._counts.events, _slots_told)
-
-    def changes(self) -> List[Tuple[int, int, int]]:
-        """The same without the pairs that stayed. Take `pair_changes`, which gives the handles."""
-        return self._read(_pw_changes, library.pw_changes, EVENTS, self._counts.changes, _slots_told)
-
-    def _read(self, short: Any, long: Any, kind: Kind, expected: int, values: Callable[[bytearray], List[_Value]]) -> List[_Value]:
-        """All of a list that the frame has: `short` and `long` are the same call."""
-        room = kind.found
-        if expected < room.value:
-            work = workspace()
-            with self._lock:
-                status = short(self._held_at, NONE, work.found_at, room, work.count_at)
-            if status:
-                raise Refused(status)
-            count = work.count.value
-            if count < room.value:
-                read = values(work.found[: count * kind.size]) if count else []
-                kept.append(work)
-                return read
-        return self._read_long(long, kind, expected, values)
-
-    def _read_long(self, copies: Any, kind: Kind, expected: int, values: Callable[[bytearray], List[_Value]]) -> List[_Value]:
-        # A row more than is expected: if it stays free, all were read. Another thread or a way back may have made them more.
-        start, room, parts = 0, expected + 1, []
-        while True:
-            memory, rows = new_rows(kind, room)
-            copied = checked(*self._copied(copies, start, rows))
-            parts.append(memory[: copied * kind.size])
-            if copied < room:
-                return values(bytearray().join(parts))
-            start, room = start + copied, start + copied + 1
-
-    def _copied(self, copies: Any, start: int, rows: Rows) -> Tuple[int, int]:
-        work = workspace()
-        with self._lock:
-            status = copies(self._held, start, rows.first, rows.count, work.count)
-        return status, counted(work)
-
-    def pairs_into(self, out: Buffer, start: int = 0) -> int:
-        """Writes the pairs from number `start` on, as many as there is room for, and tells how many those are."""
-        return checked(*self._copied(library.pw_pairs, _from(start), room_of(PAIRS, out)))
 
     def pairs_now_into(self, out: Buffer, start: int = 0) -> int:
         """Writes those of `pairs_now` from number `start` on, as many as there is room for, and tells how many all of them are."""
-        return checked(*self._copied(library.pw_pairs_now, _from(start), room_of(PAIRS, out)))
-
-    def pair_events_into(self, out: Buffer, start: int = 0) -> int:
-        """Writes the events from number `start` on, as many as there is room for, and tells how many those are."""
-        return checked(*self._copied(library.pw_events, _from(start), room_of(EVENTS, out)))
-
-    def pair_changes_into(self, out: Buffer, start: int = 0) -> int:
-        """Writes the changes from number `start` on, as many as there is room for, and tells how many those are."""
-        return checked(*self._copied(library.pw_changes, _from(start), room_of(EVENTS, out)))
+        return checked(*self._copied(library.pw_pairs_now, start_of(start), room_of(PAIRS, out)))
 
     def mark(self) -> None:
         """Marks the world as it stands, for rollback. FULL if MOST_MARKS are held."""
@@ -406,31 +293,3 @@ class World(Asker, calls="pw_"):
             status = _pw_back(self._held_at)
         if status:
             raise Refused(status)
-
-    def info(self) -> Info:
-        """What the world is."""
-        work = workspace()
-        with self._lock:
-            status = _pw_info(self._held_at, work.info_at)
-        if status:
-            raise Refused(status)
-        structure, spent, *others = INFO.unpack_from(work.info)
-        kept.append(work)
-        return Info(Structure(structure), spent != 0, *others)
-
-
-def _live(numbers: Tuple[int, ...]) -> Live:
-    groups, sees, owner, fixed = numbers[6:]
-    return Live(made(Box, numbers[:6]), groups, sees, owner, fixed != 0)
-
-
-def _pairs(read: bytearray) -> List[Pair]:
-    return [made(Pair, (made(Handle, (a, b)), made(Handle, (c, d)))) for a, b, c, d in PAIR.iter_unpack(read)]
-
-
-def _told(read: bytearray) -> List[Told]:
-    return [made(Told, (_EVENTS[event], made(Handle, (a, b)), made(Handle, (c, d)))) for event, a, b, c, d in TOLD.iter_unpack(read)]
-
-
-def _slots_told(read: bytearray) -> List[Tuple[int, int, int]]:
-    return list(_SLOTS_TOLD.iter_unpack(read))  # type: ignore[arg-type]

@@ -31,7 +31,7 @@ fn found(ask: impl FnOnce(*mut Handle, &mut usize) -> u32) -> Result<Vec<Handle>
     Ok(all)
 }
 
-// Makes a list as long as that. None of the questions behind it was asked.
+// Makes a list as long as that. No question behind it was asked.
 fn lengthened<Item: Clone>(list: &mut Vec<Item>, length: usize, item: Item) -> Result<(), Stopped> {
     list.try_reserve_exact(length.saturating_sub(list.len())).map_err(|_| Stopped { done: 0, error: Error::NoMemory })?;
     list.resize(length, item);
@@ -70,8 +70,9 @@ fn first_each<Way>(ways: &[Way], mut ask: impl FnMut(&[Way], &mut [Hit]) -> Resu
 macro_rules! questions {
     ($asked:ident by $calls:ident) => {
         impl $asked {
-            /// Tells how many boxes of the groups of `mask` meet a question, and copies the first of their handles, by slots. `Argument`
-            /// comes for an inverted region.
+            /// Tells how many boxes that `mask` asks for meet a question, and copies the first of their handles, by slots. With the mask 0
+            /// it looks at no group and finds every box, those in no group too; with any other mask it finds boxes that are in one of its
+            /// groups. `Argument` comes for an inverted region.
             pub fn hits(&mut self, query: Query, mask: u32, out: &mut [Handle]) -> Result<usize, Error> {
                 let (question, mut count) = (Question::new(query, mask), 0);
                 // SAFETY: the words are those that the last call left; the pointer leads to as many items as the length says.
@@ -79,7 +80,7 @@ macro_rules! questions {
                 counted(status, count)
             }
 
-            /// All boxes of the groups of `mask` that meet a question, by slots, in a list of their own. Beside what `hits` refuses
+            /// All boxes that `mask` asks for and that meet a question, by slots, in a list of their own. Beside what `hits` refuses
             /// `NoMemory` comes if there is no memory for the list.
             pub fn all_hits(&mut self, query: Query, mask: u32) -> Result<Vec<Handle>, Error> {
                 let question = Question::new(query, mask);

@@ -6,7 +6,7 @@
 //! Every call takes `&mut self`, those that only ask too. The library has a buffer of its own in each world for what a question
 //! finds, and its exports say that one call at a time has a world. So a `World` is `Send` and not `Sync`. Each thread may have
 //! worlds of its own. Several threads ask one world at once by a [`Reader`] each: [`World::share`] gives the world to the first of them,
-//! and who leaves last has it back.
+//! and the last one that leaves has it back.
 //!
 //! An answer goes into a slice of the caller's, and its call takes no memory of this side. The call whose name begins with `all_` gives a
 //! list with the whole of it, and `NoMemory` if there is no memory for it. The calls whose names end in `_each` ask many questions at once.
@@ -39,6 +39,7 @@
 mod asking;
 mod library;
 mod reader;
+mod reading;
 mod values;
 mod world;
 
@@ -50,7 +51,15 @@ pub use values::{
 };
 pub use world::World;
 
-/// The most boxes that live at once. Slots are below it, so a slice of this length has room for any answer but pairs.
+/// The version of the library that runs, as one number: a million times its major number, a thousand times its minor one, and its patch
+/// number.
+pub fn version() -> u32 {
+    // SAFETY: it takes nothing.
+    unsafe { library::pw_version() }
+}
+
+/// The most boxes that live at once. Slots are below it, so a slice of this length has room for the answer to any question. (There may be
+/// more pairs, events and changes.)
 pub const SLOTS: usize = 8192;
 
 /// The most marks that a world holds.

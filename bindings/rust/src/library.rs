@@ -40,6 +40,7 @@ pub struct Bits<N> {
 
 #[rustfmt::skip]
 extern "C" {
+    pub fn pw_version() -> u32;
     pub fn pw_open(world: &mut Held, structure: u32) -> u32;
     pub fn pw_close(world: &mut Held) -> u32;
     pub fn pw_add(world: &mut Held, boxes: *const Body, boxes_len: usize, how: &How, out: *mut Handle, out_len: usize, done: &mut usize) -> u32;
@@ -91,6 +92,12 @@ extern "C" {
     pub fn pw_reader_hits_each(reader: &mut HeldReader, queries: *const Question, queries_len: usize, out: *mut Handle, out_len: usize, ends: *mut usize, ends_len: usize, count: &mut usize) -> u32;
     pub fn pw_reader_ray_first_each(reader: &mut HeldReader, rays: *const Ray, rays_len: usize, out: *mut Hit, out_len: usize, count: &mut usize) -> u32;
     pub fn pw_reader_cast_first_each(reader: &mut HeldReader, casts: *const Cast, casts_len: usize, out: *mut Hit, out_len: usize, count: &mut usize) -> u32;
+    pub fn pw_reader_get(reader: &mut HeldReader, handle: Handle, out: &mut Live) -> u32;
+    pub fn pw_reader_at(reader: &mut HeldReader, slot: u32, handle: &mut Handle, out: &mut Live) -> u32;
+    pub fn pw_reader_pairs(reader: &mut HeldReader, from: usize, out: *mut Pair, out_len: usize, copied: &mut usize) -> u32;
+    pub fn pw_reader_events(reader: &mut HeldReader, from: usize, out: *mut Told, out_len: usize, copied: &mut usize) -> u32;
+    pub fn pw_reader_changes(reader: &mut HeldReader, from: usize, out: *mut Told, out_len: usize, copied: &mut usize) -> u32;
+    pub fn pw_reader_info(reader: &mut HeldReader, out: &mut Info) -> u32;
     pub fn pw_fix_below_32(bits: u32, out: &mut i32) -> u32;
     pub fn pw_fix_above_32(bits: u32, out: &mut i32) -> u32;
     pub fn pw_fix_below_64(bits: u64, out: &mut i32) -> u32;
@@ -99,23 +106,25 @@ extern "C" {
     pub fn pw_box_around_64(lo: &Bits<u64>, hi: &Bits<u64>, out: &mut Body) -> u32;
 }
 
-/// The questions to a world.
+/// The questions to a world, and what is read of it.
 pub mod of_world {
     pub use super::{
-        pw_cast_first as cast_first, pw_cast_first_each as cast_first_each, pw_cast_hits as cast_hits, pw_cast_meets as cast_meets,
-        pw_hits as hits, pw_hits_each as hits_each, pw_nearest as nearest, pw_nearest_box as nearest_box, pw_ray_first as ray_first,
+        pw_at as at, pw_cast_first as cast_first, pw_cast_first_each as cast_first_each, pw_cast_hits as cast_hits,
+        pw_cast_meets as cast_meets, pw_changes as changes, pw_events as events, pw_get as get, pw_hits as hits, pw_hits_each as hits_each,
+        pw_info as info, pw_nearest as nearest, pw_nearest_box as nearest_box, pw_pairs as pairs, pw_ray_first as ray_first,
         pw_ray_first_each as ray_first_each, pw_ray_hits as ray_hits, pw_ray_meets as ray_meets, pw_square_apart as square_apart,
         pw_square_to as square_to,
     };
 }
 
-/// The same questions to a reader.
+/// The same by a reader.
 pub mod of_reader {
     pub use super::{
-        pw_reader_cast_first as cast_first, pw_reader_cast_first_each as cast_first_each, pw_reader_cast_hits as cast_hits,
-        pw_reader_cast_meets as cast_meets, pw_reader_hits as hits, pw_reader_hits_each as hits_each, pw_reader_nearest as nearest,
-        pw_reader_nearest_box as nearest_box, pw_reader_ray_first as ray_first, pw_reader_ray_first_each as ray_first_each,
-        pw_reader_ray_hits as ray_hits, pw_reader_ray_meets as ray_meets, pw_reader_square_apart as square_apart,
-        pw_reader_square_to as square_to,
+        pw_reader_at as at, pw_reader_cast_first as cast_first, pw_reader_cast_first_each as cast_first_each,
+        pw_reader_cast_hits as cast_hits, pw_reader_cast_meets as cast_meets, pw_reader_changes as changes, pw_reader_events as events,
+        pw_reader_get as get, pw_reader_hits as hits, pw_reader_hits_each as hits_each, pw_reader_info as info,
+        pw_reader_nearest as nearest, pw_reader_nearest_box as nearest_box, pw_reader_pairs as pairs, pw_reader_ray_first as ray_first,
+        pw_reader_ray_first_each as ray_first_each, pw_reader_ray_hits as ray_hits, pw_reader_ray_meets as ray_meets,
+        pw_reader_square_apart as square_apart, pw_reader_square_to as square_to,
     };
 }

@@ -44,8 +44,8 @@ pub struct Room {
 /// ```
 pub struct Reader {
     pub(crate) held: HeldReader,
-    // What the last update of the world counted, for the one who has it back.
-    counts: Frame,
+    // What the last update of the world counted, which is how much room a list of its answers takes.
+    pub(crate) counts: Frame,
 }
 
 // SAFETY: a reader's own memory is reached by its two words alone, and comes from a heap that any thread may free to. What it has in

@@ -178,7 +178,8 @@ impl From<([i32; 3], [i32; 3])> for Body {
 #[repr(C)]
 #[derive(Clone, Copy, Debug, PartialEq, Eq, PartialOrd, Ord, Hash)]
 pub struct Masks {
-    /// The groups that the box is in, by which questions find it. With 0 it pairs with no box, and no question finds it.
+    /// The groups that the box is in, by which questions find it. With 0 it pairs with no box, and a question finds it only
+    /// if its mask is 0.
     pub is: u32,
     /// The groups that it sees.
     pub sees: u32,
@@ -226,7 +227,7 @@ impl Group {
 pub struct How {
     /// Which other boxes they pair with. [`World::mask`](crate::World::mask) changes it later.
     pub masks: Masks,
-    /// Whose they are, and whether they are fixed. That stays.
+    /// Whose they are, and whether they are fixed. [`World::regroup`](crate::World::regroup) changes it later.
     pub group: Group,
 }
 
@@ -347,7 +348,8 @@ pub enum Query {
     },
 }
 
-/// A question by a shape for the boxes of the groups of a mask, as the library takes it: one of many that are asked by one call.
+/// A question by a shape for the boxes that a mask asks for, as the library takes it: one of many that are asked by one call. With the
+/// mask 0 it looks at no group, and finds every box, those in no group too.
 #[repr(C)]
 #[derive(Clone, Copy, Debug, PartialEq, Eq, Hash)]
 pub struct Question {
@@ -391,7 +393,7 @@ impl Answers {
         self.ends.len()
     }
 
-    /// Whether none was asked.
+    /// Whether no question was asked.
     pub fn is_empty(&self) -> bool {
         self.ends.is_empty()
     }
@@ -409,11 +411,11 @@ impl Answers {
     }
 }
 
-/// A ray without end, for the boxes of the groups of `mask`.
+/// A ray without end, for the boxes that `mask` asks for.
 #[repr(C)]
 #[derive(Clone, Copy, Debug, PartialEq, Eq, Hash)]
 pub struct Ray {
-    /// The groups whose boxes it may meet.
+    /// The groups whose boxes it may meet. With 0 it looks at no group, and may meet every box, those in no group too.
     pub mask: u32,
     /// Where it begins.
     pub from: Point,
@@ -421,11 +423,11 @@ pub struct Ray {
     pub direction: Point,
 }
 
-/// A box that is moved along a line, by a displacement, and meets boxes of the groups of `mask` on its way.
+/// A box that is moved along a line, by a displacement, and meets boxes that `mask` asks for on its way.
 #[repr(C)]
 #[derive(Clone, Copy, Debug, PartialEq, Eq, Hash)]
 pub struct Cast {
-    /// The groups whose boxes it may meet.
+    /// The groups whose boxes it may meet. With 0 it looks at no group, and may meet every box, those in no group too.
     pub mask: u32,
     /// The box where it starts.
     pub body: Body,
@@ -433,11 +435,11 @@ pub struct Cast {
     pub by: Point,
 }
 
-/// The boxes that are nearest to a place: at most `want`, of the groups of `mask`.
+/// The boxes that are nearest to a place: at most `want`, of those that `mask` asks for.
 #[repr(C)]
 #[derive(Clone, Copy, Debug, PartialEq, Eq, Hash)]
 pub struct Near {
-    /// The groups whose boxes are looked at.
+    /// The groups whose boxes are looked at. With 0 every box is, those in no group too.
     pub mask: u32,
     /// How many are wanted at most.
     pub want: u32,
@@ -445,13 +447,13 @@ pub struct Near {
     pub at: Point,
 }
 
-/// The boxes that are nearest to a box, of those that are at least so far from it: at most `want`, of the groups of `mask`.
+/// The boxes that are nearest to a box, of those that are at least so far from it: at most `want`, of those that `mask` asks for.
 ///
 /// To go on behind an answer, ask from the square of its last box on, which [`World::square_apart`](crate::World::square_apart) tells:
 /// boxes that are just as near are told again.
 #[derive(Clone, Copy, Debug, PartialEq, Eq, Hash)]
 pub struct NearBox {
-    /// The groups whose boxes are looked at.
+    /// The groups whose boxes are looked at. With 0 every box is, those in no group too.
     pub mask: u32,
     /// How many are wanted at most.
     pub want: u32,
@@ -573,7 +575,9 @@ impl Info {
         }
     }
 
-    /// Whether memory ran out in a change, so that the world answers nothing else from then on.
+    /// Whether memory ran out in a change. Then the world tells what it had, as [`World::get`](crate::World::get) and
+    /// [`World::pairs`](crate::World::pairs) do, and where one of its boxes is met and how far off it is. It refuses each other change and
+    /// question with `NoMemory`.
     pub fn is_spent(&self) -> bool {
         self.spent != 0
     }

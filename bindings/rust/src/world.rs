@@ -2,8 +2,7 @@
 
 use crate::asking::counted;
 use crate::library::{self, Held};
-use crate::values::{told, Body, Error, Frame, Group, Handle, How, Info, Live, Masks, Pair, Stopped, Structure, Told};
-use crate::SLOTS;
+use crate::values::{told, Body, Error, Frame, Group, Handle, How, Masks, Pair, Stopped, Structure};
 
 /// Moving boxes under handles. It is open for as long as it lives, and closed when it is dropped.
 pub struct World {
@@ -19,27 +18,6 @@ unsafe impl Send for World {}
 // What a batch came to.
 pub(crate) fn ended(status: u32, done: usize) -> Result<(), Stopped> {
     told(status).map_err(|error| Stopped { done, error })
-}
-
-// All that a call copies, if so many are expected: one call if no more are there, and else again for those behind, since the pairs
-// after a way back are those of an earlier frame.
-fn listed<Item: Copy + Default>(
-    expected: usize,
-    mut copy: impl FnMut(usize, &mut [Item]) -> Result<usize, Error>,
-) -> Result<Vec<Item>, Error> {
-    let mut all = Vec::new();
-    let mut room = expected + 1;
-    loop {
-        let from = all.len();
-        all.try_reserve_exact(room).map_err(|_| Error::NoMemory)?;
-        all.resize(from + room, Item::default());
-        let copied = copy(from, &mut all[from..])?;
-        all.truncate(from + copied);
-        if copied < room {
-            return Ok(all);
-        }
-        room = all.len();
-    }
 }
 
 impl World {
@@ -107,27 +85,6 @@ impl World {
         ended(status, done)
     }
 
-    /// The live box that has a handle, or `Stale`.
-    pub fn get(&mut self, handle: Handle) -> Result<Live, Error> {
-        let mut out = Live::default();
-        // SAFETY: the words are those that the last call left; `out` is a value of its own.
-        told(unsafe { library::pw_get(&mut self.held, handle, &mut out) })?;
-        Ok(out)
-    }
-
-    /// The live box in a slot with its handle, or `Stale`, as in each slot from `SLOTS` on.
-    pub fn at(&mut self, slot: u32) -> Result<(Handle, Live), Error> {
-        let (mut handle, mut out) = (Handle::NONE, Live::default());
-        // SAFETY: the words are those that the last call left; `handle` and `out` are values of their own.
-        told(unsafe { library::pw_at(&mut self.held, slot, &mut handle, &mut out) })?;
-        Ok((handle, out))
-    }
-
-    /// All live boxes with their handles, by their slots.
-    pub fn boxes(&mut self) -> impl Iterator<Item = (Handle, Live)> + '_ {
-        (0..SLOTS as u32).filter_map(|slot| self.at(slot).ok())
-    }
-
     /// Ends the frame, and tells how many pairs, events and changes it has: `Exhausted` or `NoMemory`, and then all is as before.
     pub fn update(&mut self) -> Result<Frame, Error> {
         let mut counts = Frame::default();
@@ -135,19 +92,6 @@ impl World {
         told(unsafe { library::pw_update(&mut self.held, &mut counts) })?;
         self.counts = counts;
         Ok(counts)
-    }
-
-    /// Copies the pairs of the last frame from number `from` on, in order, and tells how many those are.
-    pub fn pairs(&mut self, from: usize, out: &mut [Pair]) -> Result<usize, Error> {
-        let mut copied = 0;
-        // SAFETY: the words are those that the last call left; the pointer leads to as many items as the length says.
-        let status = unsafe { library::pw_pairs(&mut self.held, from, out.as_mut_ptr(), out.len(), &mut copied) };
-        counted(status, copied)
-    }
-
-    /// All pairs of the last frame, in a list of their own. `NoMemory` if there is no memory for it.
-    pub fn all_pairs(&mut self) -> Result<Vec<Pair>, Error> {
-        listed(self.counts.pairs, |from, out| self.pairs(from, out))
     }
 
     /// Tells how many pairs the frame would have if it ended now, and copies those from number `from` on, in order, as many as there is
@@ -176,34 +120,6 @@ impl World {
         }
     }
 
-    /// Copies what the last update told from number `from` on: its pairs, and then those that are over. It takes a step for each event
-    /// before `from` too.
-    pub fn events(&mut self, from: usize, out: &mut [Told]) -> Result<usize, Error> {
-        let mut copied = 0;
-        // SAFETY: the words are those that the last call left; the pointer leads to as many items as the length says.
-        let status = unsafe { library::pw_events(&mut self.held, from, out.as_mut_ptr(), out.len(), &mut copied) };
-        counted(status, copied)
-    }
-
-    /// All that the last update told, in a list of its own. `NoMemory` if there is no memory for it.
-    pub fn all_events(&mut self) -> Result<Vec<Told>, Error> {
-        listed(self.counts.events, |from, out| self.events(from, out))
-    }
-
-    /// Copies what the last update told of pairs that didn't stay, from number `from` on: those that began, and then those that are over.
-    /// No pair that stayed costs a step.
-    pub fn changes(&mut self, from: usize, out: &mut [Told]) -> Result<usize, Error> {
-        let mut copied = 0;
-        // SAFETY: the words are those that the last call left; the pointer leads to as many items as the length says.
-        let status = unsafe { library::pw_changes(&mut self.held, from, out.as_mut_ptr(), out.len(), &mut copied) };
-        counted(status, copied)
-    }
-
-    /// All that the last update told of pairs that didn't stay, in a list of its own. `NoMemory` if there is no memory for it.
-    pub fn all_changes(&mut self) -> Result<Vec<Told>, Error> {
-        listed(self.counts.changes, |from, out| self.changes(from, out))
-    }
-
     /// Marks the world as it stands, for rollback. `Full` if 64 marks are held.
     pub fn mark(&mut self) -> Result<(), Error> {
         // SAFETY: the words are those that the last call left.
@@ -220,14 +136,6 @@ impl World {
     pub fn back(&mut self) -> Result<(), Error> {
         // SAFETY: the words are those that the last call left.
         told(unsafe { library::pw_back(&mut self.held) })
-    }
-
-    /// What the world is.
-    pub fn info(&mut self) -> Result<Info, Error> {
-        let mut out = Info::default();
-        // SAFETY: the words are those that the last call left; `out` is a value of its own.
-        told(unsafe { library::pw_info(&mut self.held, &mut out) })?;
-        Ok(out)
     }
 }
 

@@ -1,8 +1,8 @@
 //! Each question to a world and to its readers beside a model that tests every box, with readers that ask at once on four threads.
 
 use pungwelair::{
-    Body, Cast, Error, Group, Handle, Hit, How, Masks, Near, NearBox, Pair, Point, Query, Question, Ray, Reader, Room, Side, Stopped,
-    Structure, World,
+    Body, Cast, Error, Group, Handle, Hit, How, Live, Masks, Near, NearBox, Pair, Point, Query, Question, Ray, Reader, Room, Side, Stopped,
+    Structure, World, SLOTS,
 };
 use std::cmp::Ordering;
 use std::sync::Barrier;
@@ -42,7 +42,7 @@ impl Dice {
     }
 
     fn mask(&mut self) -> u32 {
-        [1, 2, 3, 7, u32::MAX][self.below(5) as usize]
+        [0, 1, 2, 3, 7, u32::MAX][self.below(6) as usize]
     }
 
     fn query(&mut self) -> Query {
@@ -141,8 +141,9 @@ fn square(a: Body, b: Body) -> u128 {
     (0..3).map(|axis| (other_lo[axis] - hi[axis]).max(lo[axis] - other_hi[axis]).max(0).pow(2) as u128).sum()
 }
 
+/// A mask of 0 looks at no group.
 fn in_groups(model: &[Kept], mask: u32) -> impl Iterator<Item = &Kept> {
-    model.iter().filter(move |kept| kept.is & mask != 0)
+    model.iter().filter(move |kept| mask == 0 || kept.is & mask != 0)
 }
 
 fn hits_of(model: &[Kept], query: Query, mask: u32) -> Vec<Handle> {
@@ -292,6 +293,10 @@ macro_rules! refused {
             );
             assert_eq!(asked.square_apart(Body::new(far, far), handle), Ok(8100));
             assert_eq!(out, [Handle::NONE; 3]);
+            assert_eq!(
+                (asked.get(Handle::NONE), asked.at(1), asked.at(SLOTS as u32)),
+                (Err(Error::Stale), Err(Error::Stale), Err(Error::Stale))
+            );
 
             // Up to the first that is refused.
             let asks = [Query::Point(Point::default()), Query::Point(none), Query::Region(INVERTED), Query::Region(at)];
@@ -351,6 +356,17 @@ fn made(structure: Structure, dice: &mut Dice, count: usize) -> (World, Vec<Kept
     (world, model)
 }
 
+/// All that is told without a question, of a world or by a reader.
+macro_rules! read {
+    ($told:ident) => {{
+        let boxes: Vec<(Handle, Live)> = $told.boxes().collect();
+        for (handle, live) in &boxes {
+            assert_eq!(($told.get(*handle), $told.at(handle.slot)), (Ok(*live), Ok((*handle, *live))));
+        }
+        ($told.info().unwrap(), boxes, $told.all_pairs().unwrap(), $told.all_events().unwrap(), $told.all_changes().unwrap())
+    }};
+}
+
 #[test]
 fn four_threads_ask_at_once() {
     for structure in STRUCTURES {
@@ -365,7 +381,7 @@ fn four_threads_ask_at_once() {
             }
             world.update().unwrap();
             world_compared(&mut world, &model, tick, 2);
-            let (info, pairs) = (world.info().unwrap(), world.all_pairs().unwrap());
+            let told = read!(world);
 
             // The first tick takes new room, and the later ones what is kept from it.
             let mut first = match rooms.pop() {
@@ -386,9 +402,10 @@ fn four_threads_ask_at_once() {
                     .into_iter()
                     .zip(1..)
                     .map(|(mut reader, number)| {
-                        let all_asked = &all_asked;
+                        let (all_asked, told) = (&all_asked, &told);
                         scope.spawn(move || {
                             reader_compared(&mut reader, model, tick << 32 | number, 6);
+                            assert_eq!(read!(reader), *told);
                             all_asked.wait();
                             reader.leave_room()
                         })
@@ -403,7 +420,8 @@ fn four_threads_ask_at_once() {
             }
             assert_eq!((back.len(), rooms.len()), (1, THREADS));
             world = back.pop().unwrap();
-            assert_eq!((world.info(), world.all_pairs()), (Ok(info), Ok(pairs)));
+            assert_eq!(read!(world), told);
+            assert!(told.0.frames == tick && told.1.len() == model.len());
         }
     }
 }
@@ -418,7 +436,7 @@ fn the_last_one_has_the_world() {
     let alone = world.share().unwrap().leave();
     let mut first = alone.unwrap().share().unwrap();
     let mut second = first.join().unwrap();
-    // Who joined may be joined, too.
+    // One that joined may be joined, too.
     let third = second.join().unwrap();
     assert!(first.leave().is_none());
     drop(third);

@@ -199,6 +199,31 @@ fn first_hits_have_places() {
     }
 }
 
+// Built by cargo the crate knows its version, which is the library's.
+#[test]
+fn version_of_the_library() {
+    let number = pungwelair::version();
+    let text = format!("{}.{}.{}", number / 1_000_000, number / 1000 % 1000, number % 1000);
+    assert_eq!(option_env!("CARGO_PKG_VERSION").unwrap_or(&text), text);
+}
+
+// A box of no group is found by a question whose mask is 0, and by no other.
+#[test]
+fn boxes_of_no_group() {
+    for structure in STRUCTURES {
+        let mut world = World::new(structure).unwrap();
+        let handle = world.add(cube(0), How::new(Masks::new(0, u32::MAX), Group::default())).unwrap();
+        for (mask, found) in [(0, vec![handle]), (u32::MAX, vec![])] {
+            let (ray, cast) = (Ray { mask, from: ORIGIN, direction: ORIGIN }, Cast { mask, body: cube(0), by: ORIGIN });
+            assert_eq!((world.all_hits(Query::Point(ORIGIN), mask).as_ref(), world.all_ray_hits(ray).as_ref()), (Ok(&found), Ok(&found)));
+            assert_eq!(world.all_cast_hits(cast).as_ref(), Ok(&found));
+            assert_eq!(world.first_hit(ray), Ok(found.first().copied()));
+            assert_eq!(world.all_nearest(Near { mask, want: 1, at: ORIGIN }).as_ref(), Ok(&found));
+            assert_eq!(world.all_nearest_box(NearBox { mask, want: 1, body: cube(50), from: 0 }).as_ref(), Ok(&found));
+        }
+    }
+}
+
 // Where a way meets a box that isn't the first, or is in no group that is asked for, and how far off it is.
 #[test]
 fn meetings() {
@@ -207,7 +232,7 @@ fn meetings() {
         let far = world.add(cube(50), How::default()).unwrap();
         let near = world.add(cube(0), How::default()).unwrap();
         let ray = Ray { mask: 2, from: Point::new(100, 5, 5), direction: Point::new(-80, 0, 0) };
-        let cast = Cast { mask: 0, body: cube(-20), by: Point::new(60, 0, 0) };
+        let cast = Cast { mask: 2, body: cube(-20), by: Point::new(60, 0, 0) };
         let hit = world.ray_meets(ray, near).unwrap().unwrap();
         assert_eq!((hit.handle, hit.place(), hit.num * 8, hit.normal()), (near, 1.125, hit.den * 9, Some([1, 0, 0])));
         let moved = world.cast_meets(cast, far).unwrap().unwrap();
