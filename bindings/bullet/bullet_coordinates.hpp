@@ -49,7 +49,7 @@ public:
     struct Way {
         double start[3], by[3], enter = 0, leave = 1;
         int parts = 0;
-        bool is_whole = true;  // it misses no box but such as are at the rim
+        bool is_whole = true;  // it misses no box except those at the rim
     };
     // Cut to where the moved box stands in the range. No part if it never does.
     Way way(const btVector3& from, const btVector3& to, const btVector3& low, const btVector3& high) const {
@@ -119,7 +119,8 @@ private:
 };
 
 // Whether a box that is moved from `from` to `to` may meet another on its way. What doubles round counts as met, a NaN as missed.
-inline bool may_meet(const btVector3& from, const btVector3& to, const btVector3& low, const btVector3& high, const btBroadphaseProxy& other) {
+inline bool may_meet(const btVector3& from, const btVector3& to, const btVector3& low, const btVector3& high,
+                     const btBroadphaseProxy& other) {
     double enter = 0, leave = 1;
     for (int axis = 0; axis < 3; axis++) {
         double start = from[axis], by = double(to[axis]) - start;

@@ -2,6 +2,17 @@
 // own, filters that are written into proxies, filter callbacks that come, change their mind and go, pairs that are taken out, ghosts, and
 // pair caches of the user's. At each step the library's cache must have every pair whose boxes meet and which the filter allows, found by
 // testing all, and no other. A listener of the cache's own sees that nothing is told to it twice.
+#include "pungwelair.h"
+
+// Each frame that a broad phase ends is counted.
+static long frames_ended;
+static inline pw_status counted_update(pw_world* world, pw_counts* counts) {
+    frames_ended++;
+    return pw_update(world, counts);
+}
+#define pw_update counted_update
+
+#include "../tests/beside_dbvt.hpp"
 #include "pungwelair_broadphase.hpp"
 #include <BulletCollision/CollisionDispatch/btGhostObject.h>
 #include <BulletDynamics/btBulletDynamicsCommon.h>
@@ -223,7 +234,60 @@ void play(const Case& c, Twins& t) {
     expect(!c.they_miss_none || t.they_miss == 0, c.name, "dbvt has them too");
 }
 
-// Bodies of groups 1, 2, 4 and 8 with many masks fall on a ground in a world of Bullet's.
+// A step in which nothing was told ends no frame, and so asks no filter again. Whatever is told makes it end one.
+void at_rest(Structure structure) {
+    struct Refusing final : btOverlapFilterCallback {
+        mutable long asked = 0;
+        bool needBroadphaseCollision(btBroadphaseProxy*, btBroadphaseProxy*) const override { return asked++, false; }
+    } refusing;
+    Twins t("at rest", structure);
+    crowd(t, 100, 9, 4);
+    t.filter_by(&refusing);
+    t.ours.calculateOverlappingPairs(nullptr);
+    auto is_frame = [&](auto&& before) {
+        before();
+        long frames = frames_ended, asked = refusing.asked;
+        t.ours.calculateOverlappingPairs(nullptr);
+        expect((refusing.asked > asked) == (frames_ended > frames), t.name, "a filter is asked again in a frame");
+        return frames_ended - frames;
+    };
+    const btVector3 low = t.one[0]->m_aabbMin, high = t.one[0]->m_aabbMax, by(btScalar(0.25), 0, 0);
+    expect(is_frame([] {}) == 0, t.name, "a step after nothing ends no frame");
+    expect(is_frame([&] { t.ours.setAabb(t.one[0], low, high, nullptr); }) == 0, t.name, "nor one after a box that stays");
+    expect(is_frame([&] { t.ours.setAabb(t.one[0], low + by, high + by, nullptr); }) == 1, t.name, "a step after a move ends one");
+    expect(is_frame([&] { t.write(0, 2, 3); }) == 1, t.name, "and one after a filter that is written");
+    expect(is_frame([&] { t.add(btVector3(1, 1, 1), btVector3(2, 2, 2), 1, -1); }) == 1, t.name, "and one after a proxy that comes");
+    expect(is_frame([&] { t.remove(t.one.size() - 1); }) == 1, t.name, "and one after a proxy that goes");
+    expect(is_frame([] {}) == 0, t.name, "and then a step ends none again");
+    t.filter_by(nullptr);
+}
+
+// The user takes a pair out and puts another one in, so that there are as many as before.
+void exchanged(Structure structure) {
+    const char* name = "one taken out and one put in";
+    BulletBroadphase ours(structure);
+    btOverlappingPairCache* cache = ours.getOverlappingPairCache();
+    BesideDbvt beside;
+    std::vector<btBroadphaseProxy*> proxies;
+    for (int k = 0; k < 4; k++) {
+        btVector3 low(btScalar(k < 2 ? k : 10 * k), 0, 0);
+        proxies.push_back(ours.createProxy(low, low + btVector3(2, 1, 1), 0, nullptr, 1, -1, nullptr));
+    }
+    for (int step = 0; step < 3; step++) {
+        ours.calculateOverlappingPairs(nullptr);
+        // The one that was put in stays until it is taken out.
+        if (step > 0) cache->removeOverlappingPair(proxies[2], proxies[3], nullptr);
+        auto expect_here = [&](bool is_so, const char* what) { expect(is_so, name, what, step); };
+        expect(beside.compare(cache, proxies, expect_here) == 1, name, "the pair that meets is there again", step);
+        if (step > 0) ours.calculateOverlappingPairs(nullptr);
+        cache->removeOverlappingPair(proxies[0], proxies[1], nullptr);
+        cache->addOverlappingPair(proxies[2], proxies[3]);
+    }
+    for (auto* proxy : proxies) ours.destroyProxy(proxy, nullptr);
+    expect(cache->getNumOverlappingPairs() == 0, name, "no pair is left without boxes");
+}
+
+// Bodies of groups 1, 2, 4 and 8 with many masks fall on a ground in a world of Bullet's. dbvt stands beside, with the same boxes.
 void falling(Structure structure) {
     const char* name = "bodies of a user's groups";
     btDefaultCollisionConfiguration configuration;
@@ -243,21 +307,19 @@ void falling(Structure structure) {
     add(0, &ground, btVector3(0, -1, 0), 8, -1);
     const int masks[] = {-1, 15, 11, 13, 14, 10, 9, 12};
     for (int k = 0; k < 400; k++)
-        add(1, &box, btVector3(btScalar(k % 10) * 1.3f, 1 + btScalar(k / 100) * 1.2f, btScalar(k / 10 % 10) * 1.3f), 1 << (k % 4), masks[k % 8]);
+        add(1, &box, btVector3(btScalar(k % 10) * 1.3f, 1 + btScalar(k / 100) * 1.2f, btScalar(k / 10 % 10) * 1.3f), 1 << (k % 4),
+            masks[k % 8]);
     // Two of group 2, one on the other.
     add(1, &box, btVector3(-10, 1, 0), 2, -1);
     add(1, &box, btVector3(-10, 3, 0), 2, -1);
+    BesideDbvt beside;
+    std::vector<btBroadphaseProxy*> proxies;
+    for (auto& body : bodies) proxies.push_back(body->getBroadphaseProxy());
     long met = 0;
     for (int step = 0; step < 90; step++) {
         world.stepSimulation(btScalar(1) / 60, 0);
-        auto* cache = broadphase.getOverlappingPairCache();
-        for (std::size_t a = 0; a < bodies.size(); a++)
-            for (std::size_t b = 0; b < a; b++) {
-                auto *one = bodies[a]->getBroadphaseProxy(), *other = bodies[b]->getBroadphaseProxy();
-                if (!meet(one, other) || !cache->needsBroadphaseCollision(one, other)) continue;
-                met++;
-                expect(cache->findPair(one, other) != nullptr, name, "a pair that meets and may is in the cache", step);
-            }
+        met += beside.compare(broadphase.getOverlappingPairCache(), proxies,
+                              [&](bool is_so, const char* what) { expect(is_so, name, what, step); });
     }
     expect(met > 10000, name, "pairs met");
     btScalar apart = bodies[402]->getWorldTransform().getOrigin().y() - bodies[401]->getWorldTransform().getOrigin().y();
@@ -301,7 +363,8 @@ struct Ghosts {
         btCollisionObject* all[] = {&bodies[0], &bodies[1], &bodies[2], &late};
         for (int k = 0; k < 4; k++)
             for (int n = 0; n < ghost.getNumOverlappingObjects(); n++)
-                if (ghost.getOverlappingObject(n) == all[k] && meet(ghost.getBroadphaseHandle(), all[k]->getBroadphaseHandle())) found |= 1 << k;
+                if (ghost.getOverlappingObject(n) == all[k] && meet(ghost.getBroadphaseHandle(), all[k]->getBroadphaseHandle()))
+                    found |= 1 << k;
         return found;
     }
 };
@@ -382,6 +445,8 @@ int main() {
         }
         for (const GhostCase& c : ghost_cases) see(c, structure);
         own_caches(structure);
+        at_rest(structure);
+        exchanged(structure);
         falling(structure);
     }
     std::printf("pairs of Bullet: %d failed\n", failures);

@@ -9,7 +9,11 @@
 // Groups and masks are Bullet's, as they stand in each proxy, and a filter callback of the pair cache, or a cache of the user's, decides in
 // place of them. What is written there, or taken out of the cache, is seen by the next calculateOverlappingPairs: a pair that may no longer
 // goes out, and one that meets and may comes in. At most 8,192 proxies live at once. What can't be kept is told to `Options::refused`, and
-// createProxy gives a null proxy for it, which all calls here take.
+// createProxy gives a null proxy for it, which all calls here take. If C++'s own heap refuses, std::bad_alloc leaves the call, the proxies
+// are those that were there before, and the call may be made again. destroyProxy wants no memory.
+//
+// rayTest and aabbTest may be called by several threads at once while nothing else is, as btDiscreteDynamicsWorldMt does: they take turns
+// in the library, and callbacks run side by side. All other calls are for one thread, as Bullet makes them.
 #ifndef PUNGWELAIR_BROADPHASE_HPP
 #define PUNGWELAIR_BROADPHASE_HPP
 
@@ -19,9 +23,11 @@
 #include <BulletCollision/BroadphaseCollision/btOverlappingPairCache.h>
 #include <BulletCollision/CollisionDispatch/btCollisionObject.h>
 #include <algorithm>
+#include <atomic>
 #include <cstring>
 #include <functional>
 #include <memory>
+#include <mutex>
 #include <unordered_set>
 #include <utility>
 #include <vector>
@@ -47,15 +53,16 @@ public:
     explicit BulletBroadphase(Options options) : BulletBroadphase(Structure::skin, std::move(options)) {}
     BulletBroadphase(Structure structure, Options given)
         : structure(structure), options(std::move(given)), coordinates(options.origin, options.scale),
-          own(options.cache ? nullptr : new btHashedOverlappingPairCache), cache(own ? own.get() : options.cache), is_open(!own) {
+          own(options.cache ? nullptr : new Cache), cache(own ? own.get() : options.cache), is_open(!own) {
         if (!renew()) refuse(Status::no_memory);
         is_stale = false;
     }
 
     btBroadphaseProxy* createProxy(const btVector3& low, const btVector3& high, int, void* object, int group, int mask,
-                                   btDispatcher*) override {
+                                   btDispatcher* dispatcher) override {
         auto made = std::make_unique<Proxy>(low, high, object, group, mask);
         Proxy* proxy = made.get();
+        make_room();
         proxy->m_uniqueId = ++last_id;
         // Moves that wait may go on waiting, if there is a world at all.
         Status status = flush();
@@ -64,9 +71,17 @@ public:
         if (status != Status::ok) return refuse(status, object), nullptr;
         proxy->place = proxies.size();
         proxies.push_back({std::move(made), proxy->filter()});
+        // Nobody has it yet if its pairs with ghosts find no room.
+        struct Undone {
+            BulletBroadphase& broadphase;
+            Proxy* proxy;
+            btDispatcher* dispatcher;
+            ~Undone() { broadphase.destroyProxy(proxy, dispatcher); }
+        } undone{*this, proxy, dispatcher};
         pair_with_ghosts(*proxy);
         proxy->is_ghost = is_ghost(object);
         if (proxy->is_ghost) ghosts.push_back(proxy), pair_at_once(*proxy);
+        undone.proxy = nullptr;
         return proxy;
     }
 
@@ -78,9 +93,9 @@ public:
         if (by_slot[proxy.handle.slot] == &proxy) by_slot[proxy.handle.slot] = nullptr;
         // Without a mark the library wants no memory for it, and a world that is lost is opened anew without it.
         static_cast<void>(world.remove(proxy.handle));
-        bool was_settled = cache->getNumOverlappingPairs() == settled_pairs;
+        bool was_settled = state_of_cache() == settled;
         cache->removeOverlappingPairsContainingProxy(given, dispatcher);
-        if (was_settled) settled_pairs = cache->getNumOverlappingPairs();
+        if (was_settled) settled = state_of_cache();
         at_rim -= proxy.is_at_rim;
         std::size_t place = proxy.place;
         proxies.back().proxy->place = place;
@@ -108,7 +123,9 @@ public:
         Status status = flush();
         if (status != Status::ok) return refuse(status);
         heed_filters();
-        bool is_dropped = cache->getNumOverlappingPairs() != settled_pairs;
+        bool is_dropped = state_of_cache() != settled;
+        // What an update told is read in one go, or is made up for by a look at all pairs.
+        if (is_untold) is_stale = true;
         if (is_changed && !update(dispatcher)) return;
         drop_early_pairs(dispatcher);
         // A world that was opened anew tells no pair that is over, and a cache that removes when it is sorted didn't when it was told.
@@ -116,9 +133,9 @@ public:
             drop_pairs(dispatcher, [](Proxy& a, Proxy& b) { return !a.is_paired_with(b); });
         if (is_refiltered) drop_pairs(dispatcher, [this](Proxy& a, Proxy& b) { return !cache->needsBroadphaseCollision(&a, &b); });
         // Pairs that the user took out come again while their boxes meet.
-        if (is_dropped || is_refiltered) offer_all_pairs();
-        is_stale = is_refiltered = false;
-        settled_pairs = cache->getNumOverlappingPairs();
+        if (is_dropped || is_refiltered || is_untold) offer_all_pairs();
+        is_stale = is_refiltered = is_untold = false;
+        settled = state_of_cache();
     }
 
     // The box that Bullet sweeps, or a point, moved from `from` to `to`: a cast in raw units, some raw units wider than all that is
@@ -138,23 +155,33 @@ public:
             is_heard = true;
             callback.process(&proxy);
         };
-        bool is_in_casts = way.is_whole && (at_rim == 0 || !BulletCoordinates::is_cut(way));
-        if (flush() != Status::ok || !is_in_casts) return ask_all(each);
+        auto is_in_casts = [&] { return way.is_whole && (at_rim == 0 || !BulletCoordinates::is_cut(way)); };
+        if (!is_ready(is_in_casts)) return ask_all(each);
         const btScalar whole = callback.m_lambda_max;
         auto left = [&] { return callback.m_lambda_max < whole ? part_that_is_left(from, to, callback) : 1; };
         for (int part = 0; part < way.parts && coordinates.enters(way, part) <= left(); part++) {
             auto cast = [&] { return coordinates.cast(way, part, low, high, left()); };
             int first = 0;
-            if (rays_end_early) {
-                auto hit = world.try_cast_first(cast());
-                if (hit && !*hit) continue;
-                if (hit) first = call_for((**hit).handle, each);
+            if (rays_end_early.load(std::memory_order_relaxed)) {
+                bool is_free = false;
+                auto ask_for_first = [&](std::vector<pw_handle>& found) {
+                    auto hit = world.try_cast_first(cast());
+                    is_free = hit && !*hit;
+                    if (!hit || is_free) return Count{Status::ok, 0};
+                    found[0] = (**hit).handle;
+                    return Count{Status::ok, 1};
+                };
+                ask(ask_for_first, [&](Proxy& proxy) {
+                    first = proxy.m_uniqueId;
+                    each(proxy);
+                });
+                if (is_free) continue;
             }
             ask([&](std::vector<pw_handle>& found) { return world.cast_hits(cast(), found); }, [&](Proxy& proxy) {
                 if (proxy.m_uniqueId != first) each(proxy);
             });
         }
-        if (is_heard) rays_end_early = callback.m_lambda_max < whole;
+        if (is_heard) rays_end_early.store(callback.m_lambda_max < whole, std::memory_order_relaxed);
     }
 
     void aabbTest(const btVector3& low, const btVector3& high, btBroadphaseAabbCallback& callback) override {
@@ -190,10 +217,21 @@ private:
 
     using Handles = std::pair<pw_handle, pw_handle>;
 
+    // Counts the pairs that went, so that one which the user took out is seen also if he put another one in.
+    struct Cache final : btHashedOverlappingPairCache {
+        int gone = 0;
+        void* removeOverlappingPair(btBroadphaseProxy* a, btBroadphaseProxy* b, btDispatcher* dispatcher) override {
+            int before = getNumOverlappingPairs();
+            void* removed = btHashedOverlappingPairCache::removeOverlappingPair(a, b, dispatcher);
+            gone += before - getNumOverlappingPairs();
+            return removed;
+        }
+    };
+
     Structure structure;
     Options options;
     BulletCoordinates coordinates;
-    std::unique_ptr<btOverlappingPairCache> own;
+    std::unique_ptr<Cache> own;
     btOverlappingPairCache* cache;
     btOverlapFilterCallback* filter = nullptr;
     World world;
@@ -206,19 +244,38 @@ private:
     std::vector<pw_pair> pairs;
     // Pairs of ghosts that came in before an update told them, and pairs of the frame that the cache didn't take.
     std::vector<Handles> early, turned_down;
-    // A room for the answer of each question, since a callback may ask.
+    // Held while a question hands moves on, asks the library, and takes or leaves a room.
+    std::mutex mutex;
+    // Rooms for answers that no question has. Each has one of its own, since callbacks ask, and other threads.
     std::vector<std::vector<pw_handle>> rooms;
-    std::size_t depth = 0, at_rim = 0, pairs_of_frame = 0;
-    int last_id = 0, settled_pairs = 0;
+    std::size_t rooms_made = 0, asking = 0, at_rim = 0, pairs_of_frame = 0;
+    int last_id = 0, settled = 0;
     bool is_open;                // the cache's own filter decides, so masks are open in the library
-    bool is_lost = true;         // there is no world to ask, for want of memory
+    bool is_lost = true;         // there is no world to ask, since memory ran out
     bool is_changed = true;      // since the last update
     bool is_stale = false;       // the cache may have pairs that an earlier world told
     bool is_refiltered = false;  // the cache may have pairs that its filter refuses now
-    bool rays_end_early = true;  // the last callback shortened its ray. Bullet's own don't, and asking for the first alone costs them
+    bool is_untold = false;      // the cache may not have what the last update told
+    // Whether the last callback shortened its ray. Bullet's own don't, and asking for the first alone costs them.
+    std::atomic<bool> rays_end_early{true};
 
     void refuse(Status status, void* object = nullptr) {
         if (options.refused) options.refused(status, object);
+    }
+
+    // It is another one if a pair was taken out, of a cache of the user's only if there are more or fewer.
+    int state_of_cache() const { return own ? own->gone : cache->getNumOverlappingPairs(); }
+
+    // Before a proxy comes, so that no list of proxies grows later. They grow by half, as each comes by itself.
+    void make_room() {
+        std::size_t least = std::min({proxies.capacity(), waiting.capacity(), ghosts.capacity(), moved.capacity(), moved_to.capacity()});
+        if (proxies.size() < least) return;
+        std::size_t room = proxies.size() + proxies.size() / 2 + 16;
+        proxies.reserve(room);
+        waiting.reserve(room);
+        ghosts.reserve(room);
+        moved.reserve(room);
+        moved_to.reserve(room);
     }
 
     static bool are_same(const pw_box& a, const pw_box& b) { return std::memcmp(&a, &b, sizeof a) == 0; }
@@ -270,7 +327,7 @@ private:
     // Opens a world anew and adds all boxes as they stand, if memory ran out in a change of the one before. Not within a question, whose
     // handles are of the world that it asked.
     bool renew() {
-        if (depth > 0) return false;
+        if (asking > 0) return false;
         static_cast<void>(world.close());
         std::fill(by_slot.begin(), by_slot.end(), nullptr);
         early.clear();
@@ -284,7 +341,7 @@ private:
         return true;
     }
 
-    // Hands the moves on that wait. If it isn't ok, there is no world for want of memory, or some go on waiting.
+    // Hands the moves on that wait. If it isn't ok, memory ran out: there is no world, or some go on waiting.
     Status flush() {
         if (is_lost) return renew() ? Status::ok : Status::no_memory;
         if (waiting.empty()) return Status::ok;
@@ -341,7 +398,9 @@ private:
         if (frame.status != Status::ok) return refuse(frame.status), false;
         is_changed = false;
         pairs_of_frame = frame.pairs;
+        bool was_untold = std::exchange(is_untold, true);
         changes.resize(frame.changes);
+        turned_down.reserve(turned_down.size() + frame.changes);
         static_cast<void>(world.changes(0, changes));
         offer_again();
         for (const pw_told& told : changes) {
@@ -351,6 +410,7 @@ private:
             if (told.event == PW_BEGIN) offer(*a, *b);
             else cache->removeOverlappingPair(a, b, dispatcher);
         }
+        is_untold = was_untold;
         return true;
     }
 
@@ -372,8 +432,9 @@ private:
 
     void offer_all_pairs() {
         pairs.resize(pairs_of_frame);
-        static_cast<void>(world.pairs(0, pairs));
+        turned_down.reserve(pairs.size());
         turned_down.clear();
+        static_cast<void>(world.pairs(0, pairs));
         for (const pw_pair& pair : pairs) {
             Proxy *a = proxy_of(pair.a), *b = proxy_of(pair.b);
             if (a && b) offer(*a, *b);
@@ -386,7 +447,7 @@ private:
         auto each_that_meets = [&](Proxy& proxy) {
             if (proxy.meets(low, high)) each(proxy);
         };
-        if (flush() != Status::ok) return ask_all(each_that_meets);
+        if (!is_ready([] { return true; })) return ask_all(each_that_meets);
         pw_box box = coordinates.box_around(low, high).box;
         ask([&](std::vector<pw_handle>& found) { return world.hits({PW_REGION, ~0u, box.lo, box.hi}, found); }, each_that_meets);
     }
@@ -402,9 +463,10 @@ private:
             if (ghost->meets(other.m_aabbMin, other.m_aabbMax)) pair_early(*ghost, other);
     }
     void pair_early(Proxy& ghost, Proxy& other) {
-        if (cache->findPair(&ghost, &other) || !cache->addOverlappingPair(&ghost, &other)) return;
+        if (cache->findPair(&ghost, &other)) return;
         early.push_back({ghost.handle, other.handle});
-        settled_pairs++;
+        if (!cache->addOverlappingPair(&ghost, &other)) early.pop_back();
+        else if (!own) settled++;
     }
 
     // What came early and the update didn't tell goes: the boxes have parted again, or may not pair any more.
@@ -427,35 +489,52 @@ private:
         cache->processAllOverlappingPairs(&dropped, dispatcher);
     }
 
-    // While callbacks run, which may ask in rooms of their own and open no world anew.
-    struct Deeper {
-        std::size_t& depth;
-        explicit Deeper(std::size_t& depth) : depth(depth) { depth++; }
-        ~Deeper() { depth--; }
-    };
-
-    // Calls for the proxy of a handle, and tells its number, which none has after it.
-    template <class Each>
-    int call_for(pw_handle handle, Each&& each) {
-        Deeper deeper(depth);
-        Proxy* proxy = proxy_of(handle);
-        if (!proxy) return 0;
-        int id = proxy->m_uniqueId;
-        each(*proxy);
-        return id;
+    // Hands moves on before a question. Whether the library can be asked, also by what `if_so` tells, which looks at what moves write.
+    template <class Test>
+    bool is_ready(Test if_so) {
+        std::lock_guard lock(mutex);
+        return flush() == Status::ok && if_so();
     }
 
-    // Asks into a room of this depth, and calls for each proxy found that is still there when its turn comes. For want of memory it calls
-    // for all, so whom it calls for is tested there.
+    // A question with a room for its answer. Callbacks run while it lives: they may ask too, in rooms of their own, and open no world anew.
+    class Asking {
+        BulletBroadphase& asked;
+
+    public:
+        std::vector<pw_handle> found;
+        Count count{};
+
+        template <class Question>
+        Asking(BulletBroadphase& broadphase, Question&& question) : asked(broadphase) {
+            std::lock_guard lock(asked.mutex);
+            if (asked.rooms.empty()) {
+                // So that it goes back without memory.
+                asked.rooms.reserve(asked.rooms_made + 1);
+                found.resize(PW_SLOTS);
+                asked.rooms_made++;
+            } else {
+                found = std::move(asked.rooms.back());
+                asked.rooms.pop_back();
+            }
+            count = question(found);
+            asked.asking++;
+        }
+        ~Asking() {
+            std::lock_guard lock(asked.mutex);
+            asked.rooms.push_back(std::move(found));
+            asked.asking--;
+        }
+        Asking(const Asking&) = delete;
+    };
+
+    // Asks, and calls for each proxy found that is still there when its turn comes. If memory runs out it calls for all, so whom it calls
+    // for is tested there.
     template <class Question, class Each>
     void ask(Question&& question, Each&& each) {
-        std::size_t room = depth;
-        Deeper deeper(depth);
-        while (rooms.size() <= room) rooms.emplace_back(PW_SLOTS);
-        Count count = question(rooms[room]);
-        if (count.status != Status::ok) return ask_all(each);
-        for (std::size_t k = 0; k < count.count; k++)
-            if (Proxy* proxy = proxy_of(rooms[room][k])) each(*proxy);
+        Asking now(*this, question);
+        if (now.count.status != Status::ok) return ask_all(each);
+        for (std::size_t k = 0; k < now.count.count; k++)
+            if (Proxy* proxy = proxy_of(now.found[k])) each(*proxy);
     }
     // From the last on, so that no proxy is passed by if the callback destroys one, whose place the last one takes.
     template <class Each>

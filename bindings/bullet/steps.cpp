@@ -1,5 +1,5 @@
-// Times what the broad phase of a step of Bullet's btDiscreteDynamicsWorld takes, over the library and over btDbvtBroadphase: setAabb for each
-// body, as Bullet calls it whether or not the body moved, and calculateOverlappingPairs. A simulation runs once over dbvt, and what it told
+// Times what the broad phase of a step of Bullet's btDiscreteDynamicsWorld takes, over the library and over btDbvtBroadphase: setAabb for
+// each body, as Bullet calls it whether or not the body moved, and calculateOverlappingPairs. A simulation runs once over dbvt, and what it told
 // its broad phase is then told to each again, in the same order, so that no two of them part. After each step all must have the same
 // pairs of boxes that meet; that comparison isn't timed.
 //
@@ -46,7 +46,8 @@ struct Simulation {
     Recorder broadphase;
     btSequentialImpulseConstraintSolver solver;
     btDiscreteDynamicsWorld world{&dispatcher, &broadphase, &solver, &configuration};
-    btBoxShape ground{btVector3(400, 1, 400)}, crate{btVector3(0.5f, 0.5f, 0.5f)}, tile{btVector3(2, 0.5f, 2)}, post{btVector3(0.3f, 1, 0.3f)};
+    btBoxShape ground{btVector3(400, 1, 400)}, crate{btVector3(0.5f, 0.5f, 0.5f)};
+    btBoxShape tile{btVector3(2, 0.5f, 2)}, post{btVector3(0.3f, 1, 0.3f)};
     btSphereShape ball{0.5f};
     std::vector<std::unique_ptr<btRigidBody>> bodies;
     std::mt19937 random{3};
@@ -148,8 +149,10 @@ Played play(btBroadphaseInterface& broadphase, const Record& record, Pairs* all)
         for (int p = 0; p < pairs.size(); p++)
             if (meet(pairs[p].m_pProxy0, pairs[p].m_pProxy1)) played.pairs.add(k, pairs[p].m_pProxy0, pairs[p].m_pProxy1);
         for (std::size_t a = 0; all && a < proxies.size(); a++)
-            for (std::size_t b = 0; b < a; b++)
-                if (meet(proxies[a], proxies[b]) && cache->needsBroadphaseCollision(proxies[a], proxies[b])) all->add(k, proxies[a], proxies[b]);
+            for (std::size_t b = 0; b < a; b++) {
+                bool may_pair = meet(proxies[a], proxies[b]) && cache->needsBroadphaseCollision(proxies[a], proxies[b]);
+                if (may_pair) all->add(k, proxies[a], proxies[b]);
+            }
     }
     for (btBroadphaseProxy* proxy : proxies) broadphase.destroyProxy(proxy, nullptr);
     return played;
@@ -218,8 +221,12 @@ struct Table {
         row("5% stirred", record(s, [&](int step) {
                 for (std::size_t k = 1; k < s.bodies.size(); k++) {
                     // A sleeper would wake by its neighbour, so the others are taken out of the simulation.
-                    if (int(k) % 20 != step / 15) still(*s.bodies[k], DISABLE_SIMULATION);
-                    else if (step % 15 == 0) s.bodies[k]->forceActivationState(DISABLE_DEACTIVATION), s.bodies[k]->setLinearVelocity(s.anyway(2));
+                    if (int(k) % 20 != step / 15) {
+                        still(*s.bodies[k], DISABLE_SIMULATION);
+                    } else if (step % 15 == 0) {
+                        s.bodies[k]->forceActivationState(DISABLE_DEACTIVATION);
+                        s.bodies[k]->setLinearVelocity(s.anyway(2));
+                    }
                 }
             }));
     }
@@ -264,7 +271,8 @@ int main(int argc, char** argv) {
     if (is_check) sizes = {120};
     if (bodies > 0) sizes = {bodies};
     if (!is_check) {
-        std::printf("Microseconds a step of the broad phase over dbvt, and ratios to them, the least of %d rounds of %d steps\n\n", rounds, timed);
+        std::printf("Microseconds a step of the broad phase over dbvt, and ratios to them, the least of %d rounds of %d steps\n\n", rounds,
+                    timed);
         std::printf("| Step | bodies | move | meet | dbvt, us |");
         for (std::size_t k = 1; k < std::size(broadphases); k++) std::printf(" %s : dbvt |", broadphases[k].name);
         std::printf("\n|---|---|---|---|---|---|---|---|\n");

@@ -1,6 +1,6 @@
-// What a user of Bullet asks a broad phase over the library and gives it. There are regions (which dbvt is asked too), questions within
-// questions, rays of all lengths with and without a box, and rays that callbacks shorten. There are also worlds far out, wrong boxes, and
-// one proxy too many. What a question must find is found by testing all boxes.
+// What a user of Bullet asks a broad phase over the library and gives it. There are regions, questions within questions, rays of all
+// lengths with and without a box, and rays that callbacks shorten. There are also worlds far out, wrong boxes, and one proxy too many. What
+// a question and a step must find is found by testing all boxes. btDbvtBroadphase stands beside, is told the same, and is asked the same.
 #include "pungwelair_broadphase.hpp"
 #include <BulletDynamics/btBulletDynamicsCommon.h>
 #include <algorithm>
@@ -34,22 +34,72 @@ struct Crowd {
     btVector3 around(btScalar room) { return place(2 * room) - btVector3(room, room, room); }
 };
 
-// A broad phase with boxes of one's own, and no world around it.
+// A broad phase with boxes of one's own, no world around it, and dbvt beside it. What `others` has at a place is the same box there.
 struct Boxes {
-    btBroadphaseInterface& broadphase;
-    std::vector<btBroadphaseProxy*> proxies;
+    BulletBroadphase& broadphase;
+    btDbvtBroadphase theirs;
+    std::vector<btBroadphaseProxy*> proxies, others;
 
-    explicit Boxes(btBroadphaseInterface& broadphase) : broadphase(broadphase) {}
+    explicit Boxes(BulletBroadphase& broadphase) : broadphase(broadphase) {}
     ~Boxes() {
-        for (auto* proxy : proxies) broadphase.destroyProxy(proxy, nullptr);
+        while (!proxies.empty()) remove(proxies.size() - 1);
     }
     btBroadphaseProxy* add(const btVector3& low, const btVector3& high, int group = 1, void* object = nullptr) {
         proxies.push_back(broadphase.createProxy(low, high, 0, object, group, -1, nullptr));
+        others.push_back(theirs.createProxy(low, high, 0, object, group, -1, nullptr));
         return proxies.back();
     }
-    int pairs() {
+    void move(std::size_t k, const btVector3& low, const btVector3& high) {
+        broadphase.setAabb(proxies[k], low, high, nullptr);
+        theirs.setAabb(others[k], low, high, nullptr);
+    }
+    void remove(std::size_t k) {
+        broadphase.destroyProxy(proxies[k], nullptr);
+        theirs.destroyProxy(others[k], nullptr);
+        proxies.erase(proxies.begin() + long(k));
+        others.erase(others.begin() + long(k));
+    }
+
+    // Ends a step, and tells how many pairs the cache has: all whose boxes meet, found by testing all, which dbvt has too unless a box is
+    // a wrong one. Others only if a box is at the rim, or if rounding makes boxes touch.
+    int step(const char* name, bool is_inside = true, double scale = 1) {
         broadphase.calculateOverlappingPairs(nullptr);
-        return broadphase.getOverlappingPairCache()->getNumOverlappingPairs();
+        theirs.calculateOverlappingPairs(nullptr);
+        auto *cache = broadphase.getOverlappingPairCache(), *their_cache = theirs.getOverlappingPairCache();
+        auto is_right = [](const btBroadphaseProxy* one) {
+            const btVector3 &low = one->m_aabbMin, &high = one->m_aabbMax;
+            return low.x() <= high.x() && low.y() <= high.y() && low.z() <= high.z();
+        };
+        for (std::size_t a = 0; a < proxies.size(); a++)
+            for (std::size_t b = 0; b < a; b++) {
+                auto *one = proxies[a], *other = proxies[b];
+                if (!TestAabbAgainstAabb2(one->m_aabbMin, one->m_aabbMax, other->m_aabbMin, other->m_aabbMax)) continue;
+                if (!cache->needsBroadphaseCollision(one, other)) continue;
+                expect(cache->findPair(one, other) != nullptr, name, "a pair that meets is in the cache");
+                if (is_right(others[a]) && is_right(others[b]))
+                    expect(their_cache->findPair(others[a], others[b]) != nullptr, name, "a pair that meets is in that of dbvt");
+            }
+        btBroadphasePairArray& pairs = cache->getOverlappingPairArray();
+        btVector3 grown = btVector3(1, 1, 1) * btScalar(2 / 65536.0 / scale);
+        for (int k = 0; k < pairs.size() && is_inside; k++) {
+            const auto *one = pairs[k].m_pProxy0, *other = pairs[k].m_pProxy1;
+            bool touch = TestAabbAgainstAabb2(one->m_aabbMin - grown, one->m_aabbMax + grown, other->m_aabbMin, other->m_aabbMax);
+            expect(touch, name, "a pair in the cache meets");
+        }
+        return cache->getNumOverlappingPairs();
+    }
+
+    // The bounds are those of the boxes, and lie in those that dbvt tells, whose boxes are enlarged: by no number if one is wrong.
+    void expect_bounds(const char* name, bool are_right = true) {
+        btVector3 low, high, least = proxies[0]->m_aabbMin, most = proxies[0]->m_aabbMax;
+        for (auto* proxy : proxies) least.setMin(proxy->m_aabbMin), most.setMax(proxy->m_aabbMax);
+        broadphase.getBroadphaseAabb(low, high);
+        for (int axis = 0; axis < 3; axis++)
+            expect(low[axis] == least[axis] && high[axis] == most[axis], name, "the bounds are those of the boxes", axis);
+        if (!are_right) return;
+        theirs.getBroadphaseAabb(low, high);
+        for (int axis = 0; axis < 3; axis++)
+            expect(low[axis] <= least[axis] && high[axis] >= most[axis], name, "which those of dbvt hold", axis);
     }
 };
 
@@ -178,6 +228,9 @@ void cast(const RayCase& c, Structure structure) {
         boxes.add(btVector3(-1e18f, -1e18f, -1e18f), btVector3(1e18f, 0, 1e18f));
         boxes.add(btVector3(0, 60000, 0), btVector3(4000, 60010, 4000));
     }
+    bool is_inside = !c.has_plane && c.room + c.size < 32000;
+    boxes.step(c.name, is_inside, options.scale);
+    boxes.expect_bounds(c.name);
     btVector3 high(c.swept, c.swept, c.swept), low = -high;
     int met = 0;
     for (int k = 0; k < 300; k++) {
@@ -195,8 +248,16 @@ void cast(const RayCase& c, Structure structure) {
         std::set<const btBroadphaseProxy*> called(ray.met.begin(), ray.met.end());
         expect(called.size() == ray.met.size(), c.name, "a box is called for once", k);
         // Not if all boxes are tested: from very far, with a box that is swept and has no way in the range, or if some stand at its rim.
-        bool is_in_order = from.length() < 1e9f && c.swept < 30000 && !c.has_plane && c.room + c.size < 32000;
+        bool is_in_order = from.length() < 1e9f && c.swept < 30000 && is_inside;
         if (is_in_order) expect_order(ray, from, to, low, high, wider, c.name, k);
+        // dbvt tests by floats, so it is held to boxes that are met well inside, by rays from where floats are fine.
+        Ray their_ray(from, to);
+        boxes.theirs.rayTest(from, to, their_ray, low, high);
+        std::set<const btBroadphaseProxy*> called_there(their_ray.met.begin(), their_ray.met.end());
+        double inside = (from.length() + to.length()) * 1e-5;
+        for (std::size_t n = 0; n < boxes.proxies.size() && from.length() < 1e6f; n++)
+            if (meets_at(from, to, low, high, boxes.proxies[n], -inside) < 2)
+                expect(called_there.count(boxes.others[n]) == 1, c.name, "dbvt calls for what is met", k);
         btBroadphaseProxy* nearest = nullptr;
         double least = 2;
         for (auto* proxy : boxes.proxies) {
@@ -238,19 +299,18 @@ void cast(const RayCase& c, Structure structure) {
 void regions(Structure structure) {
     const char* name = "regions";
     BulletBroadphase ours(structure);
-    btDbvtBroadphase theirs;
-    Boxes boxes(ours), others(theirs);
+    Boxes boxes(ours);
     Crowd crowd;
     for (int k = 0; k < 300; k++) {
-        btVector3 low = crowd.place(30), high = low + crowd.place(3);
-        boxes.add(low, high, k % 3), others.add(low, high, k % 3);
+        btVector3 low = crowd.place(30);
+        boxes.add(low, low + crowd.place(3), k % 3);
     }
     for (int k = 0; k < 100; k++) {
         btVector3 low = crowd.around(30), high = low + crowd.place(20);
         if (k % 7 == 0) low.setX(-1e9f), high.setX(1e9f);
         Found found, there;
         ours.aabbTest(low, high, found);
-        theirs.aabbTest(low, high, there);
+        boxes.theirs.aabbTest(low, high, there);
         std::multiset<int> all;
         for (auto* proxy : boxes.proxies)
             if (TestAabbAgainstAabb2(low, high, proxy->m_aabbMin, proxy->m_aabbMax)) all.insert(proxy->m_uniqueId);
@@ -259,15 +319,12 @@ void regions(Structure structure) {
         // Moves that no update has seen yet.
         for (std::size_t n = 0; n < 20; n++) {
             btVector3 by = crowd.around(5);
-            auto *one = boxes.proxies[n], *other = others.proxies[n];
-            ours.setAabb(one, one->m_aabbMin + by, one->m_aabbMax + by, nullptr);
-            theirs.setAabb(other, other->m_aabbMin + by, other->m_aabbMax + by, nullptr);
+            boxes.move(n, boxes.proxies[n]->m_aabbMin + by, boxes.proxies[n]->m_aabbMax + by);
         }
+        if (k % 10 == 9) boxes.step(name);
     }
-    btVector3 low, high, least = boxes.proxies[0]->m_aabbMin, most = boxes.proxies[0]->m_aabbMax;
-    for (auto* proxy : boxes.proxies) least.setMin(proxy->m_aabbMin), most.setMax(proxy->m_aabbMax);
-    ours.getBroadphaseAabb(low, high);
-    expect(low == least && high == most, name, "the bounds are those of the boxes");
+    boxes.step(name);
+    boxes.expect_bounds(name);
 }
 
 // A callback asks, and destroys and creates boxes.
@@ -277,19 +334,30 @@ void within(Structure structure) {
     Boxes boxes(broadphase);
     for (int k = 0; k < 6; k++) boxes.add(btVector3(btScalar(k) * 3 - 1, -1, -1), btVector3(btScalar(k) * 3 + 1, 1, 1));
     const btVector3 low(-1, -1, -1), high(20, 1, 1), from(-5, 0, 0), to(30, 0, 0);
-    Found outer;
-    outer.then = [&](const btBroadphaseProxy*) {
-        Ray ray(from, to);
-        ray.then = [&](Ray&, const btBroadphaseProxy*) {
-            Found inner;
-            broadphase.aabbTest(btVector3(8, -1, -1), high, inner);
-            expect(inner.ids == std::multiset<int>{4, 5, 6}, name, "a third question finds all");
+    boxes.step(name);
+    boxes.expect_bounds(name);
+    auto ask_within = [&](btBroadphaseInterface& asked, const char* of_whom, std::multiset<int> all, std::multiset<int> last) {
+        Found outer;
+        outer.then = [&](const btBroadphaseProxy*) {
+            Ray ray(from, to);
+            ray.then = [&](Ray&, const btBroadphaseProxy*) {
+                Found inner;
+                asked.aabbTest(btVector3(8, -1, -1), high, inner);
+                expect(inner.ids == last, of_whom, "a third question finds all");
+            };
+            asked.rayTest(from, to, ray, point, point);
+            expect(ray.met.size() == 6, of_whom, "a second question finds all");
         };
-        broadphase.rayTest(from, to, ray, point, point);
-        expect(ray.met.size() == 6, name, "a second question finds all");
+        asked.aabbTest(low, high, outer);
+        expect(outer.ids == all, of_whom, "the first question finds all");
     };
-    broadphase.aabbTest(low, high, outer);
-    expect(outer.ids == std::multiset<int>{1, 2, 3, 4, 5, 6}, name, "the first question finds all");
+    auto ids = [](const std::vector<btBroadphaseProxy*>& proxies, std::size_t first) {
+        std::multiset<int> out;
+        for (std::size_t k = first; k < proxies.size(); k++) out.insert(proxies[k]->m_uniqueId);
+        return out;
+    };
+    ask_within(broadphase, name, ids(boxes.proxies, 0), ids(boxes.proxies, 3));
+    ask_within(boxes.theirs, "within a question of dbvt", ids(boxes.others, 0), ids(boxes.others, 3));
 
     // A ray that ends earlier, so that the next one asks for the first box alone.
     {
@@ -303,36 +371,36 @@ void within(Structure structure) {
     Ray ray(from, to);
     ray.then = [&](Ray& it, const btBroadphaseProxy*) {
         if (it.met.size() > 1) return;
-        for (int k = 0; k < 2; k++) broadphase.destroyProxy(boxes.proxies[1], nullptr), boxes.proxies.erase(boxes.proxies.begin() + 1);
+        for (int k = 0; k < 2; k++) boxes.remove(1);
         boxes.add(btVector3(60, 60, 60), btVector3(61, 61, 61));
         boxes.add(btVector3(4, -1, -1), btVector3(5, 1, 1));
     };
     broadphase.rayTest(from, to, ray, point, point);
     expect(ray.met.size() == 4, name, "none that is gone or came since is called for");
-    broadphase.destroyProxy(boxes.proxies.back(), nullptr);
-    boxes.proxies.pop_back();
+    boxes.step(name);
+    boxes.remove(boxes.proxies.size() - 1);
     // As over the whole list, which a ray of this length takes.
     Ray far_ray(btVector3(-1e12f, 0, 0), to);
     far_ray.then = [&](Ray& it, const btBroadphaseProxy* proxy) {
         if (it.met.size() > 1) return;
-        auto other = std::find_if(boxes.proxies.begin(), boxes.proxies.end(), [&](auto* one) { return one != proxy && one->m_aabbMin.x() < 50; });
-        broadphase.destroyProxy(*other, nullptr);
-        boxes.proxies.erase(other);
+        auto is_other = [&](auto* one) { return one != proxy && one->m_aabbMin.x() < 50; };
+        auto other = std::find_if(boxes.proxies.begin(), boxes.proxies.end(), is_other);
+        boxes.remove(std::size_t(other - boxes.proxies.begin()));
     };
     broadphase.rayTest(btVector3(-1e12f, 0, 0), to, far_ray, point, point);
     expect(far_ray.met.size() >= 3 && boxes.proxies.size() == 4, name, "a box that goes costs no other its call");
+    boxes.step(name);
+    boxes.expect_bounds(name);
 }
 
 // A row of boxes one behind the other, and rays that end at the first. The callback hears of few, and of the one that dbvt finds nearest.
 void wall(Structure structure) {
     const char* name = "a wall of 500 boxes";
     BulletBroadphase ours(structure);
-    btDbvtBroadphase theirs;
-    Boxes boxes(ours), others(theirs);
-    for (int k = 0; k < 500; k++) {
-        btVector3 low(btScalar(k * 2), -50, -50), high(btScalar(k * 2 + 1), 50, 50);
-        boxes.add(low, high), others.add(low, high);
-    }
+    Boxes boxes(ours);
+    for (int k = 0; k < 500; k++) boxes.add(btVector3(btScalar(k * 2), -50, -50), btVector3(btScalar(k * 2 + 1), 50, 50));
+    boxes.step(name);
+    boxes.expect_bounds(name);
     const btVector3 ways[][2] = {{btVector3(-9, 0, 0), btVector3(1200, 0, 0)}, {btVector3(1200, 3, 1), btVector3(-9, 0, 0)},
                                  {btVector3(-9, -40, 7), btVector3(1200, 40, 9)}, {btVector3(501.5f, 0, 0), btVector3(-2000, 1, 2)},
                                  {btVector3(400.5f, 0, 0), btVector3(900, 0, 3)}, {btVector3(-90000, 0, 0), btVector3(90000, 0, 0)}};
@@ -350,7 +418,7 @@ void wall(Structure structure) {
             return std::find(proxies.begin(), proxies.end(), nearest) - proxies.begin();
         };
         std::size_t calls, calls_there;
-        auto hit = closest(ours, boxes.proxies, calls), hit_there = closest(theirs, others.proxies, calls_there);
+        auto hit = closest(ours, boxes.proxies, calls), hit_there = closest(boxes.theirs, boxes.others, calls_there);
         expect(hit == hit_there && hit < 500, name, "the nearest is that of dbvt", int(hit));
         expect(calls <= 6 && calls_there > 100, name, "few are called for", int(calls));
     }
@@ -381,17 +449,13 @@ void far_out(Structure structure) {
             btVector3 low = crowd.place(16) + place.at;
             boxes.add(low, low + btVector3(2, 2, 2));
         }
-        int kept = boxes.pairs(), met = 0, touch = 0;
-        for (std::size_t a = 0; a < 200; a++)
-            for (std::size_t b = 0; b < a; b++) {
-                auto *one = boxes.proxies[a], *other = boxes.proxies[b];
-                btVector3 grown = btVector3(1, 1, 1) * btScalar(2 / 65536.0 / place.scale);
-                touch += TestAabbAgainstAabb2(one->m_aabbMin - grown, one->m_aabbMax + grown, other->m_aabbMin, other->m_aabbMax);
-                if (!TestAabbAgainstAabb2(one->m_aabbMin, one->m_aabbMax, other->m_aabbMin, other->m_aabbMax)) continue;
-                met++;
-                expect(broadphase.getOverlappingPairCache()->findPair(one, other) != nullptr, place.name, "no pair is lost");
-            }
-        expect(met > 100 && (!place.is_inside || kept <= touch), place.name, "no pair besides", kept - met);
+        expect(boxes.step(place.name, place.is_inside, place.scale) > 100, place.name, "pairs meet");
+        for (std::size_t k = 0; k < 100; k++) {
+            btVector3 by = crowd.around(2);
+            boxes.move(k, boxes.proxies[k]->m_aabbMin + by, boxes.proxies[k]->m_aabbMax + by);
+        }
+        expect(boxes.step(place.name, place.is_inside, place.scale) > 100, place.name, "pairs meet after moves");
+        boxes.expect_bounds(place.name);
     }
 }
 
@@ -416,12 +480,17 @@ void wrong_boxes(Structure structure) {
         for (int k = 0; k < 2; k++) {
             // Once as it comes, and once moved there.
             if (k == 0) boxes.add(wrong.low, wrong.high);
-            else boxes.add(btVector3(9, 9, 9), btVector3(10, 10, 10)), broadphase.setAabb(boxes.proxies[2], wrong.low, wrong.high, nullptr);
-            boxes.pairs();
-            expect(broadphase.getOverlappingPairCache()->findPair(boxes.proxies[0], boxes.proxies.back()) != nullptr, wrong.name, "it is a pair", k);
+            else boxes.add(btVector3(9, 9, 9), btVector3(10, 10, 10)), boxes.move(2, wrong.low, wrong.high);
+            boxes.step(wrong.name, false);
+            if (wrong.is_found) boxes.expect_bounds(wrong.name, false);
+            auto* pair = broadphase.getOverlappingPairCache()->findPair(boxes.proxies[0], boxes.proxies.back());
+            expect(pair != nullptr, wrong.name, "it is a pair", k);
             Found found;
             broadphase.aabbTest(btVector3(0.45f, 0.45f, 0.45f), btVector3(0.5f, 0.5f, 0.5f), found);
             expect(!wrong.is_found || found.ids.size() == boxes.proxies.size(), wrong.name, "a question finds it", k);
+            Found there;
+            boxes.theirs.aabbTest(btVector3(0.45f, 0.45f, 0.45f), btVector3(0.5f, 0.5f, 0.5f), there);
+            expect(!wrong.is_found || found.ids.size() >= there.ids.size(), wrong.name, "as many as dbvt finds", k);
             Ray ray(btVector3(0.5f, 0.5f, -9), btVector3(0.5f, 0.5f, 9));
             broadphase.rayTest(btVector3(0.5f, 0.5f, -9), btVector3(0.5f, 0.5f, 9), ray, point, point);
             expect(!wrong.is_found || ray.met.size() == boxes.proxies.size(), wrong.name, "a ray finds it", k);
@@ -460,19 +529,19 @@ void too_many() {
             btVector3 low(btScalar(k % 90) * 3, btScalar(k / 90) * 3, 0);
             boxes.add(low, low + btVector3(1, 1, 1));
         }
-        expect(boxes.pairs() == 0 && boxes.proxies.back(), name, "as many as there are slots");
+        expect(boxes.step(name) == 0 && boxes.proxies.back(), name, "as many as there are slots");
         auto* none = broadphase->createProxy(point, btVector3(1, 1, 1), 0, broadphase == &told ? &object : nullptr, 1, -1, nullptr);
         expect(!none, name, "its proxy is null");
         broadphase->setAabb(none, point, btVector3(1, 1, 1), nullptr);
         btVector3 low, high;
         broadphase->getAabb(none, low, high);
         broadphase->destroyProxy(none, nullptr);
-        expect(boxes.pairs() == 0, name, "and the others are as before");
-        broadphase->destroyProxy(boxes.proxies[0], nullptr);
-        boxes.proxies[0] = broadphase->createProxy(point, btVector3(4, 1, 1), 0, nullptr, 1, -1, nullptr);
-        expect(boxes.proxies[0] && boxes.pairs() == 1, name, "there is room again if one goes");
+        expect(boxes.step(name) == 0, name, "and the others are as before");
+        boxes.remove(0);
+        expect(boxes.add(point, btVector3(4, 1, 1)) && boxes.step(name) == 1, name, "there is room again if one goes");
     }
-    expect(refused.size() == 1 && refused[0].first == Status::full && refused[0].second == &object, name, "the user is told, with the object");
+    bool is_told = refused.size() == 1 && refused[0].first == Status::full && refused[0].second == &object;
+    expect(is_told, name, "the user is told, with the object");
 
     // A body whose proxy is null is one that collides with nothing, in a world of Bullet's.
     btDefaultCollisionConfiguration configuration;
@@ -505,7 +574,9 @@ void rounding() {
             int kind = int(random() % 4);
             double part = double(random() >> 11) / 9007199254740992.0;
             double whole = std::floor(part * 65535 - 32768);
-            at = kind == 0 ? ends[random() % 9] : kind == 1 ? part * 65535 - 32768 : kind == 2 ? whole + double(int(random() % 65536)) / 65536
+            at = kind == 0 ? ends[random() % 9]
+                : kind == 1 ? part * 65535 - 32768
+                : kind == 2 ? whole + double(int(random() % 65536)) / 65536
                 : std::nextafter(whole, random() % 2 ? 1e9 : -1e9);
             at = std::clamp(at, -32768.0, 32767.0);
         }
