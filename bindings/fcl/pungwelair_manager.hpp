@@ -6,7 +6,7 @@
 // these cost the more the more of them there are, since all that lie beyond one side count as near one another. A world holds 8,192
 // boxes. More objects stand in several worlds: a question asks each, and for pairs each object asks the worlds before its own.
 //
-// Several threads may ask at once: a lock is held while the library is asked, and none while callbacks run. A callback may ask this manager
+// Several threads may ask at once: they take turns in each world, and no lock is held while callbacks run. A callback may ask this manager
 // and others. Nothing may change a manager while it is asked: FclRefused is thrown, and nothing is changed. The same comes if memory
 // runs out (or std::bad_alloc): then objects are those that were there before, and a question may be asked again. What a batch of moves
 // has not moved, the next question or update moves.
@@ -17,6 +17,7 @@
 #include <algorithm>
 #include <array>
 #include <atomic>
+#include <cmath>
 #include <exception>
 #include <fcl/broadphase/broadphase_collision_manager.h>
 #include <fcl/narrowphase/collision_object.h>
@@ -197,7 +198,7 @@ private:
     Structure structure;
     double scale;
     std::unordered_map<Object*, std::size_t> order_of;
-    // FCL's questions are const, and each question of the library writes into its world.
+    // FCL's questions are const. They find the pairs, and make up for moves that weren't done, under this lock; worlds have their own.
     mutable std::mutex mutex;
     mutable std::vector<Part> parts;
     // Pairs of objects of two parts.
@@ -346,8 +347,8 @@ private:
         is_behind = false;
     }
 
-    // The handles in a part whose boxes meet a region. The lock is held.
-    static std::vector<pw_handle> hits(Part& part, const pw_box& region) {
+    // The handles in a part whose boxes meet a region.
+    static std::vector<pw_handle> meeting(const Part& part, const pw_box& region) {
         std::vector<pw_handle> found(256);
         Count count = part.world.hits({PW_REGION, ~0u, region.lo, region.hi}, found);
         if (count.status == Status::ok && count.count > found.size()) {
@@ -358,30 +359,40 @@ private:
         found.resize(count.count);
         return found;
     }
-    std::vector<pw_handle> meeting(Part& part, const pw_box& region) const {
-        std::lock_guard lock(mutex);
-        return hits(part, region);
-    }
-    std::vector<pw_handle> nearest(Part& part, const pw_box& box, uint32_t want) const {
-        auto middle = [](int32_t lo, int32_t hi) { return int32_t((int64_t(lo) + hi) / 2); };
-        std::vector<pw_handle> found(std::min(want, PW_SLOTS));
-        std::lock_guard lock(mutex);
-        pw_point at{middle(box.lo.x, box.hi.x), middle(box.lo.y, box.hi.y), middle(box.lo.z, box.hi.z)};
-        Count count = part.world.nearest({~0u, want, at}, found);
+    // The nearest to a box, from a distance on.
+    static std::vector<pw_handle> nearest(const Part& part, const pw_near_box& near_to) {
+        std::vector<pw_handle> found(std::min(near_to.want, PW_SLOTS));
+        Count count = part.world.nearest_box(near_to, found);
         must(count.status);
         found.resize(std::min(count.count, found.size()));
         return found;
     }
+    // Some more than a bound of FCL's, for what its distances and these sums are rounded by.
+    double reach(S least) const { return double(least) * 1.00001 + 0.0001 / scale; }
+    // The distance of two boxes of the library's, as a length of FCL's: none that FCL's own boxes have is shorter.
+    double apart(const pw_box& a, const pw_box& b) const {
+        auto between = [](int32_t lo, int32_t hi, int32_t other_lo, int32_t other_hi) {
+            return std::max(0.0, std::max(double(lo) - other_hi, double(other_lo) - hi));
+        };
+        double x = between(a.lo.x, a.hi.x, b.lo.x, b.hi.x), y = between(a.lo.y, a.hi.y, b.lo.y, b.hi.y);
+        double z = between(a.lo.z, a.hi.z, b.lo.z, b.hi.z);
+        return std::sqrt(x * x + y * y + z * z) / 65536 / scale;
+    }
 
+    // No frame ends, since nobody asks what began.
     void find_pairs() const {
         std::lock_guard lock(mutex);
         if (is_current) return;
         crossing.clear();
         for (Part& part : parts) {
-            Frame frame = part.world.update();
-            must(frame.status);
-            part.pairs.resize(frame.pairs);
-            must(part.world.pairs(0, part.pairs).status);
+            part.pairs.resize(std::max<std::size_t>(part.pairs.capacity(), 256));
+            Count count = part.world.pairs_now(0, part.pairs);
+            if (count.status == Status::ok && count.count > part.pairs.size()) {
+                part.pairs.resize(count.count);
+                count = part.world.pairs_now(0, part.pairs);
+            }
+            must(count.status);
+            part.pairs.resize(count.count);
             for (Part* before = parts.data(); before != &part; before++)
                 for (const Kept& kept : part.by_slot)
                     if (kept.object) cross(*before, kept);
@@ -389,7 +400,7 @@ private:
         is_current = true;
     }
     void cross(Part& before, const Kept& kept) const {
-        for (pw_handle handle : hits(before, kept.box)) crossing.push_back({before.by_slot[handle.slot].object, kept.object});
+        for (pw_handle handle : meeting(before, kept.box)) crossing.push_back({before.by_slot[handle.slot].object, kept.object});
     }
 
     // Whether the callback has had enough.
@@ -413,32 +424,39 @@ private:
             if (distance_in(parts[k], first, object->getAABB(), least, callback)) return true;
         return false;
     }
-    // Until the callback has told a bound, objects are taken by their distance to the middle of the box; then all whose boxes are nearer
-    // than the bound, the nearest first.
+    // Until the callback has told a bound, objects are taken in order of distance, first the nearest alone and then more at a time. Then
+    // all are taken whose boxes are nearer than the bound, the nearest first, unless those before reach to the bound.
     template <class Callback>
     bool distance_in(Part& part, std::size_t first, const Box& box, S& least, Callback callback) const {
         constexpr S unbounded = std::numeric_limits<S>::max();
         std::vector<bool> is_tried;
-        std::size_t tried = 0;
-        for (uint32_t want = 4; least == unbounded; want *= 8) {
-            std::vector<pw_handle> found = nearest(part, box_of(box), want);
-            is_tried.resize(PW_SLOTS);
-            for (; tried < found.size() && least == unbounded; tried++) {
-                uint32_t slot = found[tried].slot;
-                is_tried[slot] = true;
+        pw_near_box near_to{~0u, 1, box_of(box), {0, 0}};
+        while (least == unbounded) {
+            std::vector<pw_handle> found = nearest(part, near_to);
+            for (pw_handle handle : found) {
+                uint32_t slot = handle.slot;
+                // Those as near as the last one are told again.
+                if (!is_tried.empty() && is_tried[slot]) continue;
+                if (apart(near_to.body, part.by_slot[slot].box) > reach(least)) return false;
                 Object* object = part.by_slot[slot].object;
                 if (slot >= first && box.distance(object->getAABB()) < least && callback(object)) return true;
             }
-            if (found.size() < want && tried == found.size()) return false;
+            if (found.size() < near_to.want || near_to.want == PW_SLOTS) return false;
+            is_tried.resize(PW_SLOTS);
+            for (pw_handle handle : found) is_tried[handle.slot] = true;
+            if (least != unbounded) break;
+            auto square = part.world.try_square_apart(near_to.body, found.back());
+            must(square.error());
+            near_to.from = *square;
+            near_to.want = std::min<uint32_t>(near_to.want * 4, PW_SLOTS);
         }
         if (!(least > 0)) return false;
         std::vector<Nearby> nearby;
-        // Some more than the bound, for what FCL's distances and these sums are rounded by.
-        for (pw_handle handle : meeting(part, box_of(box, double(least) * 1.00001 + 0.0001 / scale))) {
+        for (pw_handle handle : meeting(part, box_of(box, reach(least)))) {
             if (handle.slot < first || (!is_tried.empty() && is_tried[handle.slot])) continue;
             Object* object = part.by_slot[handle.slot].object;
-            S apart = box.distance(object->getAABB());
-            if (apart < least) nearby.push_back({apart, object});
+            S distance = box.distance(object->getAABB());
+            if (distance < least) nearby.push_back({distance, object});
         }
         std::sort(nearby.begin(), nearby.end(), [](const Nearby& a, const Nearby& b) { return a.distance < b.distance; });
         for (const Nearby& next : nearby) {

@@ -1,6 +1,16 @@
 // Random rounds of all calls of a manager over the library, beside FCL's naive manager, which tests all: the same objects are told to each
 // callback, and the same distances are least. Boxes touch, lie far out, are inverted, endless, or of NaNs. Callbacks stop, ask, throw and
 // try to change the manager; threads ask at once; each request of memory is refused in turn; one manager has more objects than a world.
+#include "pungwelair.h"
+
+// Frames that managers end: none, since the pairs of now are asked for.
+static long frames_ended;
+static inline pw_status counted_update(pw_world* world, pw_counts* counts) {
+    frames_ended++;
+    return pw_update(world, counts);
+}
+#define pw_update counted_update
+
 #include "pungwelair_manager.hpp"
 #include <cstdio>
 #include <cstdlib>
@@ -85,10 +95,12 @@ struct Scene {
     std::mt19937 random;
     std::vector<std::shared_ptr<Shape<S>>> shapes;
     std::vector<std::unique_ptr<Object<S>>> objects;
-    S room;
+    S room, corner;
     bool has_inverted;
 
-    Scene(unsigned seed, std::size_t count, S within, bool inverted) : random(seed), room(within), has_inverted(inverted) {
+    // Most objects stand in a cube of `within` units, whose least corner is at `from` on each axis.
+    Scene(unsigned seed, std::size_t count, S within, bool inverted, S from = 0)
+        : random(seed), room(within), corner(from), has_inverted(inverted) {
         for (std::size_t k = 0; k < count; k++) {
             shapes.push_back(std::make_shared<Shape<S>>());
             objects.push_back(std::make_unique<Object<S>>(shapes.back()));
@@ -103,7 +115,8 @@ struct Scene {
     void place(std::size_t k) {
         constexpr S endless = std::numeric_limits<S>::infinity(), largest = std::numeric_limits<S>::max();
         constexpr S nan = std::numeric_limits<S>::quiet_NaN();
-        fcl::Vector3<S> low(part(room), part(room), part(room)), high = low + fcl::Vector3<S>(part(3), part(3), part(3));
+        fcl::Vector3<S> low(corner + part(room), corner + part(room), corner + part(room));
+        fcl::Vector3<S> high = low + fcl::Vector3<S>(part(3), part(3), part(3));
         std::size_t kind = below(48);
         auto axis = Eigen::Index(below(3));
         if (kind == 0) low[axis] = -endless;
@@ -293,8 +306,8 @@ void change(Both<S>& both) {
 
 // Two managers that share some objects.
 template <class S>
-void play(unsigned seed, Structure structure, std::size_t count, S room, long rounds, double scale, bool inverted) {
-    Scene<S> scene(seed, count, room, inverted);
+void play(unsigned seed, Structure structure, std::size_t count, S room, long rounds, double scale, bool inverted, S corner = 0) {
+    Scene<S> scene(seed, count, room, inverted, corner);
     Both<S> one(scene, structure, scale), two(scene, Structure::tree);
     Objects<S> all;
     for (auto& object : scene.objects) all.push_back(object.get());
@@ -603,6 +616,13 @@ int main() {
             play<double>(seed, structure, 60, 3, 60, 100, true);
             play<float>(seed, structure, 500, 200, 60, 0.01, true);
         }
+        // Past the end of the range, where all boxes are cut to one corner of it, and across it.
+        play<double>(5, structure, 200, 12, 20, 1, false, 40000);
+        play<float>(5, structure, 200, 12, 20, 1, false, 40000);
+        play<double>(6, structure, 200, 40, 20, 1, false, -32788);
+        play<float>(6, structure, 200, 40, 20, 1, false, 32747);
+        play<double>(7, structure, 200, 90000, 20, 1, false, -45000);
+        play<float>(7, structure, 200, 90000, 20, 1, false, -45000);
         long requests = 1;
         for (long first = 0; first < requests; first++) requests = play_refused<double>(structure, first);
         expect(requests > 50, "requests were refused", requests);
@@ -613,6 +633,7 @@ int main() {
     ask_by_threads<float>();
     play_many<double>(9000);
     play_many<float>(17000);
+    expect(frames_ended == 0, "no question ends a frame", frames_ended);
     std::printf("rounds: %ld claims, %d failed\n", claims.load(), failures.load());
     return failures != 0;
 }
