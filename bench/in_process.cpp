@@ -19,6 +19,7 @@
 //         asks one kind of one engine, whose name begins so, and tells no time: for callgrind, which counts what is inside of
 //         `asked_alone` with --toggle-collect=asked_alone, and so no frame and no question that comes before
 //     in_process world BOXES                            bytes that malloc gave to a world, and what readers cost
+//     in_process calls BOXES ROUNDS                     what each call takes that asks nothing
 //     in_process kinds                                  the names of the kinds
 #include "pungwelair.h"
 #include <algorithm>
@@ -1132,11 +1133,102 @@ int tell_worlds(int boxes) {
     return 0;
 }
 
+// The moves of a frame, as pw_move takes them.
+struct Batch {
+    std::vector<pw_handle> handles;
+    std::vector<pw_box> bodies;
+
+    Batch(const std::vector<Move> &moves, const std::vector<pw_handle> &of) {
+        for (const Move &move : moves) handles.push_back(of[move.slot]), bodies.push_back(move.body);
+    }
+    Batch(const std::vector<pw_handle> &handles, const std::vector<pw_box> &bodies) : handles(handles), bodies(bodies) {}
+
+    void tell(pw_world &world) const {
+        size_t done;
+        must(pw_move(&world, handles.data(), handles.size(), bodies.data(), bodies.size(), &done));
+    }
+};
+
+// The least time of each step that is named, in the order in which they first came.
+struct Least {
+    std::vector<std::pair<const char *, double>> times;
+
+    // The time of a call, shared out to so many parts.
+    template <typename Call> void time(const char *name, size_t parts, Call call) {
+        uint64_t begun = nanoseconds();
+        call();
+        double took = double(nanoseconds() - begun) / double(std::max<size_t>(parts, 1));
+        for (auto &[known, least] : times)
+            if (known == name) return void(least = std::min(least, took));
+        times.push_back({name, took});
+    }
+
+    // Of a call that is short beside the clock, made many times.
+    template <typename Call> void time_often(const char *name, size_t often, Call call) {
+        time(name, often, [&] {
+            for (size_t i = 0; i < often; i++) call();
+        });
+    }
+};
+
+// A world like that of the load `asked`: boxes come, some and then all of them move, and they go.
+void time_calls(uint32_t structure, const Play &some_move, const Play &all_move, Least &least) {
+    size_t boxes = some_move.first.size(), done, count;
+    std::vector<pw_handle> handles(boxes);
+    pw_new how = pw_seen_by_all();
+    pw_live live;
+    pw_counts counts;
+    pw_world world = PW_WORLD_INIT;
+    auto update = [&] { must(pw_update(&world, &counts)); };
+
+    must(pw_open(&world, structure));
+    least.time("pw_add, a box", boxes, [&] { must(pw_add(&world, some_move.first.data(), boxes, &how, handles.data(), boxes, &done)); });
+    update();
+    Batch some(some_move.moves[0], handles), back(handles, some_move.first), all(all_move.moves[0], handles);
+    least.time("pw_move, a box of one in thirty", some.handles.size(), [&] { some.tell(world); });
+    least.time("pw_update, one in thirty moved", 1, update);
+    std::vector<pw_told> told(counts.events);
+    std::vector<pw_pair> pairs(2 * counts.pairs + 1000);
+    least.time_often("pw_changes, all", 100, [&] { must(pw_changes(&world, 0, told.data(), told.size(), &count)); });
+    least.time_often("pw_events, all", 100, [&] { must(pw_events(&world, 0, told.data(), told.size(), &count)); });
+    least.time_often("pw_pairs, all", 100, [&] { must(pw_pairs(&world, 0, pairs.data(), pairs.size(), &count)); });
+    least.time_often("pw_update, nothing told", 100, update);
+    all.tell(world);
+    least.time("pw_pairs_now, all moved", 1, [&] { must(pw_pairs_now(&world, 0, pairs.data(), pairs.size(), &count)); });
+    update();
+    least.time("pw_move, a box of all", boxes, [&] { back.tell(world); });
+    least.time("pw_update, all moved", 1, update);
+    constexpr size_t marks = 50;
+    least.time_often("pw_mark", marks, [&] { must(pw_mark(&world)); });
+    for (size_t i = 1; i < marks; i++) must(pw_back(&world));
+    some.tell(world);
+    least.time("pw_back, a move", some.handles.size(), [&] { must(pw_back(&world)); });
+    least.time("pw_get", boxes, [&] { for (pw_handle handle : handles) must(pw_get(&world, handle, &live)); });
+    least.time("pw_mask", boxes, [&] { for (pw_handle handle : handles) must(pw_mask(&world, handle, how.masks)); });
+    least.time("pw_remove, a box", boxes, [&] { must(pw_remove(&world, handles.data(), boxes, &done)); });
+    must(pw_close(&world));
+}
+
+// What calls take that ask nothing, over each structure.
+int tell_calls(int boxes, int rounds) {
+    const Load few = {"few", 4.0, 0.5, 1.5, false, false, 0.03, 0.05, 0}, much = {"much", 4.0, 0.5, 1.5, false, false, 1.0, 0.5, 0};
+    const Play some_move = made(few, boxes, 1, 0), all_move = made(much, boxes, 1, 0);
+    const char *names[] = {"plain", "sap", "tree", "grid", "skin"};
+    std::printf("%d boxes, least of %d; nanoseconds\n", boxes, rounds);
+    for (uint32_t structure = PW_PLAIN; structure <= PW_SKIN; structure++) {
+        Least least;
+        for (int r = 0; r < rounds; r++) time_calls(structure, some_move, all_move, least);
+        for (auto &[name, time] : least.times) std::printf("%-8s %-32s %12.1f\n", names[structure], name, time);
+    }
+    return 0;
+}
+
 } // namespace
 
 int main(int argc, char **argv) {
     if (argc == 7 && !std::strcmp(argv[1], "count")) return count(argv + 2);
     if (argc == 3 && !std::strcmp(argv[1], "world")) return tell_worlds(std::atoi(argv[2]));
+    if (argc == 4 && !std::strcmp(argv[1], "calls")) return tell_calls(std::atoi(argv[2]), std::atoi(argv[3]));
     if (argc == 2 && !std::strcmp(argv[1], "kinds")) {
         for (const Kind &kind : kinds) std::printf("%s\n", kind.name);
         return 0;
@@ -1144,7 +1236,8 @@ int main(int argc, char **argv) {
     if (argc == 3) return play_scene(argv[1], std::atoi(argv[2]));
     if (argc < 4)
         return std::fprintf(stderr, "usage: in_process BOXES FRAMES ROUNDS [LOAD or KIND..], in_process SCENE ROUNDS,\n"
-                                    "       in_process count LOAD ENGINE KIND BOXES QUESTIONS, in_process world BOXES, or in_process kinds\n"),
+                                    "       in_process count LOAD ENGINE KIND BOXES QUESTIONS, in_process world BOXES,\n"
+                                    "       in_process calls BOXES ROUNDS, or in_process kinds\n"),
                2;
     int boxes = std::atoi(argv[1]), frames = std::atoi(argv[2]), rounds = std::atoi(argv[3]);
     std::vector<bool> of_kinds(kind_count), of_loads(sizeof loads / sizeof *loads);
