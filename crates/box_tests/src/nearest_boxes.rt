@@ -4,7 +4,7 @@ ghost use Rattle.std.specs.FinMap as map;
 
 use broad_index::{BroadPhase, PlainIndex};
 use fixed_box::{FBox, Point, space_law};
-use near_boxes::{Bodies, Near, nearest, spot, square, square_apart};
+use near_boxes::{Bodies, Near, NearRoom, nearest, spot, square, square_apart};
 use std::test::Fail;
 
 // Raw units.
@@ -73,10 +73,11 @@ fn the_nearest_come_by_square_and_then_by_slot(rt: HostRuntime) -> Result<(), Fa
         },
     ];
     let mut nears = Vec::new(rt.alloc());
-    nearest(rt.alloc(), &index, &bodies, &middle, 2, &mut nears)?;
+    let mut room = NearRoom::new(rt.alloc());
+    nearest(&mut room, &index, &bodies, &middle, 2, &mut nears)?;
     assert_eq!(rt; nears.as_slice(), &all[..2]);
     nears.clear();
-    nearest(rt.alloc(), &index, &bodies, &middle, 8192, &mut nears)?;
+    nearest(&mut room, &index, &bodies, &middle, 8192, &mut nears)?;
     assert_eq!(rt; nears.as_slice(), all.as_slice());
     Ok(())
 }

@@ -251,8 +251,8 @@ impl BroadPhase for BoxTree {
         Ok(())
     }
 
-    // It takes no memory.
-    fn visit<V: Visitor>(&self, _alloc: Global, visitor: &mut V) -> Result<(), NoMemory> {
+    // It needs no room.
+    fn visit<V: Visitor>(&self, _room: &mut Vec<u32>, visitor: &mut V) -> Result<(), NoMemory> {
         self.boxes.show(visitor)
     }
 

@@ -158,15 +158,15 @@ pub trait BroadPhase {
     ///
     /// A structure whose `descends` is true passes by what the visitor doesn't admit, or doesn't ask for any more, and looks into
     /// what it prefers first. The others ask for the visitor's query and show what that finds, in order of slots. All except trees
-    /// take a list from `alloc` for what they find.
-    fn visit<V: Visitor>(&self, alloc: Global, visitor: &mut V) -> Result<(), NoMemory>
+    /// keep in `room` what they find: what is in it before is dropped, and what is left in it says nothing.
+    fn visit<V: Visitor>(&self, room: &mut Vec<u32>, visitor: &mut V) -> Result<(), NoMemory>
         ensures sound { OnOk result (spent self.now ≡ false) }
         ensures seen { OnOk result ((seen : List (ℕ × Bounds)) → V.saw visitor.old seen → V.saw visitor.new (seen ++ map.entries (bodies self.now))) }
         ensures kept { OnOk result (V.keeps visitor.old visitor.new) }
     {
-        let mut slots = Vec::new(alloc);
-        self.hits(&visitor.query(), &mut slots)?;
-        let mut rest = &slots[..];
+        room.clear();
+        self.hits(&visitor.query(), room)?;
+        let mut rest = &room[..];
         'slots: while let [slot, more @ ..] = rest {
             if let Some(body) = self.box_of(*slot) {
                 visitor.meet(*slot, &body)?;

@@ -113,7 +113,7 @@ fn shows<B: BroadPhase>(alloc: Global, index: &B) -> Result<bool, Fail> {
         region: FBox::new(end, end).ok_or("a point")?,
         slots: Vec::new(alloc),
     };
-    index.visit(alloc, &mut visitor)?;
+    index.visit(&mut Vec::new(alloc), &mut visitor)?;
     visitor.slots.sort()?;
     let mut found = Vec::new(alloc);
     index.hits(&Query::Spot(end), &mut found)?;

@@ -80,8 +80,8 @@ impl BroadPhase for SkinTree {
         self.skins.hits(query, out)
     }
 
-    fn visit<V: Visitor>(&self, alloc: Global, visitor: &mut V) -> Result<(), NoMemory> {
-        self.skins.visit(alloc, visitor)
+    fn visit<V: Visitor>(&self, room: &mut Vec<u32>, visitor: &mut V) -> Result<(), NoMemory> {
+        self.skins.visit(room, visitor)
     }
 
     fn descends(&self) -> bool {

@@ -17,7 +17,6 @@ use crate::distance::square_apart;
 use crate::{Bodies, Near};
 use broad_index::{BroadPhase, Query, Visitor};
 use fixed_box::{FBox, Fix, NoMemory, Point, space_law};
-use std::alloc::Global;
 
 // The nearest bodies among the boxes that were shown, at most so many.
 #[derive(Drop)]
@@ -70,26 +69,26 @@ impl<T: Bodies> Visitor for NearestSearch<'_, T> {
 
 // The nearest bodies by one descent, in rising order, in the room of an empty list.
 pub(crate) fn descend<B: BroadPhase, T: Bodies>(
-    room: Vec<Near>,
+    nears: Vec<Near>,
+    slots: &mut Vec<u32>,
     index: &B,
     bodies: &T,
     to: &FBox,
     want: usize,
 ) -> Result<Vec<Near>, NoMemory>
-    requires empty { room.items ≡ [] }
+    requires empty { nears.items ≡ [] }
     requires in_space { AreInSpace (T.bodies bodies.now) }
     requires among { AreAmong (T.bodies bodies.now) (B.bodies index.now) }
     ensures { IfOk result (λ found. found.items ≡ nearest_about (T.bodies bodies.now) to.now want) }
 {
     space_law(to);
-    let alloc = *room.allocator();
     let mut search = NearestSearch {
         bodies,
         to: *to,
         want,
-        nears: room,
+        nears,
     };
-    index.visit(alloc, &mut search)?;
+    index.visit(slots, &mut search)?;
     Ok(search.nears)
 }
 

@@ -1,6 +1,6 @@
 //! The nearest boxes to a box, which is fattened more and more until it meets enough of them.
 
-ghost use Rattle.std.specs.Prelude.{◌≡◌, ◌<◌, ◌≤◌, ◌++◌, false, IsTrue, take, IfOk, OnOk, OnErr};
+ghost use Rattle.std.specs.Prelude.{◌≡◌, ◌<◌, ◌≤◌, ◌++◌, false, IsTrue, take, OnOk, OnErr};
 ghost use Rattle.std.specs.List.{filter_map};
 ghost use Rattle.fixed_box.specs.declared.TheConstants.{SLOTS};
 ghost use Rattle.fixed_box.specs.Bounds.{fattened};
@@ -13,12 +13,11 @@ ghost use Rattle.near_boxes.specs.Within.{within};
 
 use crate::descent::descend;
 use crate::distance::{square_apart, squared};
-use crate::{Bodies, Near};
+use crate::{Bodies, Near, NearRoom};
 use broad_index::{BroadPhase, Query, member_laws};
 use fixed_box::{FBox, NoMemory, space_law};
 use ordered_lists::{order_laws, push_front_in_order};
 use slot_lists::push_filter_mapped;
-use std::alloc::Global;
 use std::mem;
 
 // By how much the box is fattened first, in raw units: a sixteenth of a unit.
@@ -31,18 +30,17 @@ const MOST_BY_DESCENT: u32 = 64;
 /// their distance and then of their slot. Those nearest to a point are those nearest to its `spot`. After an `Err` `out` is
 /// as before.
 ///
-/// Up to 64 are sought by one descent of an index that descends, which passes by what lies farther than those it has. It takes
-/// memory for these if `out` isn't empty, or has no room for one more than `want`, and what `visit` of the index takes. Else it
-/// asks the index for the box fattened a little, and then fattened more until `want` bodies lie within its margin: at most 21 times, of which the last
-/// asks for all of space. So over a structure that keeps boxes by where they are, its time goes by how many lie about as near
-/// as the last of the answer. It takes memory for the slots that the fattened box meets, and for those of the bodies that are
-/// near enough.
+/// Up to 64 are sought by one descent of an index that descends, which passes by what lies farther than those it has. Else it
+/// asks the index for the box fattened a little, and then fattened more until `want` bodies lie within its margin: at most 21 times, of
+/// which the last asks for all of space. So over a structure that keeps boxes by where they are, its time goes by how many lie about as
+/// near as the last of the answer. It takes memory if `out` has too little room for the answer, or `room` for one more than `want`, for the slots
+/// that the fattened box meets, and for those of the bodies that are near enough.
 ///
 /// ```
-/// nearest(alloc, &index, &bodies, &body, 8, &mut nears)?; // the slots of the eight nearest, each with its square
+/// nearest(&mut room, &index, &bodies, &body, 8, &mut nears)?; // the slots of the eight nearest, each with its square
 /// ```
 pub fn nearest<B: BroadPhase, T: Bodies>(
-    alloc: Global,
+    room: &mut NearRoom,
     index: &B,
     bodies: &T,
     to: &FBox,
@@ -57,17 +55,17 @@ pub fn nearest<B: BroadPhase, T: Bodies>(
 {
     in_space(bodies);
     if want <= MOST_BY_DESCENT && index.descends() {
-        return push_by_descent(alloc, index, bodies, to, want as usize, out);
+        return push_by_descent(room, index, bodies, to, want as usize, out);
     }
     let want = want as usize;
-    let mut found = find_enough(alloc, index, bodies, to, want)?;
-    push_front_in_order(&mut found, want, out)?;
+    find_enough(room, index, bodies, to, want)?;
+    push_front_in_order(&mut room.nears, want, out)?;
     Ok(())
 }
 
-// The same by one descent, for which an empty list needs no other.
+// The same by one descent.
 fn push_by_descent<B: BroadPhase, T: Bodies>(
-    alloc: Global,
+    room: &mut NearRoom,
     index: &B,
     bodies: &T,
     to: &FBox,
@@ -79,13 +77,11 @@ fn push_by_descent<B: BroadPhase, T: Bodies>(
     ensures ok { OnOk result (out.new.items ≡ out.old.items ++ nearest_about (T.bodies bodies.now) to.now want) }
     ensures err { OnErr result (out.new.items ≡ out.old.items) }
 {
-    if out.is_empty() {
-        let room = mem::replace(out, Vec::new(alloc));
-        *out = descend(room, index, bodies, to, want)?;
-    } else {
-        let found = descend(Vec::new(alloc), index, bodies, to, want)?;
-        out.extend_from_slice(&found)?;
-    }
+    let alloc = *room.nears.allocator();
+    let mut nears = mem::replace(&mut room.nears, Vec::new(alloc));
+    nears.clear();
+    room.nears = descend(nears, &mut room.slots, index, bodies, to, want)?;
+    out.extend_from_slice(&room.nears)?;
     Ok(())
 }
 
@@ -96,40 +92,39 @@ fn in_space<T: Bodies>(bodies: &T)
     let _ = bodies.body(0);
 }
 
-// Bodies among which the `want` nearest are: if a fattened box has so many that lie within its margin, all others are
+// Finds bodies among which the `want` nearest are: if a fattened box has so many that lie within its margin, all others are
 // farther than those.
 fn find_enough<B: BroadPhase, T: Bodies>(
-    alloc: Global,
+    room: &mut NearRoom,
     index: &B,
     bodies: &T,
     to: &FBox,
     want: usize,
-) -> Result<Vec<Near>, NoMemory>
+) -> Result<(), NoMemory>
     requires in_space { AreInSpace (T.bodies bodies.now) }
     requires among { AreAmong (T.bodies bodies.now) (B.bodies index.now) }
-    ensures { IfOk result (λ found. take want (ordered_by near_cmp found.items) ≡ nearest_about (T.bodies bodies.now) to.now want) }
+    ensures { OnOk result (take want (ordered_by near_cmp room.new.nears.items) ≡ nearest_about (T.bodies bodies.now) to.now want) }
 {
     order_laws::<Near>();
     member_laws();
     space_law(to);
-    let mut slots = Vec::new(alloc);
-    let mut found = Vec::new(alloc);
+    let (slots, found) = (&mut room.slots, &mut room.nears);
     let mut margin = NARROWEST;
     'margins: while margin < u32::MAX {
-        find_slots(index, to, margin, &mut slots)?;
+        find_slots(index, to, margin, slots)?;
         if slots.len() >= want {
             let most = u128::from(squared(margin));
-            keep_within(bodies, to, most, &slots, &mut found)?;
+            keep_within(bodies, to, most, slots, found)?;
             if found.len() >= want {
-                return Ok(found);
+                return Ok(());
             }
         }
         margin = wider(margin, slots.len(), want);
     }
     // The last is all of space, and nothing in it is too far.
-    find_slots(index, to, u32::MAX, &mut slots)?;
-    keep_within(bodies, to, u128::MAX, &slots, &mut found)?;
-    Ok(found)
+    find_slots(index, to, u32::MAX, slots)?;
+    keep_within(bodies, to, u128::MAX, slots, found)?;
+    Ok(())
 }
 
 // Twice the margin, or four times where so few boxes were found that eight times as many wouldn't be enough, since a cube

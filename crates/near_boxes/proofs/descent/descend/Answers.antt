@@ -14,7 +14,7 @@ returns g c =
     let v = c.visit.new.visitor in
     let es = entries index in
     let kept = c.in_ok-visit.ensures.kept in
-    let start : HasNearest bodies to want c.args.room.items [] = λ _. c.requires.empty ∙ sym (none_seen want) in
+    let start : HasNearest bodies to want c.args.nears.items [] = λ _. c.requires.empty ∙ sym (none_seen want) in
     let shown = c.in_ok-visit.ensures.seen [] start in
     all_seen to bodies index c.space_law.ensures c.requires.in_space c.requires.among want v.nears.items
     (subst (λ w. HasNearest bodies to w v.nears.items es) kept.2 (subst (λ a. HasNearest bodies a v.want v.nears.items es) kept.1

@@ -8,4 +8,4 @@ use Rattle.near_boxes.proofs.search.nearest.Goals as goal
 pub returns-clause-ok : goal.returns-clause-ok
 returns-clause-ok g c =
     c.in_ok-push_front_in_order.ensures.ok (ties_one c.deref_mut.result.now)
-    ∙ ap (λ l. c.args.out.now.items ++ l) (ap (λ l. take c.args.want (ordered_by near_cmp l)) c.deref_mut.ensures.value ∙ c.in_ok-found.ensures)
+    ∙ ap (λ l. c.args.out.now.items ++ l) (ap (λ l. take c.args.want (ordered_by near_cmp l)) c.deref_mut.ensures.value ∙ c.in_ok-find_enough.ensures)

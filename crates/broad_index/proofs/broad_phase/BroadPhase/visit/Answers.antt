@@ -31,7 +31,7 @@ returns-clause-seen g c seen before =
     let out = filter (λ e. not (p e)) es in
     let now = g.V.Visitor.saw c.slots.visitor in
     let slots_are : c.deref.result.now ≡ found bodies c.query.result =
-    c.deref.ensures.value ∙ c.in_ok-hits.ensures.ok ∙ ap (λ l. l ++ found bodies c.query.result) c.new-slots.ensures.items in
+    c.deref.ensures.value ∙ c.in_ok-hits.ensures.ok ∙ ap (λ l. l ++ found bodies c.query.result) c.clear.ensures.items in
     let shown = shown_all c.deref.result.now c.slots.rest.now c.in_default.len_below c.slots.invariant.0 (seen ++ out)
     (c.query.ensures.missed seen out before (missed p es)) in
     g.met.V.Visitor.any_order c.slots.visitor ((seen ++ out) ++ filter p es) (seen ++ es) (both_ways p seen es)
