@@ -93,9 +93,9 @@ module _ (bodies skins : FinMap nat_cmp Bounds) (index_spent spent : Bool) (old 
       → (new.all ≡ false → AreMarks new.marks new.slots.items)
       → (new.all ≡ false → (k : ℕ) → slice_index_or new.marks k false ≡ (k == slot || slice_index_or old.marks k false))
       → (bodies' skins' : FinMap nat_cmp Bounds) (index_spent' : Bool) → bodies' ≡ insert bodies slot body → skins' ≡ insert skins slot skin
-      → index_spent' ≡ false → IsSkinned bodies' skins' index_spent' spent new kept
+      → index_spent' ≡ false → IsSkinned bodies' skins' index_spent' false new kept
   skinned_put slot body skin within new were_few are marked bodies' skins' index_spent' bodies_are skins_are lasts = record {
-    same_spent = lasts ∙ sym sound;
+    same_spent = lasts;
     held = λ _. subst (λ m. AreSkins bodies' m) (sym skins_are)
         (subst (λ m. AreSkins m (insert skins slot skin)) (sym bodies_are) (skins_put bodies skins (was.held sound) slot body skin within));
     pairs_kept = λ _ few. subst (λ m. ArePairsKept m new.marks new.slots.items kept) (sym skins_are)

@@ -17,6 +17,15 @@ pub(crate) struct ExactVisitor<'a, V> {
     pub(crate) visitor: &'a mut V,
 }
 
+impl<'a, V> ExactVisitor<'a, V> {
+    pub(crate) fn new(bodies: &'a LanedBoxes, visitor: &'a mut V) -> ExactVisitor<'a, V>
+        ensures bodies { result.bodies.now ≡ bodies.now }
+        ensures visitor { result.visitor ≡ visitor.entry }
+    {
+        ExactVisitor { bodies, visitor }
+    }
+}
+
 impl<V: Visitor> Visitor for ExactVisitor<'_, V> {
     ghost saw = { λ s seen. SawExact s.bodies.now (V.saw s.visitor.now) seen };
 

@@ -9,5 +9,6 @@ mod marked_skins;
 mod mending;
 mod skin;
 mod skinned;
+mod skinned_boxes;
 
-pub use skinned::Skinned;
+pub use skinned_boxes::Skinned;

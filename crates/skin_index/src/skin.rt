@@ -1,7 +1,8 @@
-//! How wide a skin is: a margin by the box's sides, and further ahead on the side to which it moves.
+//! How wide a skin is: a margin by the box's sides, and further ahead on the side to which it moves. Whether a box is in it.
 
-ghost use Rattle.std.specs.Prelude.{IsTrue};
+ghost use Rattle.std.specs.Prelude.{◌≡◌, IsTrue};
 ghost use Rattle.fixed_box.specs.Bounds.{encloses};
+ghost use Rattle.skin_index.specs.Skins.{is_inside};
 
 use fixed_box::{FBox, Point, box_laws};
 
@@ -102,4 +103,14 @@ fn displaced(body: &FBox, by: &Point) -> FBox {
         z: hi.z.saturating_add(by.z),
     };
     FBox::new(low, high).unwrap_or(*body)
+}
+
+// Whether a skin is there and encloses a box.
+pub(crate) fn is_inside(skin: &Option<FBox>, body: &FBox) -> bool
+    ensures { result ≡ is_inside skin.now body.now }
+{
+    match skin {
+        Some(skin) => skin.holds_box(body),
+        None => false,
+    }
 }

@@ -24,10 +24,12 @@ invariant_of-self g c =
       pairs_kept = c.self.invariant.pairs_kept;
     }
 
-pub invariant_of-self-in-Ok : goal.invariant_of-self-in-Ok
-invariant_of-self-in-Ok g c =
+pub invariant_of-self-2 : goal.invariant_of-self-2
+invariant_of-self-2 g c =
     let s = c.self.inside in
     let old = g.B.BroadPhase.bodies s.index in
-    skinned_put s.bodies old (g.B.BroadPhase.spent s.index) s.spent s.marked s.near.items c.self.invariant c.if-self.false (c.keeping_laws.ensures.inserted old)
+    skinned_put s.bodies old (g.B.BroadPhase.spent s.index) s.spent s.marked s.near.items c.self.invariant c.if-self.false
+    (c.keeping_laws.ensures.inserted old)
     c.args.slot c.args.body c.skin_of.result c.skin_of.ensures c.mark.new.self c.mark.ensures.were_few c.mark.ensures.are c.mark.ensures.marks
-    _ _ _ c.set-in-Ok.ensures (c.in-Ok.ensures.ok ∙ ap (λ m. insert m c.args.slot c.skin_of.result) c.clear_exchanges.ensures.bodies) c.in-Ok.ensures.sound
+    _ _ _ c.set-2.ensures (c.in_ok-shift.ensures.ok ∙ ap (λ m. insert m c.args.slot c.skin_of.result) c.clear_exchanges.ensures.bodies)
+    c.in_ok-shift.ensures.sound
