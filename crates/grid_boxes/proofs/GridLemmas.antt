@@ -1,6 +1,6 @@
--- The cells of the boxes and their hull through changes, and levels with no box.
+-- The cells of the boxes and their hull through changes, levels with no box, and searches of cells and levels.
 use Rattle.std.proofs.Common.{◌≡◌, ℕ, ◌+◌, ◌<◌, Bool, true, false, cond, Option, None, Some, is_some, refl, sym, ap, ◌∙◌, arith}
-use Rattle.std.proofs.Common.{subst, option_map, inl, inr, List, [], ◌∷◌, ◌||◌, ◌==◌, length, map}
+use Rattle.std.proofs.Common.{subst, option_map, ◌⊎◌, inl, inr, List, [], ◌∷◌, ◌||◌, ◌==◌, length, map}
 use Rattle.std.specs.List.{filter}
 use Rattle.std.proofs.lemmas.Cmp.{nat_cmp_total}
 use Rattle.std.proofs.lemmas.Bool.{true≢false, false≢true}
@@ -11,6 +11,8 @@ use Rattle.std.specs.FinMap as maps
 use Rattle.fixed_box.specs.Bounds.{Bounds, encloses, level_of}
 use Rattle.cell_table.specs.declared.cell_key.CellKey.{CellKey}
 use Rattle.cell_table.specs.Cells.{has, slots_at}
+use Rattle.grid_cells.specs.Appended.{Appends, HasWhere}
+use Rattle.grid_cells.specs.AppendLaws.{among, either_where}
 use Rattle.grid_cells.specs.Cells.{cell_of}
 use Rattle.grid_boxes.specs.Grid.{AreKeyed, IsGrid}
 use Rattle.grid_cells.specs.Sized.{IsSized, is_held}
@@ -122,3 +124,22 @@ above_less bodies end above none q b e = elim (nat_next (level_of b) end (above 
   | inl below ↦ below
   | inr at ↦ absurd (none q b e at)
 ]
+
+-- What has the slots of cells has those of the boxes in them.
+pub boxes_in_cells : (kept bodies : FinMap nat_cmp Bounds) (cells : FinMap nat_cmp CellKey) (IsThere : CellKey → Type 0) (Meets : Bounds → Type 0)
+    (old new : List ℕ) → AreKeyed kept cells → kept ≡ bodies → ((q : ℕ) (b : Bounds) → get bodies q ≡ Some b → Meets b → IsThere (cell_of b))
+    → Appends (HasWhere cells IsThere) old new → Appends (HasWhere bodies Meets) old new
+boxes_in_cells kept bodies cells IsThere Meets old new keyed same there =
+    among (HasWhere cells IsThere) (HasWhere bodies Meets) old new (λ xs has q b e m.
+    has q (cell_of b) (keyed q ∙ ap (option_map cell_of) (ap (λ k. get k q) same ∙ e)) (there q b e m))
+
+-- A box below the next level is of this one, or below it.
+pub one_more_level : (bodies : FinMap nat_cmp Bounds) (level : ℕ) (Meets Wider : Bounds → Type 0) (old now new : List ℕ)
+    → ((b : Bounds) → Meets b → Wider b) → Appends (HasWhere bodies (λ b. (level_of b < level) × Meets b)) old now
+    → Appends (HasWhere bodies (λ b. (level_of b ≡ level) × Wider b)) now new → Appends (HasWhere bodies (λ b. (level_of b < level + 1) × Meets b)) old new
+one_more_level bodies level Meets Wider old now new wider =
+    either_where bodies (λ b. (level_of b < level) × Meets b) (λ b. (level_of b ≡ level) × Wider b) (λ b. (level_of b < level + 1) × Meets b) old now new
+    (λ q b e m. elim (nat_next (level_of b) level m.0) as (λ _. ((level_of b < level) × Meets b) ⊎ ((level_of b ≡ level) × Wider b)) [
+      | inl below ↦ inl (below, m.1)
+      | inr at ↦ inr (at, wider b m.1)
+    ])

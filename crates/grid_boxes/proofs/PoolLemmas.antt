@@ -527,9 +527,9 @@ pub met : (bodies : FinMap nat_cmp Bounds) (pool : Pool) (level : ℕ) (region :
 met bodies pool level region old new g found = record {
   slots = found.slots;
   appended = found.appended;
-  has = λ q b e l m.
+  has = λ q b e m.
       let st = g.held q b e in
       let place = get_or pool.places q 0 in
-      let into : IsIn pool level place = subst (λ k. IsIn pool k place) l st.in_level in
-      ap (has_slot found.slots) (sym st.slot_is) ∙ found.has place into.from into.below (ap (meets region) st.body_is ∙ m);
+      let into : IsIn pool level place = subst (λ k. IsIn pool k place) m.0 st.in_level in
+      ap (has_slot found.slots) (sym st.slot_is) ∙ found.has place into.from into.below (ap (meets region) st.body_is ∙ m.1);
 }

@@ -1,1 +1,1 @@
-mod CornerLemmas
+pub mod CornerLemmas

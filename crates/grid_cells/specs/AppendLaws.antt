@@ -1,8 +1,13 @@
 -- Serves proofs alone: slots behind what was in a list, as one search after the other appends them.
-use Rattle.std.proofs.Common.{◌≡◌, ℕ, ◌≤◌, List, [], ◌++◌, length, take, drop, map, subst, sym, ap, ◌∙◌, arith, Result, Ok, Err, OnErr}
+use Rattle.std.proofs.Common.{◌≡◌, ◌⊎◌, inl, inr, ℕ, ◌≤◌, true, List, [], ◌++◌, length, take, drop, map, Some}
+use Rattle.std.proofs.Common.{subst, sym, ap, ◌∙◌, arith, Result, Ok, Err, OnErr}
 use Rattle.std.proofs.Math.Seq.{take-append_seam, drop-append_seam}
 use Rattle.std.proofs.lemmas.List.{append_assoc, append-nil, length-append, length-take-le, take-append-drop}
-use Rattle.grid_cells.specs.Appended.{Appends, Stays}
+use Rattle.std.specs.Ordering.{nat_cmp}
+use Rattle.std.specs.FinMap.{FinMap, get}
+use Rattle.broad_index.specs.Members.{has_slot}
+use Rattle.grid_cells.specs.Appended.{Appends, HasWhere, Stays}
+use Rattle.grid_cells.specs.SlotLaws.{more_left, more_right}
 
 -- what was in a list begins it where slots were appended
 begun : (old new slots : List ℕ) → new ≡ old ++ slots → Stays old new
@@ -22,17 +27,10 @@ stays_on old now new first second =
     begun old new (drop (length old) now ++ drop (length now) new)
     (joined old now new (drop (length old) now) (drop (length now) new) (split old now first) (split now new second))
 
-pub stays_same : (old new : List ℕ) → new ≡ old → Stays old new
-stays_same old new is = begun old new [] (is ∙ sym (append-nil old))
-
 -- what holds anyway holds where memory ran out
 pub anyway : {T E P : Type 0} (r : Result T E) → P → OnErr r P
 anyway (Ok t) p = tt
 anyway (Err e) p = p
-
--- nothing was appended, and nothing is sought
-pub none : (Has : List ℕ → Type 0) (old new : List ℕ) → new ≡ old → Has [] → Appends Has old new
-none Has old new is has = record { slots = []; appended = is ∙ sym (append-nil old); has = has }
 
 -- what was sought is more than what is
 pub among : (More Has : List ℕ → Type 0) (old new : List ℕ) → ((xs : List ℕ) → More xs → Has xs) → Appends More old new → Appends Has old new
@@ -47,15 +45,29 @@ both First Second Has old now new t a b = record {
   has = t a.slots b.slots a.has b.has;
 }
 
+-- the slots whose values meet a condition
+module _ {X : Type 0} (table : FinMap nat_cmp X) where
+  -- no value meets it
+  pub none_where : (Meets : X → Type 0) (old : List ℕ) → ((q : ℕ) (x : X) → get table q ≡ Some x → Meets x → ⊥) → Appends (HasWhere table Meets) old old
+  none_where Meets old nowhere = record { slots = []; appended = sym (append-nil old); has = λ q x e m. absurd (nowhere q x e m) }
+
+  -- fewer values meet a stronger one
+  pub fewer_where : (Wider Meets : X → Type 0) (old new : List ℕ) → ((q : ℕ) (x : X) → get table q ≡ Some x → Meets x → Wider x)
+      → Appends (HasWhere table Wider) old new → Appends (HasWhere table Meets) old new
+  fewer_where Wider Meets old new t = among (HasWhere table Wider) (HasWhere table Meets) old new (λ xs has q x e m. has q x e (t q x e m))
+
+  -- what meets it meets that of one search or that of another
+  pub either_where : (First Second Meets : X → Type 0) (old now new : List ℕ) → ((q : ℕ) (x : X) → get table q ≡ Some x → Meets x → First x ⊎ Second x)
+      → Appends (HasWhere table First) old now → Appends (HasWhere table Second) now new → Appends (HasWhere table Meets) old new
+  either_where First Second Meets old now new t = both (HasWhere table First) (HasWhere table Second) (HasWhere table Meets) old now new
+      (λ xs ys first second q x e m. elim (t q x e m) as (λ _. has_slot (xs ++ ys) q ≡ true) [
+        | inl f ↦ more_left xs ys q (first q x e f)
+        | inr s ↦ more_right xs ys q (second q x e s)
+      ])
+
 -- the list was empty
 pub from_none : (Has : List ℕ → Type 0) (old new : List ℕ) → old ≡ [] → Appends Has old new → Has new
 from_none Has old new bare a = subst Has (sym (a.appended ∙ ap (λ l. l ++ a.slots) bare)) a.has
-
-pub longer : (Has : List ℕ → Type 0) (old new : List ℕ) → Appends Has old new → length old ≤ length new
-longer Has old new a =
-    let e = ap length a.appended in
-    let len = length-append old a.slots in
-    omega (arith, e, len)
 
 -- what stands behind has all that is sought
 pub behind : (Has : List ℕ → Type 0) (old new : List ℕ) → Appends Has old new → Has (drop (length old) new)

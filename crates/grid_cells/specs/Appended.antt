@@ -21,11 +21,22 @@ pub record Appends (Has : List ℕ → Type 0) (old new : List ℕ) : Type 0 whe
   pub appended : new ≡ old ++ slots
   pub has : Has slots
 
+-- the slots whose values meet a condition are in a list
+abbrev pub HasWhere : {X : Type 0} → FinMap nat_cmp X → (X → Type 0) → List ℕ → Type 0
+HasWhere {X} table Meets slots = (q : ℕ) (x : X) → get table q ≡ Some x → Meets x → has_slot slots q ≡ true
+
 -- the slots of some cells are in a list
 abbrev pub HasCells : FinMap nat_cmp CellKey → (CellKey → Type 0) → List ℕ → Type 0
-HasCells cells IsThere slots = (q : ℕ) (k : CellKey) → get cells q ≡ Some k → IsThere k → has_slot slots q ≡ true
+HasCells cells IsThere = HasWhere cells IsThere
+
+-- a cell of a block is that of a box which meets a query
+pub record IsCrossed (block : CellBlock) (query : Query) (k : CellKey) : Type 0 where
+  pub body : Bounds
+  pub cell : k ≡ cell_of body
+  pub sized : IsSized body
+  pub there : IsInBlock block k
+  pub met : query_meets query body ≡ true
 
 -- the slots in a block's cells whose boxes meet a query are in a list
 abbrev pub HasCrossed : FinMap nat_cmp CellKey → CellBlock → Query → List ℕ → Type 0
-HasCrossed cells block query slots =
-    (q : ℕ) (b : Bounds) → get cells q ≡ Some (cell_of b) → IsSized b → IsInBlock block (cell_of b) → query_meets query b ≡ true → has_slot slots q ≡ true
+HasCrossed cells block query = HasWhere cells (IsCrossed block query)

@@ -1,14 +1,12 @@
 -- Serves proofs alone: what a walk looks into row by row is all of its cells.
-use Rattle.std.proofs.Common.{◌≡◌, ◌⊎◌, inl, inr, ℕ, true, List, [], ◌∷◌, ◌++◌, refl, subst}
+use Rattle.std.proofs.Common.{◌≡◌, ◌⊎◌, inl, inr, ℕ, List, [], ◌∷◌, ◌++◌, subst}
 use Rattle.std.specs.Ordering.{nat_cmp}
 use Rattle.std.specs.FinMap.{FinMap}
-use Rattle.broad_index.specs.Members.{has_slot}
 use Rattle.cell_table.specs.declared.cell_key.CellKey.{CellKey}
 use Rattle.grid_cells.specs.declared.cell_row.CellRow.{CellRow}
 use Rattle.grid_cells.specs.Appended.{Appends, HasCells, Stays}
-use Rattle.grid_cells.specs.AppendLaws.{among, begins, both, none, stays_on}
+use Rattle.grid_cells.specs.AppendLaws.{begins, either_where, fewer_where, none_where, stays_on}
 use Rattle.grid_cells.specs.Cells.{IsInRow}
-use Rattle.grid_cells.specs.SlotLaws.{more_left, more_right}
 use Rattle.grid_cells.specs.Walks.{Covers, IsInOne}
 
 -- ---- rows
@@ -66,17 +64,14 @@ module _ {T : Type 0} (searched : List CellRow → T → T → Type 0) where
 -- ---- slots that are appended row by row
 pub slots_nowhere : (table : FinMap nat_cmp CellKey) (old : List ℕ) → Appends (HasCells table (IsInOne [])) old old
 unfolding IsInOne
-slots_nowhere table old = none (HasCells table (IsInOne [])) old old refl (λ q k e at. absurd at)
+slots_nowhere table old = none_where table (IsInOne []) old (λ q k e at. at)
 
 -- the table is the same for both looks
 pub slots_twice : (table after : FinMap nat_cmp CellKey) (xs ys : List CellRow) (old now new : List ℕ) → after ≡ table
     → Appends (HasCells table (IsInOne xs)) old now → Appends (HasCells after (IsInOne ys)) now new → Appends (HasCells table (IsInOne (xs ++ ys))) old new
-slots_twice table after xs ys old now new same first second = both (HasCells table (IsInOne xs)) (HasCells table (IsInOne ys))
-    (HasCells table (IsInOne (xs ++ ys))) old now new
-    (λ ns ms here there q k e at. elim (in_either xs ys k at) as (λ _. has_slot (ns ++ ms) q ≡ true) [
-      | inl f ↦ more_left ns ms q (here q k e f)
-      | inr s ↦ more_right ns ms q (there q k e s)
-    ]) first (subst (λ t. Appends (HasCells t (IsInOne ys)) now new) same second)
+slots_twice table after xs ys old now new same first second =
+    either_where table (IsInOne xs) (IsInOne ys) (IsInOne (xs ++ ys)) old now new (λ q k e at. in_either xs ys k at)
+    first (subst (λ t. Appends (HasCells t (IsInOne ys)) now new) same second)
 
 pub slots_stay : (Has : List ℕ → Type 0) (old now new : List ℕ) → Appends Has old now → Stays now new → Stays old new
 slots_stay Has old now new first = stays_on old now new (begins Has old now first)
@@ -84,14 +79,5 @@ slots_stay Has old now new first = stays_on old now new (begins Has old now firs
 pub slots_in_row : (table : FinMap nat_cmp CellKey) (row : CellRow) (old new : List ℕ) → Appends (HasCells table (IsInRow row)) old new
     → Appends (HasCells table (IsInOne (row ∷ []))) old new
 unfolding IsInOne
-slots_in_row table row old new = among (HasCells table (IsInRow row)) (HasCells table (IsInOne (row ∷ []))) old new
-    (λ slots all q k e at. elim at as (λ _. has_slot slots q ≡ true) [
-      | inl here ↦ all q k e here
-      | inr nowhere ↦ absurd nowhere
-    ])
-
--- what is in all rows of a walk
-pub slots_covered : (table : FinMap nat_cmp CellKey) (rows : List CellRow) (IsThere : CellKey → Type 0) (old new : List ℕ)
-    → ((k : CellKey) → IsThere k → IsInOne rows k) → Appends (HasCells table (IsInOne rows)) old new → Appends (HasCells table IsThere) old new
-slots_covered table rows IsThere old new all = among (HasCells table (IsInOne rows)) (HasCells table IsThere) old new
-    (λ slots has q k e at. has q k e (all k at))
+slots_in_row table row old new = fewer_where table (IsInRow row) (IsInOne (row ∷ [])) old new
+    (λ q k e at. elim at as (λ _. IsInRow row k) [ inl here ↦ here | inr nowhere ↦ absurd nowhere ])

@@ -1,8 +1,7 @@
 //! Which cell a box lies in, by its level and its lower corner.
 
-ghost use Rattle.std.specs.Prelude.{◌≡◌, ℤ, pos, negsuc, neg_ℤ, ◌+ℤ◌, ◌*ℤ◌, ◌<◌, ◌≤ℤ◌, ◌<ℤ◌, IsTrue};
-ghost use Rattle.fixed_box.specs.Bounds.{cell_side, encloses};
-ghost use Rattle.fixed_box.specs.Space.{space};
+ghost use Rattle.std.specs.Prelude.{◌≡◌, ℤ, pos, negsuc, neg_ℤ, ◌+ℤ◌, ◌*ℤ◌, ◌<◌, ◌≤ℤ◌, ◌<ℤ◌};
+ghost use Rattle.fixed_box.specs.Bounds.{cell_side};
 ghost use Rattle.grid_cells.specs.Cells.{cell_at, cell_of, cell_on};
 ghost use Rattle.grid_cells.specs.Sized.{IsSized};
 ghost use Rattle.grid_cells.specs.Cells.{standing_cell};
@@ -14,6 +13,7 @@ use fixed_box::{FBox, Fix, Point, space_law};
 pub const FARTHEST_CELL: i32 = 1 << 19;
 
 /// The level and the cell of a box.
+#[tactic(auto, using(crate::proofs::CornerLemmas::inside_space))]
 pub fn cell_of(body: &FBox) -> CellKey
     ensures value { result ≡ cell_of body.now }
     ensures level { result.level < LEVELS }
@@ -21,9 +21,9 @@ pub fn cell_of(body: &FBox) -> CellKey
     ensures sized { IsSized body.now }
 {
     space_law(body);
-    inside_law(body);
-    let level = body.level();
-    cell_on(level, &body.lo())
+    // that both corners lie in space is known where both are read
+    let (lo, _hi) = (body.lo(), body.hi());
+    cell_on(body.level(), &lo)
 }
 
 /// The cell of a level that a box's lower corner lies in.
@@ -70,28 +70,6 @@ pub(crate) fn cell_at(level: u8, x: Fix) -> i32
     // a shift rounds down, below 0 too
     (i64::from(x) >> (12 + 2 * level)) as i32
 }
-
-// A law for proofs, with nothing to run: a box has its corners in space, both on each side.
-fn inside_law(body: &FBox)
-    ensures { IsTrue (encloses space body.now) }
-{
-    let lo = body.lo();
-    let hi = body.hi();
-    low_law(lo.x);
-    low_law(lo.y);
-    low_law(lo.z);
-    high_law(hi.x);
-    high_law(hi.y);
-    high_law(hi.z);
-}
-
-fn low_law(x: Fix)
-    ensures { negsuc 2147483647 ≤ℤ x }
-{}
-
-fn high_law(x: Fix)
-    ensures { x ≤ℤ pos 2147483647 }
-{}
 
 /// Where the boxes begin that lie in a cell of a level or in a later one on an axis, as far as 32 bits go.
 pub(crate) fn low_face(level: u8, cell: i32) -> Fix

@@ -1,5 +1,5 @@
 -- A cell at this x, or one at an earlier x.
-use Rattle.std.proofs.Common.{◌≡◌, ap, sym, ◌∙◌, ◌⊎◌, subst, inl, inr, arith, w32, to_z}
+use Rattle.std.proofs.Common.{ap, sym, ◌∙◌, ◌⊎◌, subst, inl, inr, arith, w32, to_z}
 use Rattle.std.proofs.lemmas.Int.{ints}
 use Rattle.cell_table.specs.declared.cell_key.CellKey.{CellKey}
 use Rattle.fixed_box.proofs.Numbers.{int_next}

@@ -1,11 +1,10 @@
 -- A cell in the row, in the plane or in the block.
-use Rattle.std.proofs.Common.{◌≡◌, ap, sym, ◌∙◌, ◌⊎◌, inl, inr, w32, SFits, rules}
+use Rattle.std.proofs.Common.{ap, sym, ◌∙◌, ◌⊎◌, inl, inr, w32, SFits, rules}
 use Rattle.std.proofs.Math.Facts.{to_z-of_z}
 use Rattle.std.proofs.lemmas.Result.{on_err_weaker, on_ok_weaker}
-use Rattle.grid_cells.specs.Cells.{IsAmong, IsInBlock, IsInPlane, IsInRow}
+use Rattle.grid_cells.specs.Cells.{IsInBlock, IsInPlane, IsInRow}
 use Rattle.grid_cells.specs.AppendLaws.{anyway}
 use Rattle.grid_cells.specs.WalkLaws.{covers_both, covers_row}
-use Rattle.grid_cells.specs.Walks.{Covers}
 use Rattle.grid_cells.proofs.cell_walk.search_later.Goals as goal
 
 pub returns-clause-ok : goal.returns-clause-ok

@@ -1,5 +1,5 @@
 -- A cell of this row, or one of an earlier row.
-use Rattle.std.proofs.Common.{◌≡◌, ap, ◌∙◌, ◌⊎◌, inl, inr, arith, w32, to_z}
+use Rattle.std.proofs.Common.{ap, ◌∙◌, ◌⊎◌, inl, inr, arith, w32, to_z}
 use Rattle.std.proofs.lemmas.Int.{ints}
 use Rattle.fixed_box.proofs.Numbers.{int_next}
 use Rattle.grid_cells.specs.Cells.{IsInPlane, IsInRow}
