@@ -1,12 +1,14 @@
 -- A box cut in two at a place on an axis: what lies in it meets the one part, or lies in the other.
-use Rattle.std.proofs.Common.{◌≡◌, ℤ, pos, ◌+ℤ◌, ◌-ℤ◌, ◌≤ℤ◌, Bool, true, false, ◌&&◌, int_le, refl, sym, ap, ◌∙◌, arith, inl, inr}
+use Rattle.std.proofs.Common.{◌≡◌, ℤ, pos, ◌+ℤ◌, ◌-ℤ◌, ◌≤ℤ◌, Bool, true, false, ◌&&◌, int_le, refl, sym, ap, ◌∙◌, arith}
 use Rattle.std.proofs.lemmas.Int.{ints}
-use Rattle.std.proofs.lemmas.Bool.{cases_Bool, and_parts, and_from, true≢false}
+use Rattle.std.proofs.lemmas.Bool.{and_parts, and_from, true≢false}
 use Rattle.fixed_box.specs.declared.point.Point.{Point}
 use Rattle.fixed_box.specs.Point.{is_at_most}
 use Rattle.fixed_box.specs.Bounds.{Bounds, encloses, meets}
 use Rattle.fixed_box.proofs.Corners.{axes, all_three, at_most_chain}
-use Rattle.hier_grid.specs.Visits.{IsCutInTwo}
+use Rattle.grid_cells.specs.declared.block_cut.CutAxis.{CutAxis}
+use Rattle.grid_cells.specs.declared.block_cut.CutAxis.TheVariants.{X, Y, Z}
+use Rattle.hier_grid.specs.Visits.{IsCutInTwo, coordinate, with_coordinate}
 
 same_le : (x : ℤ) → int_le x x ≡ true
 same_le x = grind (arith, ints)
@@ -62,107 +64,57 @@ down_cut lo hi end from near left n l in_it other = record {
     not_second true b t f = f
     not_second false b t f = absurd (true≢false (sym t))
 
--- ---- on x
-pub cut_up_x : (lo hi end from : Point) (at : ℤ) (near left : Bounds) → lo.x ≤ℤ at → end ≡ record hi { x = at } → from ≡ record lo { x = at +ℤ pos 1 }
+-- ---- a corner at another place on an axis
+from_place : (axis : CutAxis) (lo p : Point) (at : ℤ) → is_at_most lo p ≡ true → int_le at (coordinate axis p) ≡ true → is_at_most (with_coordinate axis lo at) p ≡ true
+from_place X lo p at o l = let q = axes lo p o in all_three (record lo { x = at }) p l q.y q.z
+from_place Y lo p at o l = let q = axes lo p o in all_three (record lo { y = at }) p q.x l q.z
+from_place Z lo p at o l = let q = axes lo p o in all_three (record lo { z = at }) p q.x q.y l
+
+to_place : (axis : CutAxis) (p hi : Point) (at : ℤ) → is_at_most p hi ≡ true → int_le (coordinate axis p) at ≡ true → is_at_most p (with_coordinate axis hi at) ≡ true
+to_place X p hi at o l = let q = axes p hi o in all_three p (record hi { x = at }) l q.y q.z
+to_place Y p hi at o l = let q = axes p hi o in all_three p (record hi { y = at }) q.x l q.z
+to_place Z p hi at o l = let q = axes p hi o in all_three p (record hi { z = at }) q.x q.y l
+
+same_most : (p : Point) → is_at_most p p ≡ true
+same_most p = all_three p p (same_le p.x) (same_le p.y) (same_le p.z)
+
+unless : (a : Bool) → (a ≡ true → ⊥) → a ≡ false
+unless true h = absurd (h refl)
+unless false h = refl
+
+-- where a point isn't behind a place on an axis
+not_from : (axis : CutAxis) (lo p : Point) (at : ℤ) → is_at_most lo p ≡ true → is_at_most (with_coordinate axis lo at) p ≡ false
+    → int_le at (coordinate axis p) ≡ false
+not_from axis lo p at o out =
+    unless (int_le at (coordinate axis p)) (λ t. true≢false (sym (from_place axis lo p at o t) ∙ out))
+
+not_to : (axis : CutAxis) (p hi : Point) (at : ℤ) → is_at_most p hi ≡ true → is_at_most p (with_coordinate axis hi at) ≡ false
+    → int_le (coordinate axis p) at ≡ false
+not_to axis p hi at o out =
+    unless (int_le (coordinate axis p) at) (λ t. true≢false (sym (to_place axis p hi at o t) ∙ out))
+
+pub cut_up : (axis : CutAxis) (lo hi end from : Point) (at : ℤ) (near left : Bounds) → coordinate axis lo ≤ℤ at
+    → end ≡ with_coordinate axis hi at → from ≡ with_coordinate axis lo (at +ℤ pos 1)
     → near ≡ record { lo = lo; hi = end } → left ≡ record { lo = from; hi = hi } → IsCutInTwo (record { lo = lo; hi = hi }) (near, left)
-cut_up_x lo hi end from at near left l e f n m =
+cut_up axis lo hi end from at near left l e f n m =
     up_cut lo hi end from near left n m
-    (ap (is_at_most lo) f ∙ all_three lo (record lo { x = at +ℤ pos 1 }) (le_after at lo.x l) (same_le lo.y) (same_le lo.z))
+    (ap (is_at_most lo) f ∙ up_from axis lo at l)
     (λ p above below out.
-    let q = axes lo p above in
-    let r = axes p hi below in
-    ap (is_at_most p) e ∙ all_three p (record hi { x = at }) (le_next at p.x (cut lo p at q.x q.y q.z (sym (ap (λ (s : Point). is_at_most s p) f) ∙ out))) r.y r.z)
+    ap (is_at_most p) e ∙ to_place axis p hi at below (le_next at (coordinate axis p)
+    (not_from axis lo p (at +ℤ pos 1) above (sym (ap (λ (s : Point). is_at_most s p) f) ∙ out))))
   where
-    cut : (lo p : Point) (at : ℤ) → int_le lo.x p.x ≡ true → int_le lo.y p.y ≡ true → int_le lo.z p.z ≡ true
-        → is_at_most (record lo { x = at +ℤ pos 1 }) p ≡ false → int_le (at +ℤ pos 1) p.x ≡ false
-    cut lo p at x y z out = elim (cases_Bool (int_le (at +ℤ pos 1) p.x)) as (λ _. int_le (at +ℤ pos 1) p.x ≡ false) [
-      | inl t ↦ absurd (true≢false (sym (all_three (record lo { x = at +ℤ pos 1 }) p (t) y z) ∙ out))
-      | inr f ↦ f
-    ]
+    up_from : (axis : CutAxis) (lo : Point) (at : ℤ) → coordinate axis lo ≤ℤ at → is_at_most lo (with_coordinate axis lo (at +ℤ pos 1)) ≡ true
+    up_from axis lo at l = to_place axis lo lo (at +ℤ pos 1) (same_most lo) (le_after at (coordinate axis lo) l)
 
-pub cut_down_x : (lo hi end from : Point) (at : ℤ) (near left : Bounds) → at ≤ℤ hi.x → from ≡ record lo { x = at } → end ≡ record hi { x = at -ℤ pos 1 }
+pub cut_down : (axis : CutAxis) (lo hi end from : Point) (at : ℤ) (near left : Bounds) → at ≤ℤ coordinate axis hi
+    → from ≡ with_coordinate axis lo at → end ≡ with_coordinate axis hi (at -ℤ pos 1)
     → near ≡ record { lo = from; hi = hi } → left ≡ record { lo = lo; hi = end } → IsCutInTwo (record { lo = lo; hi = hi }) (near, left)
-cut_down_x lo hi end from at near left l e f n m =
+cut_down axis lo hi end from at near left l e f n m =
     down_cut lo hi end from near left n m
-    (ap (λ (s : Point). is_at_most s hi) f ∙ all_three (record hi { x = at -ℤ pos 1 }) hi (le_less at hi.x l) (same_le hi.y) (same_le hi.z))
+    (ap (λ (s : Point). is_at_most s hi) f ∙ down_to axis hi at l)
     (λ p above below out.
-    let q = axes lo p above in
-    let r = axes p hi below in
-    ap (λ (s : Point). is_at_most s p) e ∙ all_three (record lo { x = at }) p (le_before at p.x (cut hi p at r.x r.y r.z (sym (ap (is_at_most p) f) ∙ out))) q.y q.z)
+    ap (λ (s : Point). is_at_most s p) e ∙ from_place axis lo p at above (le_before at (coordinate axis p)
+    (not_to axis p hi (at -ℤ pos 1) below (sym (ap (is_at_most p) f) ∙ out))))
   where
-    cut : (hi p : Point) (at : ℤ) → int_le p.x hi.x ≡ true → int_le p.y hi.y ≡ true → int_le p.z hi.z ≡ true
-        → is_at_most p (record hi { x = at -ℤ pos 1 }) ≡ false → int_le p.x (at -ℤ pos 1) ≡ false
-    cut hi p at x y z out = elim (cases_Bool (int_le p.x (at -ℤ pos 1))) as (λ _. int_le p.x (at -ℤ pos 1) ≡ false) [
-      | inl t ↦ absurd (true≢false (sym (all_three p (record hi { x = at -ℤ pos 1 }) (t) y z) ∙ out))
-      | inr f ↦ f
-    ]
-
--- ---- on y
-pub cut_up_y : (lo hi end from : Point) (at : ℤ) (near left : Bounds) → lo.y ≤ℤ at → end ≡ record hi { y = at } → from ≡ record lo { y = at +ℤ pos 1 }
-    → near ≡ record { lo = lo; hi = end } → left ≡ record { lo = from; hi = hi } → IsCutInTwo (record { lo = lo; hi = hi }) (near, left)
-cut_up_y lo hi end from at near left l e f n m =
-    up_cut lo hi end from near left n m
-    (ap (is_at_most lo) f ∙ all_three lo (record lo { y = at +ℤ pos 1 }) (same_le lo.x) (le_after at lo.y l) (same_le lo.z))
-    (λ p above below out.
-    let q = axes lo p above in
-    let r = axes p hi below in
-    ap (is_at_most p) e ∙ all_three p (record hi { y = at }) r.x (le_next at p.y (cut lo p at q.x q.y q.z (sym (ap (λ (s : Point). is_at_most s p) f) ∙ out))) r.z)
-  where
-    cut : (lo p : Point) (at : ℤ) → int_le lo.x p.x ≡ true → int_le lo.y p.y ≡ true → int_le lo.z p.z ≡ true
-        → is_at_most (record lo { y = at +ℤ pos 1 }) p ≡ false → int_le (at +ℤ pos 1) p.y ≡ false
-    cut lo p at x y z out = elim (cases_Bool (int_le (at +ℤ pos 1) p.y)) as (λ _. int_le (at +ℤ pos 1) p.y ≡ false) [
-      | inl t ↦ absurd (true≢false (sym (all_three (record lo { y = at +ℤ pos 1 }) p x (t) z) ∙ out))
-      | inr f ↦ f
-    ]
-
-pub cut_down_y : (lo hi end from : Point) (at : ℤ) (near left : Bounds) → at ≤ℤ hi.y → from ≡ record lo { y = at } → end ≡ record hi { y = at -ℤ pos 1 }
-    → near ≡ record { lo = from; hi = hi } → left ≡ record { lo = lo; hi = end } → IsCutInTwo (record { lo = lo; hi = hi }) (near, left)
-cut_down_y lo hi end from at near left l e f n m =
-    down_cut lo hi end from near left n m
-    (ap (λ (s : Point). is_at_most s hi) f ∙ all_three (record hi { y = at -ℤ pos 1 }) hi (same_le hi.x) (le_less at hi.y l) (same_le hi.z))
-    (λ p above below out.
-    let q = axes lo p above in
-    let r = axes p hi below in
-    ap (λ (s : Point). is_at_most s p) e ∙ all_three (record lo { y = at }) p q.x (le_before at p.y (cut hi p at r.x r.y r.z (sym (ap (is_at_most p) f) ∙ out))) q.z)
-  where
-    cut : (hi p : Point) (at : ℤ) → int_le p.x hi.x ≡ true → int_le p.y hi.y ≡ true → int_le p.z hi.z ≡ true
-        → is_at_most p (record hi { y = at -ℤ pos 1 }) ≡ false → int_le p.y (at -ℤ pos 1) ≡ false
-    cut hi p at x y z out = elim (cases_Bool (int_le p.y (at -ℤ pos 1))) as (λ _. int_le p.y (at -ℤ pos 1) ≡ false) [
-      | inl t ↦ absurd (true≢false (sym (all_three p (record hi { y = at -ℤ pos 1 }) x (t) z) ∙ out))
-      | inr f ↦ f
-    ]
-
--- ---- on z
-pub cut_up_z : (lo hi end from : Point) (at : ℤ) (near left : Bounds) → lo.z ≤ℤ at → end ≡ record hi { z = at } → from ≡ record lo { z = at +ℤ pos 1 }
-    → near ≡ record { lo = lo; hi = end } → left ≡ record { lo = from; hi = hi } → IsCutInTwo (record { lo = lo; hi = hi }) (near, left)
-cut_up_z lo hi end from at near left l e f n m =
-    up_cut lo hi end from near left n m
-    (ap (is_at_most lo) f ∙ all_three lo (record lo { z = at +ℤ pos 1 }) (same_le lo.x) (same_le lo.y) (le_after at lo.z l))
-    (λ p above below out.
-    let q = axes lo p above in
-    let r = axes p hi below in
-    ap (is_at_most p) e ∙ all_three p (record hi { z = at }) r.x r.y (le_next at p.z (cut lo p at q.x q.y q.z (sym (ap (λ (s : Point). is_at_most s p) f) ∙ out))))
-  where
-    cut : (lo p : Point) (at : ℤ) → int_le lo.x p.x ≡ true → int_le lo.y p.y ≡ true → int_le lo.z p.z ≡ true
-        → is_at_most (record lo { z = at +ℤ pos 1 }) p ≡ false → int_le (at +ℤ pos 1) p.z ≡ false
-    cut lo p at x y z out = elim (cases_Bool (int_le (at +ℤ pos 1) p.z)) as (λ _. int_le (at +ℤ pos 1) p.z ≡ false) [
-      | inl t ↦ absurd (true≢false (sym (all_three (record lo { z = at +ℤ pos 1 }) p x y (t)) ∙ out))
-      | inr f ↦ f
-    ]
-
-pub cut_down_z : (lo hi end from : Point) (at : ℤ) (near left : Bounds) → at ≤ℤ hi.z → from ≡ record lo { z = at } → end ≡ record hi { z = at -ℤ pos 1 }
-    → near ≡ record { lo = from; hi = hi } → left ≡ record { lo = lo; hi = end } → IsCutInTwo (record { lo = lo; hi = hi }) (near, left)
-cut_down_z lo hi end from at near left l e f n m =
-    down_cut lo hi end from near left n m
-    (ap (λ (s : Point). is_at_most s hi) f ∙ all_three (record hi { z = at -ℤ pos 1 }) hi (same_le hi.x) (same_le hi.y) (le_less at hi.z l))
-    (λ p above below out.
-    let q = axes lo p above in
-    let r = axes p hi below in
-    ap (λ (s : Point). is_at_most s p) e ∙ all_three (record lo { z = at }) p q.x q.y (le_before at p.z (cut hi p at r.x r.y r.z (sym (ap (is_at_most p) f) ∙ out))))
-  where
-    cut : (hi p : Point) (at : ℤ) → int_le p.x hi.x ≡ true → int_le p.y hi.y ≡ true → int_le p.z hi.z ≡ true
-        → is_at_most p (record hi { z = at -ℤ pos 1 }) ≡ false → int_le p.z (at -ℤ pos 1) ≡ false
-    cut hi p at x y z out = elim (cases_Bool (int_le p.z (at -ℤ pos 1))) as (λ _. int_le p.z (at -ℤ pos 1) ≡ false) [
-      | inl t ↦ absurd (true≢false (sym (all_three p (record hi { z = at -ℤ pos 1 }) x y (t)) ∙ out))
-      | inr f ↦ f
-    ]
+    down_to : (axis : CutAxis) (hi : Point) (at : ℤ) → at ≤ℤ coordinate axis hi → is_at_most (with_coordinate axis hi (at -ℤ pos 1)) hi ≡ true
+    down_to axis hi at l = from_place axis hi hi (at -ℤ pos 1) (same_most hi) (le_less at (coordinate axis hi) l)

@@ -19,7 +19,7 @@ use Rattle.grid_cells.specs.SlotLaws.{all_among}
 hit_at : (bodies : FinMap nat_cmp Bounds) (query : Query) (slots : List ℕ) → HasHitsBelow bodies 11 query slots
     → (q : ℕ) (o : Option Bounds) → get bodies q ≡ o → meets_query query o ≡ true → has_slot slots q ≡ true
 hit_at bodies query slots h q None e t = absurd (false≢true t)
-hit_at bodies query slots h q (Some b) e t = h q b e (low_level b) t
+hit_at bodies query slots h q (Some b) e t = h q b e (low_level b, t)
 
 -- what is found among slots that have all whose boxes meet a query
 pub hits_among : (bodies : FinMap nat_cmp Bounds) (query : Query) (slots : List ℕ) → HasHitsBelow bodies 11 query slots
@@ -29,7 +29,7 @@ hits_among bodies query slots h = all_among (is_found bodies query) slots (λ q 
 partner_at : (bodies : FinMap nat_cmp Bounds) (body : Bounds) (slots : List ℕ) → HasMetIn bodies 0 11 body slots
     → (q : ℕ) (o : Option Bounds) → get bodies q ≡ o → both_meet (Some body) o ≡ true → has_slot slots q ≡ true
 partner_at bodies body slots h q None e t = absurd (false≢true t)
-partner_at bodies body slots h q (Some b) e t = h q b e (omega arith) (low_level b) t
+partner_at bodies body slots h q (Some b) e t = h q b e (low_level b, (omega arith, t))
 
 -- a slot reaches its partners, whichever their slots
 pub reach_among : (bodies : FinMap nat_cmp Bounds) (slot : ℕ) (body : Bounds) (slots : List ℕ) → get bodies slot ≡ Some body → HasMetIn bodies 0 11 body slots

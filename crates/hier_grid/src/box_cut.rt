@@ -1,7 +1,7 @@
 //! A box cut in two on the way of a line.
 
 ghost use Rattle.std.specs.Prelude.{◌≡◌, ◌<ℤ◌, ◌+ℤ◌, ◌-ℤ◌, pos, negsuc, IfSome};
-ghost use Rattle.hier_grid.specs.Visits.{IsCutInTwo};
+ghost use Rattle.hier_grid.specs.Visits.{IsCutInTwo, coordinate, with_coordinate};
 
 use fixed_box::{FBox, Fix, Point};
 use grid_cells::{CutAxis, PathPlace};
@@ -11,119 +11,61 @@ use grid_cells::{CutAxis, PathPlace};
 pub(crate) fn cut_at(body: &FBox, place: &PathPlace) -> Option<(FBox, FBox)>
     ensures { IfSome result (IsCutInTwo body.now) }
 {
-    match (place.axis, place.upward) {
-        (CutAxis::X, true) => cut_up_x(body, place.at),
-        (CutAxis::X, false) => cut_down_x(body, place.at),
-        (CutAxis::Y, true) => cut_up_y(body, place.at),
-        (CutAxis::Y, false) => cut_down_y(body, place.at),
-        (CutAxis::Z, true) => cut_up_z(body, place.at),
-        (CutAxis::Z, false) => cut_down_z(body, place.at),
+    if place.upward {
+        cut_up(body, place.axis, place.at)
+    } else {
+        cut_down(body, place.axis, place.at)
     }
 }
 
-// What lies up to a place on x, and what lies behind it.
-fn cut_up_x(body: &FBox, at: Fix) -> Option<(FBox, FBox)>
+// What lies up to a place on an axis, and what lies behind it.
+fn cut_up(body: &FBox, axis: CutAxis, at: Fix) -> Option<(FBox, FBox)>
     ensures { IfSome result (IsCutInTwo body.now) }
 {
     let lo = body.lo();
     let hi = body.hi();
-    if at < lo.x || hi.x <= at {
+    if at < coordinate(axis, &lo) || coordinate(axis, &hi) <= at {
         return None;
     }
-    let near = FBox::new(lo, with_x(&hi, at))?;
-    let left = FBox::new(with_x(&lo, after(at)), hi)?;
+    let near = FBox::new(lo, with_coordinate(axis, &hi, at))?;
+    let left = FBox::new(with_coordinate(axis, &lo, after(at)), hi)?;
     Some((near, left))
 }
 
-// What lies from a place on x on, and what lies before it.
-fn cut_down_x(body: &FBox, at: Fix) -> Option<(FBox, FBox)>
+// What lies from a place on an axis on, and what lies before it.
+fn cut_down(body: &FBox, axis: CutAxis, at: Fix) -> Option<(FBox, FBox)>
     ensures { IfSome result (IsCutInTwo body.now) }
 {
     let lo = body.lo();
     let hi = body.hi();
-    if at <= lo.x || hi.x < at {
+    if at <= coordinate(axis, &lo) || coordinate(axis, &hi) < at {
         return None;
     }
-    let near = FBox::new(with_x(&lo, at), hi)?;
-    let left = FBox::new(lo, with_x(&hi, before(at)))?;
+    let near = FBox::new(with_coordinate(axis, &lo, at), hi)?;
+    let left = FBox::new(lo, with_coordinate(axis, &hi, before(at)))?;
     Some((near, left))
 }
 
-// A point with another x.
-fn with_x(point: &Point, x: Fix) -> Point
-    ensures { result ≡ record point.now { x = x } }
+// Where a point is on an axis.
+fn coordinate(axis: CutAxis, point: &Point) -> Fix
+    ensures { result ≡ coordinate axis point.now }
 {
-    Point { x, ..*point }
-}
-
-// What lies up to a place on y, and what lies behind it.
-fn cut_up_y(body: &FBox, at: Fix) -> Option<(FBox, FBox)>
-    ensures { IfSome result (IsCutInTwo body.now) }
-{
-    let lo = body.lo();
-    let hi = body.hi();
-    if at < lo.y || hi.y <= at {
-        return None;
+    match axis {
+        CutAxis::X => point.x,
+        CutAxis::Y => point.y,
+        CutAxis::Z => point.z,
     }
-    let near = FBox::new(lo, with_y(&hi, at))?;
-    let left = FBox::new(with_y(&lo, after(at)), hi)?;
-    Some((near, left))
 }
 
-// What lies from a place on y on, and what lies before it.
-fn cut_down_y(body: &FBox, at: Fix) -> Option<(FBox, FBox)>
-    ensures { IfSome result (IsCutInTwo body.now) }
+// A point with another place on an axis.
+fn with_coordinate(axis: CutAxis, point: &Point, at: Fix) -> Point
+    ensures { result ≡ with_coordinate axis point.now at }
 {
-    let lo = body.lo();
-    let hi = body.hi();
-    if at <= lo.y || hi.y < at {
-        return None;
+    match axis {
+        CutAxis::X => Point { x: at, ..*point },
+        CutAxis::Y => Point { y: at, ..*point },
+        CutAxis::Z => Point { z: at, ..*point },
     }
-    let near = FBox::new(with_y(&lo, at), hi)?;
-    let left = FBox::new(lo, with_y(&hi, before(at)))?;
-    Some((near, left))
-}
-
-// A point with another y.
-fn with_y(point: &Point, y: Fix) -> Point
-    ensures { result ≡ record point.now { y = y } }
-{
-    Point { y, ..*point }
-}
-
-// What lies up to a place on z, and what lies behind it.
-fn cut_up_z(body: &FBox, at: Fix) -> Option<(FBox, FBox)>
-    ensures { IfSome result (IsCutInTwo body.now) }
-{
-    let lo = body.lo();
-    let hi = body.hi();
-    if at < lo.z || hi.z <= at {
-        return None;
-    }
-    let near = FBox::new(lo, with_z(&hi, at))?;
-    let left = FBox::new(with_z(&lo, after(at)), hi)?;
-    Some((near, left))
-}
-
-// What lies from a place on z on, and what lies before it.
-fn cut_down_z(body: &FBox, at: Fix) -> Option<(FBox, FBox)>
-    ensures { IfSome result (IsCutInTwo body.now) }
-{
-    let lo = body.lo();
-    let hi = body.hi();
-    if at <= lo.z || hi.z < at {
-        return None;
-    }
-    let near = FBox::new(with_z(&lo, at), hi)?;
-    let left = FBox::new(lo, with_z(&hi, before(at)))?;
-    Some((near, left))
-}
-
-// A point with another z.
-fn with_z(point: &Point, z: Fix) -> Point
-    ensures { result ≡ record point.now { z = z } }
-{
-    Point { z, ..*point }
 }
 
 // The next coordinate.

@@ -1,14 +1,10 @@
 //! Where a visitor of a grid is shown boxes first.
 
-ghost use Rattle.std.specs.Prelude.{◌≡◌, ℕ, Some, IsTrue};
-ghost use Rattle.std.specs.FinMap as map;
-ghost use Rattle.fixed_box.specs.Bounds.{Bounds, encloses};
-ghost use Rattle.fixed_box.specs.Space.{space};
-
 use broad_index::Visitor;
 use cell_table::LEVELS;
 use fixed_box::{FBox, Fix, Point};
 use grid_boxes::GridBoxes;
+use grid_cells::count_beside;
 
 // So often a hull is halved at most: by 2^32 on each axis.
 const MOST_HALVINGS: u32 = 96;
@@ -29,6 +25,12 @@ pub(crate) fn preferred_ring<V: Visitor>(
         place = preferred_half(&place, visitor);
     }
     (place.fatten(margin), margin)
+}
+
+/// Whether the level with most boxes has more of them than cells in a hull. It is for speed alone.
+pub(crate) fn is_crowded(kept: &GridBoxes, hull: &FBox) -> bool {
+    let level = fullest_level(kept);
+    level < LEVELS && kept.level_len(level) as u64 > count_beside(level, hull)
 }
 
 // The level with most boxes.
@@ -87,32 +89,4 @@ fn halves(body: &FBox) -> Option<(FBox, FBox)> {
 // About the middle of two coordinates.
 fn middle(lo: Fix, hi: Fix) -> Fix {
     (lo >> 1).wrapping_add(hi >> 1)
-}
-
-/// A box in which all boxes lie.
-pub(crate) fn hull_of(kept: &GridBoxes) -> FBox
-    ensures { (slot : ℕ) (b : Bounds) → map.get kept.now slot ≡ Some b → IsTrue (encloses result b) }
-{
-    match kept.hull() {
-        Some(hull) => hull,
-        // there is no box
-        None => all_of_space(),
-    }
-}
-
-/// The box that all of space is.
-pub(crate) fn all_of_space() -> FBox
-    ensures { result ≡ space }
-{
-    let lo = Point {
-        x: Fix::MIN,
-        y: Fix::MIN,
-        z: Fix::MIN,
-    };
-    let hi = Point {
-        x: Fix::MAX,
-        y: Fix::MAX,
-        z: Fix::MAX,
-    };
-    FBox::new(lo, hi).unwrap()
 }

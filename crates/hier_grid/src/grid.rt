@@ -232,8 +232,8 @@ impl BroadPhase for HierGrid {
         push_hits(&self.kept, self.listing.heaps(), query, out)
     }
 
-    fn visit<V: Visitor>(&self, alloc: Global, visitor: &mut V) -> Result<(), NoMemory> {
-        show_boxes(self, alloc, visitor)
+    fn visit<V: Visitor>(&self, room: &mut Vec<u32>, visitor: &mut V) -> Result<(), NoMemory> {
+        show_boxes(self, room, visitor)
     }
 
     fn descends(&self) -> bool {

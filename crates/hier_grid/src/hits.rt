@@ -52,18 +52,29 @@ pub(crate) fn push_hits_in(
 {
     match query {
         Query::Region(_) | Query::Spot(_) => kept.push_candidates(region, heaps, &mut 0, out),
-        Query::Swept(cast) => {
-            let path = LinePath::of(query, region);
-            kept.push_along(region, &path, &CastTest::of(cast), out)
-        }
-        Query::Along(_) | Query::Between(_) => {
-            let path = LinePath::of(query, region);
-            match LineTest::of(query) {
-                Some(prepared) => kept.push_along(region, &path, &prepared, out),
-                None => kept.push_along(region, &path, query, out),
-            }
-        }
+        Query::Swept(cast) => push_met_along(kept, region, query, &CastTest::of(cast), out),
+        Query::Along(_) | Query::Between(_) => match LineTest::of(query) {
+            Some(prepared) => push_met_along(kept, region, query, &prepared, out),
+            None => push_met_along(kept, region, query, query, out),
+        },
     }
+}
+
+// The same for a line, and no others: of a level that is scanned most boxes near the region miss the line.
+fn push_met_along<T: BoxTest>(
+    kept: &GridBoxes,
+    region: &FBox,
+    line: &Query,
+    test: &T,
+    out: &mut Vec<u32>,
+) -> Result<(), NoMemory>
+    ensures { OnOk result (Appends (HasHitsIn kept.now LEVELS region.now (T.asks test.now)) out.old.items out.new.items) }
+{
+    let before = out.len();
+    kept.push_along(region, &LinePath::of(line, region), test, out)?;
+    let boxes = kept.boxes();
+    keep_passing(before, out, |slot| is_found(boxes, *slot, test));
+    Ok(())
 }
 
 // The same for a query that is tested against the boxes near its region.

@@ -8,34 +8,36 @@ ghost use Rattle.hier_grid.specs.Visits.{entries_in, in_area};
 
 use crate::area::{Area, keep_area};
 use crate::box_cut::cut_at;
-use crate::first_ring::{all_of_space, hull_of, preferred_ring};
+use crate::first_ring::{is_crowded, preferred_ring};
 use crate::grid::HierGrid;
 use crate::hits::push_hits_in;
 use broad_index::{Query, Visitor, listed_law, show_slots};
 use fixed_box::{FBox, NoMemory, box_laws};
 use grid_boxes::common_part;
 use grid_cells::LinePath;
-use std::alloc::Global;
 
 // So often a ring is widened at most, each time to twice its reach or more: from a cell of the lowest level on that is all of space.
 const MOST_RINGS: u32 = 32;
 
-// Into so many parts the way of a line is cut.
+// Into so many parts the way of a line is cut if it runs through a crowd. Where few boxes are met all of it is looked at at once: a
+// part costs a look at each level.
 const PARTS: u32 = 8;
 
 /// Shows the present boxes to a visitor, except those that need not be shown.
 pub(crate) fn show_boxes<V: Visitor>(
     grid: &HierGrid,
-    alloc: Global,
+    room: &mut Vec<u32>,
     visitor: &mut V,
 ) -> Result<(), NoMemory>
     ensures seen { OnOk result ((seen : List (ℕ × Bounds)) → V.saw visitor.old seen → V.saw visitor.new (seen ++ map.entries grid.now)) }
     ensures kept { OnOk result (V.keeps visitor.old visitor.new) }
 {
-    let mut slots = Vec::new(alloc);
+    let Some(hull) = grid.kept().hull() else {
+        return Ok(());
+    };
     match visitor.query() {
-        Query::Region(_) | Query::Spot(_) => show_rings(grid, &mut slots, visitor),
-        line => show_parts(grid, &line, &mut slots, visitor),
+        Query::Region(_) | Query::Spot(_) => show_rings(grid, &hull, room, visitor),
+        line => show_parts(grid, &hull, &line, room, visitor),
     }
 }
 
@@ -43,18 +45,20 @@ pub(crate) fn show_boxes<V: Visitor>(
 // visitor looks no farther. What it still looks for then is shown at once.
 fn show_rings<V: Visitor>(
     grid: &HierGrid,
+    hull: &FBox,
     slots: &mut Vec<u32>,
     visitor: &mut V,
 ) -> Result<(), NoMemory>
+    requires { (slot : ℕ) (b : Bounds) → map.get grid.now slot ≡ Some b → IsTrue (encloses hull.now b) }
     ensures seen { OnOk result ((seen : List (ℕ × Bounds)) → V.saw visitor.old seen → V.saw visitor.new (seen ++ map.entries grid.now)) }
     ensures kept { OnOk result (V.keeps visitor.old visitor.new) }
 {
     box_laws();
-    let hull = hull_of(grid.kept());
+    grid.kept().sized_law();
     let mut inner = None;
-    let (mut ring, mut margin) = preferred_ring(grid.kept(), &hull, visitor);
+    let (mut ring, mut margin) = preferred_ring(grid.kept(), hull, visitor);
     let mut rings = MOST_RINGS;
-    'rings: while rings > 0 && looks_beyond(&ring, &hull, visitor) {
+    'rings: while rings > 0 && looks_beyond(&ring, hull, visitor) {
         show_area(grid, &Area::Ring { ring, inner }, &ring, slots, visitor)?;
         inner = Some(ring);
         // twice as wide, or four times if there was nothing
@@ -67,8 +71,7 @@ fn show_rings<V: Visitor>(
         margin = margin.saturating_add(by);
         rings -= 1;
     }
-    grid.kept().space_law();
-    show_area(grid, &Area::Rest { inner }, &all_of_space(), slots, visitor)?;
+    show_area(grid, &Area::Rest { inner }, hull, slots, visitor)?;
     Ok(())
 }
 
@@ -80,10 +83,12 @@ fn looks_beyond<V: Visitor>(ring: &FBox, hull: &FBox, visitor: &V) -> bool {
 // The same part by part along the way of a line, until the visitor admits nothing that is left.
 fn show_parts<V: Visitor>(
     grid: &HierGrid,
+    hull: &FBox,
     line: &Query,
     slots: &mut Vec<u32>,
     visitor: &mut V,
 ) -> Result<(), NoMemory>
+    requires { (slot : ℕ) (b : Bounds) → map.get grid.now slot ≡ Some b → IsTrue (encloses hull.now b) }
     ensures seen { OnOk result ((seen : List (ℕ × Bounds)) → V.saw visitor.old seen → V.saw visitor.new (seen ++ map.entries grid.now)) }
     ensures kept { OnOk result (V.keeps visitor.old visitor.new) }
 {
@@ -91,8 +96,12 @@ fn show_parts<V: Visitor>(
     grid.kept().sized_law();
     let region = line.region();
     let path = LinePath::of(line, &grid.kept().part_of(&region).unwrap_or(region));
-    let mut body = hull_of(grid.kept());
-    let mut parts = PARTS;
+    let mut body = *hull;
+    let mut parts = if is_crowded(grid.kept(), hull) {
+        PARTS
+    } else {
+        1
+    };
     'parts: while parts > 1 {
         if !visitor.admits(&body) {
             return Ok(());

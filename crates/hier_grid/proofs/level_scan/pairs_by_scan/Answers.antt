@@ -19,5 +19,5 @@ returns c =
     record {
       sound = among.sound;
       more = among.more;
-      found = λ q b e at m other any. among.found q b e (has q b e at m) m other any;
+      found = λ q b e at m other any. among.found q b e (has q b e (at, m)) m other any;
     }

@@ -23,9 +23,11 @@ returns c =
     (λ xs. (q : ℕ) (b : Bounds) → get kept q ≡ Some b → IsOther cell_of own.body b → meets own.body b ≡ true → has_slot xs q ≡ true)
     _ slots c.clear.ensures.items
     (both _ _ _ _ _ _ (λ xs ys after above q b e o m. elim o as (λ _. has_slot (xs ++ ys) q ≡ true) [
-      | inl higher ↦ more_right xs ys q (above q b e (omega (arith, level, higher)) (c.requires.end.above q b e) m)
-      | inr later ↦ more_left xs ys q (after q b e (later.0 ∙ sym level)
-          (subst (λ n. IsAfter (cell_of b) (cell_on n own.body.lo)) (sym level) later.1) m)
+      | inl higher ↦ more_right xs ys q (above q b e (c.requires.end.above q b e, (omega (arith, level, higher), m)))
+      | inr later ↦ more_left xs ys q (after q b e (
+        later.0 ∙ sym level,
+        (subst (λ n. IsAfter (cell_of b) (cell_on n own.body.lo)) (sym level) later.1, m),
+      ))
     ]) c.in_ok-push_after.ensures c.in_ok-push_from.ensures.ok) in
     record {
       sound = among.sound;

@@ -32,7 +32,7 @@ returns-clause-seen g c seen before =
     let missed = c.query-query.ensures.missed seen (filter (λ e. not (has e)) all) before
     (left_in bodies area has (λ e. query_meets c.query-query.result e.1 ≡ false) (λ e is in_it gone.
     missed_by (query_meets c.query-query.result e.1) (has e) gone
-    (λ t. and_from (has_slot found e.0) (meets region e.1) (whole e.0 e.1 (kept e is) (low_level e.1) (met e is in_it t) t) (met e is in_it t)))) in
+    (λ t. and_from (has_slot found e.0) (meets region e.1) (whole e.0 e.1 (kept e is) (low_level e.1, (met e is in_it t, t))) (met e is in_it t)))) in
     let shown = c.in_ok-show_slots.ensures.seen (seen ++ filter (λ e. not (has e)) all) missed in
     let p : ℕ × Bounds → Bool = λ e. has_slot found e.0 && (meets region e.1 && area e.1) in
     let same : entries_at bodies (listed p bodies) ≡ filter has all =

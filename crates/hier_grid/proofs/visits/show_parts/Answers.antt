@@ -9,8 +9,7 @@ use Rattle.hier_grid.proofs.visits.show_parts.Goals as goal
 
 pub parts-init : goal.parts-init
 parts-init g c = (
-  saw_none c.args.grid.now (g.V.Visitor.saw c.args.visitor.now) (λ b. not (encloses c.hull_of-body.result b))
-      (λ k b e. ap not (c.hull_of-body.ensures k b (ap (λ m. get m k) c.kept-3.ensures ∙ e))),
+  saw_none c.args.grid.now (g.V.Visitor.saw c.args.visitor.now) (λ b. not (encloses c.args.hull.now b)) (λ k b e. ap not (c.requires k b e)),
   g.met.V.Visitor.keeps_itself c.args.visitor.now,
 )
 

@@ -1,10 +1,10 @@
 -- A ring after another is seen, and then what none of them meets.
-use Rattle.std.proofs.Common.{◌≡◌, true, not, ◌&&◌, None, refl, subst, sym, ap, ◌∙◌}
+use Rattle.std.proofs.Common.{not, ◌&&◌, None, refl, ap, ◌∙◌}
 use Rattle.std.proofs.lemmas.Bool.{and_parts, false≢true}
-use Rattle.fixed_box.specs.Bounds.{Bounds, meets}
+use Rattle.fixed_box.specs.Bounds.{meets}
 use Rattle.std.specs.FinMap.{get}
 use Rattle.grid_boxes.specs.Grid.{meets_part}
-use Rattle.hier_grid.proofs.VisitLemmas.{saw_all, saw_more, saw_none, inner_left}
+use Rattle.hier_grid.proofs.VisitLemmas.{held_meets, saw_all, saw_more, saw_none, inner_left}
 use Rattle.hier_grid.proofs.visits.show_rings.Goals as goal
 
 pub rings-init : goal.rings-init
@@ -26,7 +26,7 @@ rings-preserved g c = (
 )
 
 pub show_area-requires-2 : goal.show_area-requires-2
-show_area-requires-2 g c slot b e h = subst (λ (s : Bounds). meets s b ≡ true) (sym c.all_of_space.ensures) (c.space_law.ensures slot b (ap (λ m. get m slot) c.kept-3.ensures ∙ e))
+show_area-requires-2 g c slot b e h = held_meets c.args.hull.now b (c.sized_law.ensures slot b (ap (λ m. get m slot) c.kept.ensures ∙ e)).ordered (c.requires slot b e)
 
 pub returns-clause-seen : goal.returns-clause-seen
 returns-clause-seen g c =

@@ -3,18 +3,19 @@ use Rattle.std.proofs.Common.{SFits, to_z, of_z, ◌∙◌, subst, ap, arith, ru
 use Rattle.std.specs.Int.{w32}
 use Rattle.std.proofs.lemmas.Int.{ints, to_z-of_z}
 use Rattle.fixed_box.specs.Bounds.{Bounds}
-use Rattle.hier_grid.specs.Visits.{IsCutInTwo}
-use Rattle.hier_grid.proofs.CutLemmas.{cut_up_z}
-use Rattle.hier_grid.proofs.box_cut.cut_up_z.Goals as goal
+use Rattle.hier_grid.specs.Visits.{IsCutInTwo, with_coordinate}
+use Rattle.hier_grid.proofs.CutLemmas.{cut_up}
+use Rattle.hier_grid.proofs.box_cut.cut_up.Goals as goal
 
 pub returns : goal.returns
 returns c =
     let near = c.in_ok-near.near in
     let left = c.in_ok-left.left in
+    let axis = c.args.axis in
     let at = to_z w32 (of_z w32 c.args.at) in
     let fits : SFits w32 c.after.result = search rules in
     subst (λ (b : Bounds). IsCutInTwo b (near, left)) (λ i. record { lo = c.lo-lo.ensures.lo i; hi = c.hi-hi.ensures.hi i })
-    (cut_up_z c.lo-lo.result c.hi-hi.result c.with_z.result c.with_z-2.result at near left (omega (arith, ints, c.if-at-lo.false))
-    c.with_z.ensures
-    (c.with_z-2.ensures ∙ ap (λ n. record c.lo-lo.result { z = n }) (to_z-of_z w32 c.after.result fits ∙ c.after.ensures))
+    (cut_up axis c.lo-lo.result c.hi-hi.result c.with_coordinate.result c.with_coordinate-2.result at near left (omega (arith, ints, c.if-at-coordinate.false, c.coordinate.ensures))
+    c.with_coordinate.ensures
+    (c.with_coordinate-2.ensures ∙ ap (with_coordinate axis c.lo-lo.result) (to_z-of_z w32 c.after.result fits ∙ c.after.ensures))
     c.in_ok-near.ensures.1 c.in_ok-left.ensures.1)
