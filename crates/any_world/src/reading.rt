@@ -256,35 +256,44 @@ impl AnyWorld {
     }
 
     /// The live box that a ray enters first, of the groups that are asked for, with the place and the face: the first that
-    /// `entered` would tell, and `None` where it would tell none. The tree doesn't look at all that the ray meets, and then
-    /// takes no memory.
-    pub fn first_entered(&self, ray: &Ray, groups: Groups) -> Result<Option<FirstHit>, NoMemory>
+    /// `entered` would tell, and `None` where it would tell none. Tree, skins and grid don't look at all that the ray meets.
+    pub fn first_entered(
+        &self,
+        ray: &Ray,
+        groups: Groups,
+        room: &mut AskRoom,
+    ) -> Result<Option<FirstHit>, NoMemory>
         ensures sound { OnOk result ((state_of self.now).spent ≡ false) }
         ensures first { IfOk result (IsFirstEntered (state_of self.now).time.now.table.entries ray.now groups) }
         ensures handle { IfOk result (HasFirst (entered_of (state_of self.now).time.now.table.entries ray.now groups)) }
     {
         match self {
-            AnyWorld::Plain(world) => world.first_entered(ray, groups),
-            AnyWorld::Sap(world) => world.first_entered(ray, groups),
-            AnyWorld::Tree(world) => world.first_entered(ray, groups),
-            AnyWorld::Grid(world) => world.first_entered(ray, groups),
-            AnyWorld::Skin(world) => world.first_entered(ray, groups),
+            AnyWorld::Plain(world) => world.first_entered(ray, groups, room),
+            AnyWorld::Sap(world) => world.first_entered(ray, groups, room),
+            AnyWorld::Tree(world) => world.first_entered(ray, groups, room),
+            AnyWorld::Grid(world) => world.first_entered(ray, groups, room),
+            AnyWorld::Skin(world) => world.first_entered(ray, groups, room),
         }
     }
 
     /// The live box that a box which is cast meets first on its way, of the groups that are asked for, with the place and the
     /// face: the first that `cast` would tell, and `None` where it would tell none.
-    pub fn first_cast(&self, cast: &Cast, groups: Groups) -> Result<Option<FirstHit>, NoMemory>
+    pub fn first_cast(
+        &self,
+        cast: &Cast,
+        groups: Groups,
+        room: &mut AskRoom,
+    ) -> Result<Option<FirstHit>, NoMemory>
         ensures sound { OnOk result ((state_of self.now).spent ≡ false) }
         ensures first { IfOk result (IsFirstTouched (state_of self.now).time.now.table.entries cast.now groups) }
         ensures handle { IfOk result (HasFirst (cast_of (state_of self.now).time.now.table.entries cast.now groups)) }
     {
         match self {
-            AnyWorld::Plain(world) => world.first_cast(cast, groups),
-            AnyWorld::Sap(world) => world.first_cast(cast, groups),
-            AnyWorld::Tree(world) => world.first_cast(cast, groups),
-            AnyWorld::Grid(world) => world.first_cast(cast, groups),
-            AnyWorld::Skin(world) => world.first_cast(cast, groups),
+            AnyWorld::Plain(world) => world.first_cast(cast, groups, room),
+            AnyWorld::Sap(world) => world.first_cast(cast, groups, room),
+            AnyWorld::Tree(world) => world.first_cast(cast, groups, room),
+            AnyWorld::Grid(world) => world.first_cast(cast, groups, room),
+            AnyWorld::Skin(world) => world.first_cast(cast, groups, room),
         }
     }
 }

@@ -39,7 +39,7 @@ impl<B: BroadPhase + Drop> BoxWorld<B> {
             &self.parts.table,
             &self.parts.index,
             &wanted,
-            &mut room.nears,
+            &mut room.nearest,
             out,
         )
     }
@@ -70,7 +70,7 @@ impl<B: BroadPhase + Drop> BoxWorld<B> {
             &self.parts.table,
             &self.parts.index,
             &wanted,
-            &mut room.nears,
+            &mut room.nearest,
             out,
         )
     }

@@ -230,8 +230,13 @@ impl<B: BroadPhase + Drop> BoxWorld<B> {
 
     /// The live box that a ray enters first, of the groups that are asked for, with the place and the face: the first that
     /// `entered` would tell, and `None` where it would tell none. An index that descends doesn't look at all that the ray
-    /// meets, and then takes no memory.
-    pub fn first_entered(&self, ray: &Ray, groups: Groups) -> Result<Option<FirstHit>, NoMemory>
+    /// meets.
+    pub fn first_entered(
+        &self,
+        ray: &Ray,
+        groups: Groups,
+        room: &mut AskRoom,
+    ) -> Result<Option<FirstHit>, NoMemory>
         ensures sound { OnOk result (self.now.spent ≡ false) }
         ensures first { IfOk result (IsFirstEntered self.now.time.now.table.entries ray.now groups) }
         ensures handle { IfOk result (HasFirst (entered_of self.now.time.now.table.entries ray.now groups)) }
@@ -240,7 +245,7 @@ impl<B: BroadPhase + Drop> BoxWorld<B> {
             return Err(NoMemory);
         }
         first_entered(
-            self.parts.alloc,
+            &mut room.slots,
             &self.parts.table,
             &self.parts.index,
             ray,
@@ -250,7 +255,12 @@ impl<B: BroadPhase + Drop> BoxWorld<B> {
 
     /// The live box that a box which is cast meets first on its way, of the groups that are asked for, with the place and the
     /// face: the first that `cast` would tell, and `None` where it would tell none.
-    pub fn first_cast(&self, cast: &Cast, groups: Groups) -> Result<Option<FirstHit>, NoMemory>
+    pub fn first_cast(
+        &self,
+        cast: &Cast,
+        groups: Groups,
+        room: &mut AskRoom,
+    ) -> Result<Option<FirstHit>, NoMemory>
         ensures sound { OnOk result (self.now.spent ≡ false) }
         ensures first { IfOk result (IsFirstTouched self.now.time.now.table.entries cast.now groups) }
         ensures handle { IfOk result (HasFirst (cast_of self.now.time.now.table.entries cast.now groups)) }
@@ -259,7 +269,7 @@ impl<B: BroadPhase + Drop> BoxWorld<B> {
             return Err(NoMemory);
         }
         first_cast(
-            self.parts.alloc,
+            &mut room.slots,
             &self.parts.table,
             &self.parts.index,
             cast,

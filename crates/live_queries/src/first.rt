@@ -21,16 +21,15 @@ use fixed_box::{FBox, NoMemory};
 use live_table::LiveTable;
 use prepared_query::BoxTest;
 use ray_slabs::{Entry, Ray};
-use std::alloc::Global;
 
 /// The live box that a ray enters first, of the groups that are asked for: the first that `push_entered` would tell, or `None`
 /// where it would tell none. Of those that it enters at one place that is the one with the lowest slot. With it comes the place
 /// and the face. The index has the live boxes.
 ///
 /// An index that descends passes by the boxes that lie behind the first one found so far. Another finds all boxes that the ray
-/// meets. All except trees take a list from `alloc` for what they find.
+/// meets. All except trees keep in `room` what they find: what is in it before is dropped, and no answer depends on it.
 pub fn first_entered<B: BroadPhase>(
-    alloc: Global,
+    room: &mut Vec<u32>,
     table: &LiveTable,
     index: &B,
     ray: &Ray,
@@ -42,7 +41,7 @@ pub fn first_entered<B: BroadPhase>(
     ensures first { IfOk result (IsFirstEntered table.now.entries ray.now groups) }
     ensures handle { IfOk result (HasFirst (entered_of table.now.entries ray.now groups)) }
 {
-    let hit = first_met(alloc, table, index, ray, groups)?;
+    let hit = first_met(room, table, index, ray, groups)?;
     Ok(hit)
 }
 
@@ -52,7 +51,7 @@ pub fn first_entered<B: BroadPhase>(
 ///
 /// It takes time and memory as `first_entered` does.
 pub fn first_cast<B: BroadPhase>(
-    alloc: Global,
+    room: &mut Vec<u32>,
     table: &LiveTable,
     index: &B,
     cast: &Cast,
@@ -64,13 +63,13 @@ pub fn first_cast<B: BroadPhase>(
     ensures first { IfOk result (IsFirstTouched table.now.entries cast.now groups) }
     ensures handle { IfOk result (HasFirst (cast_of table.now.entries cast.now groups)) }
 {
-    let hit = first_met(alloc, table, index, cast, groups)?;
+    let hit = first_met(room, table, index, cast, groups)?;
     Ok(hit)
 }
 
 // The box that is met first, of those that are asked for.
 fn first_met<B: BroadPhase, P: Probe>(
-    alloc: Global,
+    room: &mut Vec<u32>,
     table: &LiveTable,
     index: &B,
     probe: &P,
@@ -88,7 +87,7 @@ fn first_met<B: BroadPhase, P: Probe>(
         groups,
         best: None,
     };
-    index.visit(alloc, &mut search)?;
+    index.visit(room, &mut search)?;
     Ok(told(table, probe, search.best))
 }
 

@@ -19,7 +19,7 @@ mod pairs;
 mod probe;
 mod ray_test;
 
-pub use ask_room::{AskRoom, MetRoom};
+pub use ask_room::{AskRoom, MetRoom, NearestRoom};
 pub use face::{Axis, Face};
 pub use first::{first_cast, first_entered};
 pub use first_hit::FirstHit;

@@ -9,13 +9,14 @@ ghost use Rattle.near_boxes.specs.Bodies.{AreInSpace};
 ghost use Rattle.live_queries.specs.Pairs.{is_asked_for};
 ghost use Rattle.live_queries.specs.Queries.{is_from, asked_from, nearest_to, nearest_to_box};
 
+use crate::ask_room::NearestRoom;
 use crate::groups::Groups;
 use crate::handles::push_handles;
 use crate::hits::is_asked_for;
 use broad_index::BroadPhase;
 use fixed_box::{FBox, NoMemory, Point};
 use live_table::{Handle, Live, LiveTable};
-use near_boxes::{Bodies, Near, nearest, spot, square_apart};
+use near_boxes::{Bodies, nearest, spot, square_apart};
 
 /// A question for the boxes that are nearest to a point: at most `want` of them, of the groups that are asked for.
 #[derive(Clone, Copy, Debug, PartialEq, Eq)]
@@ -86,13 +87,12 @@ fn is_from(query: &NearBoxQuery, live: &Live) -> bool
 /// many as it wants: in rising order of the square of their distance and then of their slot. The index has the live boxes.
 /// After an `Err` `out` is as before.
 ///
-/// It asks the index as `nearest` of `near_boxes` does, and takes memory as that does. `nears` is room for the nearest slots: what
-/// is in it is replaced.
+/// It asks the index as `nearest` of `near_boxes` does, and takes memory as that does. What is in `room` doesn't matter.
 pub fn push_nearest<B: BroadPhase>(
     table: &LiveTable,
     index: &B,
     query: &NearQuery,
-    nears: &mut Vec<Near>,
+    room: &mut NearestRoom,
     out: &mut Vec<Handle>,
 ) -> Result<(), NoMemory>
     requires table { IsTable table.now }
@@ -108,7 +108,7 @@ pub fn push_nearest<B: BroadPhase>(
         want: query.want,
         groups: query.groups,
     };
-    push_nearest_box(table, index, &about, nears, out)
+    push_nearest_box(table, index, &about, room, out)
 }
 
 /// The same for a box, of the live boxes whose squared distance from it is at least the query's `from`. It tests that of
@@ -117,7 +117,7 @@ pub fn push_nearest_box<B: BroadPhase>(
     table: &LiveTable,
     index: &B,
     query: &NearBoxQuery,
-    nears: &mut Vec<Near>,
+    room: &mut NearestRoom,
     out: &mut Vec<Handle>,
 ) -> Result<(), NoMemory>
     requires table { IsTable table.now }
@@ -129,8 +129,8 @@ pub fn push_nearest_box<B: BroadPhase>(
     ensures err { OnErr result (out.new.items ≡ out.old.items) }
 {
     let asked = AskedFrom { table, query };
+    let (near, nears) = (&mut room.near, &mut room.nears);
     nears.clear();
-    let alloc = *nears.allocator();
-    nearest(alloc, index, &asked, &query.body, query.want, nears)?;
+    nearest(near, index, &asked, &query.body, query.want, nears)?;
     push_handles(table, nears, out)
 }

@@ -636,17 +636,22 @@ fn body_of(corners: &[[i32; 3]; 2]) -> Result<FBox, Fail> {
 }
 
 // What a way meets first.
-fn ask(world: &AnyWorld, way: &Way, groups: Groups) -> Result<Option<FirstHit>, Fail> {
+fn ask(
+    world: &AnyWorld,
+    way: &Way,
+    groups: Groups,
+    room: &mut AskRoom,
+) -> Result<Option<FirstHit>, Fail> {
     match way {
         Way::Ray { from, dir } => {
             let from = wide_point(from)?;
             let dir = wide_point(dir)?;
-            Ok(world.first_entered(&Ray { from, dir }, groups)?)
+            Ok(world.first_entered(&Ray { from, dir }, groups, room)?)
         }
         Way::Cast { body, by } => {
             let body = body_of(body)?;
             let by = point(by);
-            Ok(world.first_cast(&Cast { body, by }, groups)?)
+            Ok(world.first_cast(&Cast { body, by }, groups, room)?)
         }
     }
 }
@@ -685,7 +690,7 @@ fn answers(alloc: Global, world: &mut AnyWorld, case: &Case<'_>) -> Result<(), F
         let masks = Masks { is: *is, sees: 1 };
         handles.push(world.add(body_of(corners)?, masks, NOBODYS)?)?;
     }
-    let hit = ask(world, &case.way, case.groups)?;
+    let hit = ask(world, &case.way, case.groups, &mut AskRoom::new(alloc))?;
     let told = is_as_told(&hit, &handles, case);
     for handle in &handles {
         world.remove(*handle)?;
@@ -857,7 +862,7 @@ fn is_head(
     };
     handles.clear();
     world.entered(&ray, groups, room, handles)?;
-    let first = world.first_entered(&ray, groups)?;
+    let first = world.first_entered(&ray, groups, room)?;
     let entered = is_first_of(&first, handles) && first == entered_alone(world, &ray, &first);
     let cast = Cast {
         body: random.body(20)?,
@@ -865,7 +870,7 @@ fn is_head(
     };
     handles.clear();
     world.cast(&cast, groups, room, handles)?;
-    let first = world.first_cast(&cast, groups)?;
+    let first = world.first_cast(&cast, groups, room)?;
     let touched = is_first_of(&first, handles) && first == touched_alone(world, &cast, &first);
     Ok(entered && touched)
 }

@@ -8,8 +8,8 @@ use box_cast::Cast;
 use broad_index::{BroadPhase, PlainIndex, Query};
 use fixed_box::{FBox, Point, SLOTS};
 use live_queries::{
-    Groups, MetRoom, NearBoxQuery, NearQuery, push_cast, push_entered, push_hits, push_nearest,
-    push_nearest_box,
+    Groups, MetRoom, NearBoxQuery, NearQuery, NearestRoom, push_cast, push_entered, push_hits,
+    push_nearest, push_nearest_box,
 };
 use live_table::{Group, Handle, LiveTable, Masks};
 use ray_slabs::{Ray, WPoint};
@@ -132,7 +132,7 @@ fn ask(
                 want: (*want).clamp(1, SLOTS),
                 groups,
             };
-            push_nearest(table, index, &query, &mut Vec::new(alloc), out)?;
+            push_nearest(table, index, &query, &mut NearestRoom::new(alloc), out)?;
         }
         Asked::NearestBox { a, from, want } => {
             let query = NearBoxQuery {
@@ -141,7 +141,7 @@ fn ask(
                 want: (*want).clamp(1, SLOTS),
                 groups,
             };
-            push_nearest_box(table, index, &query, &mut Vec::new(alloc), out)?;
+            push_nearest_box(table, index, &query, &mut NearestRoom::new(alloc), out)?;
         }
     }
     Ok(())
