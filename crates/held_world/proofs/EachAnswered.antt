@@ -1,7 +1,7 @@
 -- Many questions are answered one after another, and end.
-use Rattle.std.proofs.Common.{◌≡◌, ◌≢◌, ◌⊎◌, inl, inr, ℕ, ◌+◌, ◌<◌, ◌≤◌, Bool, true, false, List, [], ◌∷◌, ◌++◌, length, take, drop, get_or, set}
+use Rattle.std.proofs.Common.{◌≡◌, ◌≢◌, inl, inr, ℕ, ◌+◌, ◌<◌, ◌≤◌, Bool, true, false, List, [], ◌∷◌, ◌++◌, length, take, drop, get_or, set}
 use Rattle.std.proofs.Common.{is_some, refl, sym, ap, ◌∙◌, arith, subst}
-use Rattle.std.proofs.lemmas.List.{append-nil, append_assoc, drop-set-lt, drop-drop, get_or_default, get_or-set_same, get_or-set_other, length-append, take_more}
+use Rattle.std.proofs.lemmas.List.{append-nil, append_assoc, drop-set-lt, drop-drop, get_or_default, get_or-set_same, get_or-set_other, take_more}
 use Rattle.fixed_box.proofs.Numbers.{nat_next}
 use Rattle.live_table.specs.declared.handle.Handle.{Handle}
 use Rattle.live_table.specs.declared.live.Live.{Live}
@@ -11,7 +11,7 @@ use Rattle.held_world.specs.declared.plain.PwHandle.{PwHandle}
 use Rattle.held_world.specs.declared.plain.PwHit.{PwHit}
 use Rattle.held_world.specs.declared.plain.PwQuery.{PwQuery}
 use Rattle.held_world.specs.Copies.{copied}
-use Rattle.held_world.specs.Many.{AnswersAll, AnswersEach, IsAnswered, IsNoAnswer, IsRefused, hits_in, hits_in_all, no_hit}
+use Rattle.held_world.specs.Many.{AnswersAll, AnswersEach, IsAnswered, IsNoAnswer, hits_in, hits_in_all, no_hit}
 use Rattle.held_world.specs.Plain.{handle_out, query_in}
 
 -- what is left behind the next place is what was

@@ -9,25 +9,30 @@ ghost use Rattle.held_world.specs.Plain.{groups_in, ray_in, cast_in};
 
 use crate::plain::{PwHit, handle_out};
 use crate::questions::{PwCast, PwRay, cast_of, groups_of, ray_of};
-use crate::{HeldWorld, INVERTED, LOWER, NO_AXIS, NO_MEMORY, OK, Reply, UPPER};
+use crate::{HeldRoom, INVERTED, LOWER, NO_AXIS, NO_MEMORY, OK, Reply, UPPER};
+use any_world::AnyWorld;
 use fixed_box::NoMemory;
 use live_queries::{Axis, Face, FirstHit};
 
-impl HeldWorld {
+impl HeldRoom {
     /// Tells of the live box that a ray meets first, the first that `entered` would tell: it, where it is met, and by which side. The
-    /// count is 1, or 0 where it meets none. After any status but `OK`, and where the count is 0, `out` is as before, here and below.
-    pub fn first_entered(&self, ray: &PwRay, out: &mut PwHit) -> Reply
-        ensures { let state = state_of self.now.world in
+    /// count is 1, or 0 where it meets none. After any status but `OK`, and where the count is 0, `out` is as before, here and below. The
+    /// last answer stays in the room.
+    pub fn first_entered(&mut self, world: &AnyWorld, ray: &PwRay, out: &mut PwHit) -> Reply
+        ensures answer { let state = state_of world.now in
             AsksFirst (IsFirstEntered state.time.now.table.entries (ray_in ray.now) (groups_in ray.now.mask)) state.spent result out.old out.new }
+        ensures same { self.new ≡ self.old }
     {
-        let first = self.world.first_entered(&ray_of(ray), groups_of(ray.mask));
+        let groups = groups_of(ray.mask);
+        let first = world.first_entered(&ray_of(ray), groups, &mut self.asking);
         told(first, out)
     }
 
     /// The same for the box that a moved box meets first on its way. `INVERTED` comes where it is none.
-    pub fn first_cast(&self, cast: &PwCast, out: &mut PwHit) -> Reply
-        ensures { let state = state_of self.now.world in
+    pub fn first_cast(&mut self, world: &AnyWorld, cast: &PwCast, out: &mut PwHit) -> Reply
+        ensures answer { let state = state_of world.now in
             AsksFirstCast (cast_in cast.now) state.time.now.table.entries cast.now.mask state.spent result out.old out.new }
+        ensures same { self.new ≡ self.old }
     {
         let Some(asked) = cast_of(cast) else {
             return Reply {
@@ -35,7 +40,8 @@ impl HeldWorld {
                 count: 0,
             };
         };
-        let first = self.world.first_cast(&asked, groups_of(cast.mask));
+        let groups = groups_of(cast.mask);
+        let first = world.first_cast(&asked, groups, &mut self.asking);
         told(first, out)
     }
 }

@@ -11,18 +11,24 @@ ghost use Rattle.held_world.specs.Plain.{cast_in, groups_in, query_in, ray_in};
 use crate::copying::copy_handles;
 use crate::plain::{PwHandle, PwHit, PwQuery, query_of};
 use crate::questions::{PwCast, PwRay, groups_of};
-use crate::{ARGUMENT, HeldRoom, HeldWorld, LOWER, NO_AXIS, NO_MEMORY, OK, Reply};
+use crate::{ARGUMENT, HeldRoom, LOWER, NO_AXIS, NO_MEMORY, OK, Reply};
 use any_world::AnyWorld;
 
-impl HeldWorld {
+impl HeldRoom {
     /// Tells of the live box that each ray meets first, as `first_entered` does, at its place of `out`: where it meets none, the place
     /// has the handle of no box. The count tells how many rays were answered: all, or those before the first that is refused, for want
     /// of memory. The rest of `out` is as before. `ARGUMENT` comes where `out` has less room than there are rays, and then
     /// nothing is asked, here and below.
-    pub fn first_entered_each(&self, rays: &[PwRay], out: &mut [PwHit]) -> Reply
-        ensures { let state = state_of self.now.world in
+    pub fn first_entered_each(
+        &mut self,
+        world: &AnyWorld,
+        rays: &[PwRay],
+        out: &mut [PwHit],
+    ) -> Reply
+        ensures answer { let state = state_of world.now in
             AsksEach (λ ray. AsksFirst (IsFirstEntered state.time.now.table.entries (ray_in ray) (groups_in ray.mask)) state.spent) rays.now
             result out.old out.new }
+        ensures same { self.new ≡ self.old }
     {
         if out.len() < rays.len() {
             return too_little_room();
@@ -30,7 +36,7 @@ impl HeldWorld {
         let mut count = 0;
         'rays: while count < rays.len() {
             let mut hit = no_hit();
-            let reply = self.first_entered(&rays[count], &mut hit);
+            let reply = self.first_entered(world, &rays[count], &mut hit);
             if reply.status != OK {
                 return Reply {
                     status: reply.status,
@@ -44,9 +50,15 @@ impl HeldWorld {
     }
 
     /// The same for the boxes that moved boxes meet first on their ways. `INVERTED` comes at the first that is none.
-    pub fn first_cast_each(&self, casts: &[PwCast], out: &mut [PwHit]) -> Reply
-        ensures { let state = state_of self.now.world in
+    pub fn first_cast_each(
+        &mut self,
+        world: &AnyWorld,
+        casts: &[PwCast],
+        out: &mut [PwHit],
+    ) -> Reply
+        ensures answer { let state = state_of world.now in
             AsksEach (λ cast. AsksFirstCast (cast_in cast) state.time.now.table.entries cast.mask state.spent) casts.now result out.old out.new }
+        ensures same { self.new ≡ self.old }
     {
         if out.len() < casts.len() {
             return too_little_room();
@@ -54,7 +66,7 @@ impl HeldWorld {
         let mut count = 0;
         'casts: while count < casts.len() {
             let mut hit = no_hit();
-            let reply = self.first_cast(&casts[count], &mut hit);
+            let reply = self.first_cast(world, &casts[count], &mut hit);
             if reply.status != OK {
                 return Reply {
                     status: reply.status,
@@ -66,9 +78,7 @@ impl HeldWorld {
         }
         Reply { status: OK, count }
     }
-}
 
-impl HeldRoom {
     /// Copies the handles of the live boxes that meet each question, by their slots, one answer behind another, as many as there is
     /// room for. `ends` tells of each answer how many handles there are up to its end, those without room too. The count tells how
     /// many questions were answered: all, or those before the first that is refused, by `ARGUMENT` where it is no question. The rest of

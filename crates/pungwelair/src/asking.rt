@@ -155,11 +155,12 @@ pub extern "C" fn pw_ray_first(
         (state_of was.world).spent reply out.old out.new)
         (IsClosed reply out.old out.new) world.old.held.inner world.new.held.inner }
 {
-    let Some(held) = world.take(alloc) else {
+    let Some(mut held) = world.take(alloc) else {
         *count = 0;
         return CLOSED;
     };
-    let reply = held.first_entered(ray, out);
+    let open = &mut *held;
+    let reply = open.room.first_entered(&open.world, ray, out);
     world.put(held);
     *count = reply.count;
     reply.status
@@ -179,11 +180,12 @@ pub extern "C" fn pw_cast_first(
         (state_of was.world).spent reply out.old out.new)
         (IsClosed reply out.old out.new) world.old.held.inner world.new.held.inner }
 {
-    let Some(held) = world.take(alloc) else {
+    let Some(mut held) = world.take(alloc) else {
         *count = 0;
         return CLOSED;
     };
-    let reply = held.first_cast(cast, out);
+    let open = &mut *held;
+    let reply = open.room.first_cast(&open.world, cast, out);
     world.put(held);
     *count = reply.count;
     reply.status

@@ -56,11 +56,12 @@ pub extern "C" fn pw_ray_first_each(
         reply out.old out.new))
         (IsClosed reply out.old out.new) world.old.held.inner world.new.held.inner }
 {
-    let Some(held) = world.take(alloc) else {
+    let Some(mut held) = world.take(alloc) else {
         *count = 0;
         return CLOSED;
     };
-    let reply = held.first_entered_each(rays, out);
+    let open = &mut *held;
+    let reply = open.room.first_entered_each(&open.world, rays, out);
     world.put(held);
     *count = reply.count;
     reply.status
@@ -80,11 +81,12 @@ pub extern "C" fn pw_cast_first_each(
         AsksEach (λ cast. AsksFirstCast (cast_in cast) state.time.now.table.entries cast.mask state.spent) casts.now reply out.old out.new))
         (IsClosed reply out.old out.new) world.old.held.inner world.new.held.inner }
 {
-    let Some(held) = world.take(alloc) else {
+    let Some(mut held) = world.take(alloc) else {
         *count = 0;
         return CLOSED;
     };
-    let reply = held.first_cast_each(casts, out);
+    let open = &mut *held;
+    let reply = open.room.first_cast_each(&open.world, casts, out);
     world.put(held);
     *count = reply.count;
     reply.status

@@ -163,11 +163,12 @@ pub extern "C" fn pw_reader_ray_first(
         AsksFirst (IsFirstEntered state.time.now.table.entries (ray_in ray.now) (groups_in ray.now.mask)) state.spent reply out.old out.new)
         (IsClosed reply out.old out.new) reader.old.held.inner reader.new.held.inner }
 {
-    let Some(open) = reader.take(alloc) else {
+    let Some(mut open) = reader.take(alloc) else {
         *count = 0;
         return CLOSED;
     };
-    let reply = open.first_entered(ray, out);
+    let asker = &mut *open;
+    let reply = asker.first_entered(ray, out);
     reader.put(open);
     *count = reply.count;
     reply.status
@@ -187,11 +188,12 @@ pub extern "C" fn pw_reader_cast_first(
         AsksFirstCast (cast_in cast.now) state.time.now.table.entries cast.now.mask state.spent reply out.old out.new)
         (IsClosed reply out.old out.new) reader.old.held.inner reader.new.held.inner }
 {
-    let Some(open) = reader.take(alloc) else {
+    let Some(mut open) = reader.take(alloc) else {
         *count = 0;
         return CLOSED;
     };
-    let reply = open.first_cast(cast, out);
+    let asker = &mut *open;
+    let reply = asker.first_cast(cast, out);
     reader.put(open);
     *count = reply.count;
     reply.status

@@ -58,11 +58,12 @@ pub extern "C" fn pw_reader_ray_first_each(
         reply out.old out.new)
         (IsClosed reply out.old out.new) reader.old.held.inner reader.new.held.inner }
 {
-    let Some(open) = reader.take(alloc) else {
+    let Some(mut open) = reader.take(alloc) else {
         *count = 0;
         return CLOSED;
     };
-    let reply = open.first_entered_each(rays, out);
+    let asker = &mut *open;
+    let reply = asker.first_entered_each(rays, out);
     reader.put(open);
     *count = reply.count;
     reply.status
@@ -82,11 +83,12 @@ pub extern "C" fn pw_reader_cast_first_each(
         AsksEach (λ cast. AsksFirstCast (cast_in cast) state.time.now.table.entries cast.mask state.spent) casts.now reply out.old out.new)
         (IsClosed reply out.old out.new) reader.old.held.inner reader.new.held.inner }
 {
-    let Some(open) = reader.take(alloc) else {
+    let Some(mut open) = reader.take(alloc) else {
         *count = 0;
         return CLOSED;
     };
-    let reply = open.first_cast_each(casts, out);
+    let asker = &mut *open;
+    let reply = asker.first_cast_each(casts, out);
     reader.put(open);
     *count = reply.count;
     reply.status

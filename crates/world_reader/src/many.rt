@@ -15,25 +15,27 @@ use held_world::{PwCast, PwHandle, PwHit, PwQuery, PwRay, Reply};
 impl WorldReader {
     /// Tells of the live box that each ray meets first, at its place of `out`, where the handle of no box tells that there is none. The
     /// count tells how many rays were answered. `CLOSED` comes if the reader reads no world, here and below: then all is as before.
-    pub fn first_entered_each(&self, rays: &[PwRay], out: &mut [PwHit]) -> Reply
-        ensures { Reads (λ read. let state = state_of read.world in
+    pub fn first_entered_each(&mut self, rays: &[PwRay], out: &mut [PwHit]) -> Reply
+        ensures answer { Reads (λ read. let state = state_of read.world in
             AsksEach (λ ray. AsksFirst (IsFirstEntered state.time.now.table.entries (ray_in ray) (groups_in ray.mask)) state.spent) rays.now
-            result out.old out.new) (ReadsNone result out.old out.new) self.now }
+            result out.old out.new) (ReadsNone result out.old out.new) self.old }
+        ensures same { self.new ≡ self.old }
     {
         match &self.world {
-            Some(held) => held.first_entered_each(rays, out),
+            Some(held) => self.room.first_entered_each(&held.world, rays, out),
             None => reads_none(),
         }
     }
 
     /// The same for the boxes that moved boxes meet first on their ways.
-    pub fn first_cast_each(&self, casts: &[PwCast], out: &mut [PwHit]) -> Reply
-        ensures { Reads (λ read. let state = state_of read.world in
+    pub fn first_cast_each(&mut self, casts: &[PwCast], out: &mut [PwHit]) -> Reply
+        ensures answer { Reads (λ read. let state = state_of read.world in
             AsksEach (λ cast. AsksFirstCast (cast_in cast) state.time.now.table.entries cast.mask state.spent) casts.now result out.old out.new)
-            (ReadsNone result out.old out.new) self.now }
+            (ReadsNone result out.old out.new) self.old }
+        ensures same { self.new ≡ self.old }
     {
         match &self.world {
-            Some(held) => held.first_cast_each(casts, out),
+            Some(held) => self.room.first_cast_each(&held.world, casts, out),
             None => reads_none(),
         }
     }

@@ -16,36 +16,38 @@ use crate::answers::reads_none;
 use crate::reader::WorldReader;
 use held_world::{CLOSED, PwBox, PwCast, PwHandle, PwHit, PwPoint, PwRay, PwSquare, Reply, STALE};
 
-// These take no room of the reader's, so that a `&` to it is enough.
 impl WorldReader {
     /// Tells of the live box that a ray meets first: it, where it is met, and by which side. The count is 1, or 0 if it meets none.
     /// `CLOSED` comes if the reader reads no world, here and below. After any status but `OK`, and if the count is 0, `out` is as
     /// before.
-    pub fn first_entered(&self, ray: &PwRay, out: &mut PwHit) -> Reply
-        ensures { Reads (λ read. let state = state_of read.world in
+    pub fn first_entered(&mut self, ray: &PwRay, out: &mut PwHit) -> Reply
+        ensures answer { Reads (λ read. let state = state_of read.world in
             AsksFirst (IsFirstEntered state.time.now.table.entries (ray_in ray.now) (groups_in ray.now.mask)) state.spent result out.old out.new)
-            (ReadsNone result out.old out.new) self.now }
+            (ReadsNone result out.old out.new) self.old }
+        ensures same { self.new ≡ self.old }
     {
         match &self.world {
-            Some(held) => held.first_entered(ray, out),
+            Some(held) => self.room.first_entered(&held.world, ray, out),
             None => reads_none(),
         }
     }
 
     /// The same for the box that a moved box meets first on its way. `INVERTED` comes if it is none.
-    pub fn first_cast(&self, cast: &PwCast, out: &mut PwHit) -> Reply
-        ensures { Reads (λ read. let state = state_of read.world in
+    pub fn first_cast(&mut self, cast: &PwCast, out: &mut PwHit) -> Reply
+        ensures answer { Reads (λ read. let state = state_of read.world in
             AsksFirstCast (cast_in cast.now) state.time.now.table.entries cast.now.mask state.spent result out.old out.new)
-            (ReadsNone result out.old out.new) self.now }
+            (ReadsNone result out.old out.new) self.old }
+        ensures same { self.new ≡ self.old }
     {
         match &self.world {
-            Some(held) => held.first_cast(cast, out),
+            Some(held) => self.room.first_cast(&held.world, cast, out),
             None => reads_none(),
         }
     }
 
     /// Tells where a ray meets a live box, as of the first hit, whatever groups it asks for: the count is 1, or 0 if it doesn't meet it.
-    /// `STALE` comes if no live box has the handle. It answers in a spent world too, as all that stands below.
+    /// `STALE` comes if no live box has the handle. It answers in a spent world too, as all that stands below, and takes no room of the
+    /// reader's, so that a `&` to it is enough.
     pub fn ray_meeting(&self, ray: &PwRay, handle: &PwHandle, out: &mut PwHit) -> Reply
         ensures { Reads (λ read. let entries = (state_of read.world).time.now.table.entries in
             TellsMeeting (entry_of (ray_in ray.now)) (entry_face (ray_in ray.now)) (entry_at (handle_in handle.now) entries) result out.old out.new)

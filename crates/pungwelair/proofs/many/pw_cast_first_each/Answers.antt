@@ -1,5 +1,5 @@
 -- The world is taken out, asked and put back.
-use Rattle.std.proofs.Common.{◌≡◌, None, Some, refl, rules, sym, ap, ◌∙◌, subst}
+use Rattle.std.proofs.Common.{◌≡◌, Some, sym, ap, ◌∙◌, subst}
 use Rattle.std.specs.Prelude.{Option}
 use Rattle.any_world.specs.AnyWorld.{state_of}
 use Rattle.held_world.specs.Firsts.{AsksFirstCast}
@@ -18,7 +18,8 @@ returns c =
     c.first_cast_each-reply.new.out) in
     let closed = IsClosed reply c.args.out.now c.first_cast_each-reply.new.out in
     let held : HeldWorld = c.in-Some.held.value in
-    let asked = rw c.deref.ensures at c.first_cast_each-reply.ensures in
+    let asked = rw c.deref_mut-open.ensures.value at c.first_cast_each-reply.ensures.answer in
+    let same = ap (λ room. record c.deref_mut-open.result.now { room = room }) c.first_cast_each-reply.ensures.same ∙ c.deref_mut-open.ensures.value in
     let after : Calls says closed (Some held) c.put.new.self.held.inner =
-    subst (λ (x : Option HeldWorld). Calls says closed (Some held) x) (sym c.put.ensures.held) (refl, asked) in
+    subst (λ (x : Option HeldWorld). Calls says closed (Some held) x) (sym c.put.ensures.held) (same, asked) in
     subst (λ (x : Option HeldWorld). Calls says closed x c.put.new.self.held.inner) c.in-Some.ensures.taken after

@@ -3,9 +3,8 @@ use Rattle.std.proofs.Common.{◌≡◌, List, arith, refl, subst, sym, ap, ◌�
 use Rattle.any_world.specs.AnyWorld.{state_of}
 use Rattle.live_table.specs.declared.handle.Handle.{Handle}
 use Rattle.held_world.specs.Copies.{copied}
-use Rattle.held_world.specs.Many.{AnswersAll, AsksAll}
+use Rattle.held_world.specs.Many.{AnswersAll}
 use Rattle.held_world.specs.Plain.{handle_out}
-use Rattle.held_world.specs.declared.answers.Reply.{Reply}
 use Rattle.held_world.proofs.EachAnswered.{all_found, none_found, one_found, one_unanswered}
 use Rattle.held_world.proofs.room.HeldRoom.hits_each.Goals.{else-queries-test, then-queries-test+then-status-ne-OK}
 use Rattle.held_world.proofs.room.HeldRoom.hits_each.Goals as goal
