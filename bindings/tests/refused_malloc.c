@@ -415,11 +415,12 @@ static void ask(void) {
     pw_cast cast = {~0u, {{0, 0, 0}, {50, 50, 50}}, {900, 900, 900}};
     pw_ray rays[MANY] = {ray, {~0u, {-9, 50, 50}, {-5, 1, 1}}, {~0u, {0, -9, 30}, {0, 5, 1}}, {1, {900, 900, 900}, {-1, -1, -1}}};
     pw_cast casts[MANY] = {cast, {~0u, {{-90, 0, 0}, {-80, 1, 1}}, {9, 0, 0}}, {0, cast.body, cast.by}, {~0u, cast.body, {0, 0, 0}}};
-    pw_near near_to = {~0u, 50, {350, 350, 350}};
+    pw_near near_to = {~0u, 50, {350, 350, 350}}, many_near = {~0u, 100, {350, 350, 350}};
     pw_near_box near_box = {~0u, 30, {{-90, -90, -90}, {0, 0, 0}}, {90000, 0}};
     pw_handle found[BOXES + MORE];
     pw_hit hits[2];
     size_t count;
+    ask_hits_each(queries); /* first, so that room grows between its questions */
     for (int k = 0; k < MANY; k++) {
         ASK(ASKED(hits, &queries[k], found, BOXES + MORE, &count));
         answered(found, count * sizeof *found);
@@ -431,6 +432,9 @@ static void ask(void) {
     ASK(ASKED(nearest, &near_to, found, BOXES + MORE, &count));
     EXPECT(count == 50);
     answered(found, count * sizeof *found);
+    ASK(ASKED(nearest, &many_near, found, BOXES + MORE, &count));
+    EXPECT(count == 100);
+    answered(found, count * sizeof *found);
     ASK(ASKED(nearest_box, &near_box, found, BOXES + MORE, &count));
     EXPECT(count == 30);
     answered(found, count * sizeof *found);
@@ -439,7 +443,6 @@ static void ask(void) {
     ASK(ASKED(cast_first, &cast, &hits[1], &count));
     EXPECT(count == 1);
     answered(hits, sizeof hits);
-    ask_hits_each(queries);
     ask_first_each(rays, NULL);
     ask_first_each(NULL, casts);
 }
@@ -550,6 +553,43 @@ static void ring(void) {
     EXPECT(info_now().marks == HELD && pw_close(&world) == PW_OK && blocks == 0);
 }
 
+/* What was asked before asks for no memory, since the room of a world and of a reader has grown: over the tree and skins first hits and up
+ * to 64 nearest boxes, over the others all. */
+static void ask_again(bool all) {
+    pw_ray ray = {~0u, {-9, 50, 50}, {5, 1, 1}};
+    pw_cast cast = {~0u, {{0, 0, 0}, {50, 50, 50}}, {900, 900, 900}};
+    pw_near near_to = {~0u, 64, {350, 350, 350}};
+    pw_handle found[64];
+    pw_hit hit;
+    size_t count;
+    ask();
+    ASK(ASKED(nearest, &near_to, found, 64, &count));
+    long before = requests;
+    ASK(ASKED(ray_first, &ray, &hit, &count));
+    ASK(ASKED(cast_first, &cast, &hit, &count));
+    ASK(ASKED(nearest, &near_to, found, 64, &count));
+    if (all) ask();
+    EXPECT(requests == before);
+}
+
+static void grown_room(uint32_t structure) {
+    bool all = structure != PW_TREE && structure != PW_SKIN;
+    refused_request = -1;
+    is_first_run = true;
+    requests = 0;
+    answer_at = change_count = 0;
+    EXPECT(pw_open(&world, structure) == PW_OK);
+    fill();
+    update();
+    ask_again(all);
+    EXPECT(pw_reader_open(&readers[0]) == PW_OK && pw_share(&world, &readers[0]) == PW_OK);
+    asker = &readers[0];
+    ask_again(all);
+    asker = NULL;
+    EXPECT(pw_unshare(&readers[0], &world) == PW_OK && pw_reader_close(&readers[0]) == PW_OK);
+    EXPECT(pw_close(&world) == PW_OK && blocks == 0);
+}
+
 int main(void) {
     static const char *const names[] = {"plain", "sap", "tree", "grid", "skin"};
     for (uint32_t structure = PW_PLAIN; structure <= PW_SKIN; structure++) {
@@ -563,6 +603,7 @@ int main(void) {
         while (refusals && ++refused_request);
         printf("%s: %ld requests, each refused once; %ld of them spent the world\n", names[structure], refused_request, spent_worlds);
         EXPECT(refused_request > 0 && cut_short > 0);
+        grown_room(structure);
     }
     ring();
     return tested("refused_malloc");
