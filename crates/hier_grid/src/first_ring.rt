@@ -9,14 +9,17 @@ use grid_cells::count_beside;
 // So often a hull is halved at most: by 2^32 on each axis.
 const MOST_HALVINGS: u32 = 96;
 
-/// About the place that a visitor prefers among boxes in a hull, a ring that reaches as far as a cell of the level with most boxes,
-/// and how far that is. It is for speed alone.
+// So often a cell's side is halved at most: all boxes in one cell then lie about two a part.
+const MOST_PARTINGS: u32 = 4;
+
+/// About the place that a visitor prefers among boxes in a hull, a ring that reaches as far as a cell of the level with most boxes, or
+/// less far in a crowd, and how far that is. It is for speed alone.
 pub(crate) fn preferred_ring<V: Visitor>(
     kept: &GridBoxes,
     hull: &FBox,
     visitor: &V,
 ) -> (FBox, u32) {
-    let margin = cell_side(fullest_level(kept));
+    let margin = first_margin(kept, hull);
     let mut place = *hull;
     for _ in 0..MOST_HALVINGS {
         if place.longest_side() <= margin {
@@ -25,6 +28,25 @@ pub(crate) fn preferred_ring<V: Visitor>(
         place = preferred_half(&place, visitor);
     }
     (place.fatten(margin), margin)
+}
+
+// As far as a cell of the level with most boxes, halved until a part of a hull that is so wide has fewer than eight of them.
+fn first_margin(kept: &GridBoxes, hull: &FBox) -> u32 {
+    let level = fullest_level(kept);
+    let mut margin = cell_side(level);
+    if level >= LEVELS {
+        return margin;
+    }
+    let boxes = kept.level_len(level) as u64;
+    let mut parts = count_beside(level, hull);
+    for _ in 0..MOST_PARTINGS {
+        if parts > boxes / 8 {
+            break;
+        }
+        parts = parts.saturating_mul(8);
+        margin /= 2;
+    }
+    margin
 }
 
 /// Whether the level with most boxes has more of them than cells in a hull. It is for speed alone.

@@ -6,7 +6,7 @@ use Rattle.std.specs.List.{filter, filter_map, cons_option, list_all, AllByRecur
 use Rattle.std.specs.Ordering.{nat_cmp, is_lt}
 use Rattle.std.specs.FinMap.{FinMap, contains_key, entries, get}
 use Rattle.std.proofs.lemmas.List.{take-append-drop, map-append, get_or_read}
-use Rattle.std.proofs.lemmas.Bool.{cases_Bool, cases_lt, true≢false, false≢true}
+use Rattle.std.proofs.lemmas.Bool.{and_parts, cases_Bool, cases_lt, true≢false, false≢true}
 use Rattle.std.proofs.lemmas.Bool.Decides.{nat_tests}
 use Rattle.std.proofs.lemmas.List.Elements.{filter-append, recursion_from_All, All-contains_itself, Contains-append_left, Contains-append_right}
 use Rattle.std.proofs.lemmas.List.Sorted.{IsPermutation-sym, IsPermutation-to_front}
@@ -29,7 +29,7 @@ use Rattle.broad_index.specs.MapEntries.{Looked, looked_in, slots_up, has_slots}
 use Rattle.near_boxes.proofs.Reached.{all_near, near_meets}
 use Rattle.near_boxes.proofs.Gathered.{all_pass, gathered, there, all_gathered}
 use Rattle.near_boxes.proofs.NearestPoint.{hull_square}
-use Rattle.near_boxes.specs.Search.{is_asked, is_nearer, is_last_nearer, seen_of, LieInSpace, HasNearest}
+use Rattle.near_boxes.specs.Search.{is_asked, is_nearer, is_last_nearer, is_passed, seen_of, LieInSpace, HasNearest}
 
 -- ---- the place of one among those in order
 
@@ -289,12 +289,25 @@ module _ (bodies : FinMap nat_cmp Bounds) (to : Bounds) where
         ∙ sym (cut_front near_cmp near_total p (nearer_bound than) want (known ++ others) enough_both)
         ∙ ap (λ l. take want (ordered_by near_cmp l)) (sym (seen_more seen more))
 
-    pub passed : (hull : Bounds) (than : ℕ) → than ≡ square_apart to hull → want ≤ length nears → is_last_nearer than nears ≡ true
+    farther : (hull : Bounds) (than : ℕ) → than ≡ square_apart to hull → is_passed want than nears ≡ true
+        → (seen more : List (ℕ × Bounds)) → HasNearest bodies to want nears seen → AllByRecursion (λ e. encloses hull e.1 ≡ true) more
+        → HasNearest bodies to want nears (seen ++ more)
+    farther hull than is p seen more has far in_space =
+        let parts = and_parts (nat_le want (length nears)) (is_last_nearer than nears) p in
+        let full : want ≤ length nears = grind (arith, nat_tests, parts.0) in
+        others_far than full parts.1 seen more (has (λ e c a. in_space e (Contains-append_left seen more e c) a))
+        (far_within hull than is more far)
+
+    pub passed : (hull : Bounds) (than : ℕ) → than ≡ square_apart to hull → is_passed want than nears ≡ true
         → (seen more : List (ℕ × Bounds)) → HasNearest bodies to want nears seen → All (λ e. encloses hull e.1 ≡ true) more
         → HasNearest bodies to want nears (seen ++ more)
-    passed hull than is full last seen more has far in_space =
-        others_far than full last seen more (has (λ e c a. in_space e (Contains-append_left seen more e c) a))
-        (far_within hull than is more (recursion_from_All (λ e. encloses hull e.1 ≡ true) more far))
+    passed hull than is p seen more has far =
+        farther hull than is p seen more has (recursion_from_All (λ e. encloses hull e.1 ≡ true) more far)
+
+    -- the same of one box that was shown
+    pub passed_itself : (e : ℕ × Bounds) (than : ℕ) → than ≡ square_apart to e.1 → is_passed want than nears ≡ true → encloses e.1 e.1 ≡ true
+        → (seen : List (ℕ × Bounds)) → HasNearest bodies to want nears seen → HasNearest bodies to want nears (seen ++ e ∷ [])
+    passed_itself e than is p itself seen has = farther e.1 than is p seen (e ∷ []) has (itself, tt)
 
     pub out_of_reach : meets space to ≡ true → (margin last : ℕ) → Reaches margin last → want ≤ length nears → is_last_nearer (suc last) nears ≡ true
         → (seen more : List (ℕ × Bounds)) → HasNearest bodies to want nears seen → All (λ e. meets (fattened to margin) e.1 ≡ false) more

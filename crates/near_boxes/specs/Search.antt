@@ -1,5 +1,5 @@
 -- Serves proofs alone: what a search for the nearest keeps of the boxes that it was shown.
-use Rattle.std.proofs.Common.{◌≡◌, ℕ, Bool, true, ◌-◌, ◌||◌, nat_le, nat_lt, IsTrue, List, get_or, length, map, take, sym, ap, ◌∙◌}
+use Rattle.std.proofs.Common.{◌≡◌, ℕ, Bool, true, ◌-◌, ◌||◌, ◌&&◌, nat_le, nat_lt, IsTrue, List, get_or, length, map, take, sym, ap, ◌∙◌}
 use Rattle.std.specs.List.{Contains, filter}
 use Rattle.std.specs.List.Sorted.{IsPermutation}
 use Rattle.std.specs.Ordering.{nat_cmp}
@@ -25,6 +25,10 @@ is_nearer than n = nat_lt n.square than
 -- the last is nearer than a square, or there is none
 abbrev pub is_last_nearer : ℕ → List Near → Bool
 is_last_nearer than ns = nat_le (length ns) 0 || is_nearer than (get_or ns (length ns - 1) (record { slot = 0; square = 0 }))
+
+-- there are enough, and the last is nearer than a square
+abbrev pub is_passed : ℕ → ℕ → List Near → Bool
+is_passed want than ns = nat_le want (length ns) && is_last_nearer than ns
 
 -- of boxes that were shown, those that are asked for
 abbrev pub seen_of : FinMap nat_cmp Bounds → Bounds → List (ℕ × Bounds) → List Near

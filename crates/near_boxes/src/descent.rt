@@ -10,13 +10,13 @@ ghost use Rattle.ordered_lists.specs.Ascending.{Ascends};
 ghost use Rattle.ordered_lists.specs.Ordered.{placed};
 ghost use Rattle.near_boxes.specs.Bodies.{AreInSpace, AreAmong};
 ghost use Rattle.near_boxes.specs.Nearest.{nearest_about, near_cmp, square_apart, squared};
-ghost use Rattle.near_boxes.specs.Search.{HasNearest, any_order, is_last_nearer};
+ghost use Rattle.near_boxes.specs.Search.{HasNearest, any_order, is_last_nearer, is_passed};
 ghost use Rattle.near_boxes.specs.Within.{Reaches};
 
 use crate::distance::square_apart;
 use crate::{Bodies, Near};
 use broad_index::{BroadPhase, Query, Visitor};
-use fixed_box::{FBox, Fix, NoMemory, Point, space_law};
+use fixed_box::{FBox, Fix, NoMemory, Point, box_laws, space_law};
 
 // The nearest bodies among the boxes that were shown, at most so many.
 #[derive(Drop)]
@@ -51,7 +51,7 @@ impl<T: Bodies> Visitor for NearestSearch<'_, T> {
 
     // As far as the farthest a lower slot may come before it.
     fn admits(&self, hull: &FBox) -> bool {
-        self.nears.len() < self.want || !is_last_nearer(&self.nears, square_apart(&self.to, hull))
+        !is_passed(self.want, square_apart(&self.to, hull), &self.nears)
     }
 
     fn prefers(&self, first: &FBox, second: &FBox) -> bool {
@@ -59,10 +59,15 @@ impl<T: Bodies> Visitor for NearestSearch<'_, T> {
     }
 
     fn meet(&mut self, slot: u32, body: &FBox) -> Result<(), NoMemory> {
+        box_laws();
+        let square = square_apart(&self.to, body);
+        // first, since in a crowd most boxes lie farther than those it has
+        if is_passed(self.want, square, &self.nears) {
+            return Ok(());
+        }
         if self.bodies.body(slot).is_none() {
             return Ok(());
         }
-        let square = square_apart(&self.to, body);
         place(Near { slot, square }, self.want, &mut self.nears)
     }
 }
@@ -122,6 +127,13 @@ fn all_of_space() -> FBox
         z: Fix::MAX,
     };
     FBox::new(lo, hi).unwrap()
+}
+
+// Whether there are enough, and the last is nearer than a square.
+fn is_passed(want: usize, than: u128, nears: &[Near]) -> bool
+    ensures { result ≡ is_passed want than nears.now }
+{
+    want <= nears.len() && is_last_nearer(nears, than)
 }
 
 // Whether the last is nearer than a square, as it is where there is none.

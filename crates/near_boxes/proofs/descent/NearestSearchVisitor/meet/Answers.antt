@@ -1,10 +1,22 @@
--- A box that isn't asked for changes nothing, and another takes its place.
+-- A box that is farther than enough others, or isn't asked for, changes nothing, and another takes its place.
 use Rattle.std.proofs.Common.{◌∙◌, is_some, not, take, refl, sym, ap}
 use Rattle.std.proofs.lemmas.Result.{on_ok_weaker}
 use Rattle.ordered_lists.specs.Ordered.{placed}
 use Rattle.near_boxes.specs.Nearest.{near_cmp}
-use Rattle.near_boxes.proofs.Searched.{not_asked, took_place}
+use Rattle.near_boxes.specs.Search.{is_passed}
+use Rattle.near_boxes.proofs.Searched.{not_asked, passed_itself, took_place}
 use Rattle.near_boxes.proofs.descent.NearestSearchVisitor.meet.Goals as goal
+
+pub returns-then-is_passed : goal.returns-then-is_passed
+returns-then-is_passed g c =
+    let s = c.args.self.now in
+    record {
+      seen = passed_itself (g.T.Bodies.bodies s.bodies.now) s.to s.want s.nears.items (c.args.slot, c.args.body.now) c.square_apart-square.result
+          c.square_apart-square.ensures.value
+          (sym (ap (is_passed s.want c.square_apart-square.result) c.deref.ensures.value) ∙ sym c.is_passed.ensures ∙ c.if-is_passed.true)
+          (c.box_laws.ensures.itself c.args.body.now);
+      kept = (refl, refl, refl);
+    }
 
 pub returns-then-is_none : goal.returns-then-is_none
 returns-then-is_none g c =
