@@ -553,27 +553,28 @@ static void ring(void) {
     EXPECT(info_now().marks == HELD && pw_close(&world) == PW_OK && blocks == 0);
 }
 
-/* What was asked before asks for no memory, since the room of a world and of a reader has grown: over the tree and skins first hits and up
- * to 64 nearest boxes, over the others all. */
-static void ask_again(bool all) {
+/* What was asked before asks for no memory, since the room of a world and of a reader has grown. */
+static void ask_again(void) {
     pw_ray ray = {~0u, {-9, 50, 50}, {5, 1, 1}};
     pw_cast cast = {~0u, {{0, 0, 0}, {50, 50, 50}}, {900, 900, 900}};
     pw_near near_to = {~0u, 64, {350, 350, 350}};
+    pw_near all = {~0u, PW_SLOTS, {350, 350, 350}};
     pw_handle found[64];
     pw_hit hit;
     size_t count;
     ask();
     ASK(ASKED(nearest, &near_to, found, 64, &count));
+    ASK(ASKED(nearest, &all, found, 64, &count));
     long before = requests;
     ASK(ASKED(ray_first, &ray, &hit, &count));
     ASK(ASKED(cast_first, &cast, &hit, &count));
     ASK(ASKED(nearest, &near_to, found, 64, &count));
-    if (all) ask();
+    ASK(ASKED(nearest, &all, found, 64, &count));
+    ask();
     EXPECT(requests == before);
 }
 
 static void grown_room(uint32_t structure) {
-    bool all = structure != PW_TREE && structure != PW_SKIN;
     refused_request = -1;
     is_first_run = true;
     requests = 0;
@@ -581,10 +582,10 @@ static void grown_room(uint32_t structure) {
     EXPECT(pw_open(&world, structure) == PW_OK);
     fill();
     update();
-    ask_again(all);
+    ask_again();
     EXPECT(pw_reader_open(&readers[0]) == PW_OK && pw_share(&world, &readers[0]) == PW_OK);
     asker = &readers[0];
-    ask_again(all);
+    ask_again();
     asker = NULL;
     EXPECT(pw_unshare(&readers[0], &world) == PW_OK && pw_reader_close(&readers[0]) == PW_OK);
     EXPECT(pw_close(&world) == PW_OK && blocks == 0);

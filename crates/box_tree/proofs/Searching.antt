@@ -1,6 +1,8 @@
 -- What descents find is what the map has, and which slots are sought.
 use Rattle.std.proofs.Common.{◌≡◌, ℕ, zero, suc, ◌<◌, Bool, true, false, not, cond, ◌&&◌, ◌||◌, ◌==◌, Option, None, Some, is_some, List, [], ◌∷◌, ◌++◌}
 use Rattle.std.proofs.Common.{length, map, filter, get_or, refl, sym, ap, ◌∙◌, subst, arith, inl, inr, ⊎_elim}
+use Rattle.std.proofs.Common.{drop}
+use Rattle.std.proofs.Math.Seq.{drop-append_seam}
 use Rattle.std.specs.List.{Contains, list_any, sum}
 use Rattle.std.specs.Ordering.{nat_cmp, eq_by_cmp}
 use Rattle.std.specs.FinMap.{FinMap, contains_key, get, entries, keys, contains_key-keys}
@@ -255,10 +257,10 @@ RenewingLaw = (m : FinMap nat_cmp Bounds) (marks : List Bool) (kept : List Pair)
 module _ (o : Option Tree) (bodies fats : List (Option Bounds)) (s : HaveLeaves o bodies fats) (marks : List Bool) (v : Boxes) (looked : ℕ)
     (view : seen o bodies fats marks looked ≡ v) where
   -- what a descent finds is what the map has
-  pub found_viewed : FoundLaw → (q : Query) (before found : List ℕ) → before ≡ [] → found ≡ before ++ found_of (exact_in bodies o) q
-      → (k : ℕ) → has_slot found k ≡ is_found v.bodies q k
-  found_viewed law q before found en e k =
-      ap (λ ks. has_slot ks k) (e ∙ ap (λ xs. xs ++ found_of (exact_in bodies o) q) en)
+  pub found_viewed : FoundLaw → (q : Query) (before found : List ℕ) (from : ℕ) → from ≡ length before → found ≡ before ++ found_of (exact_in bodies o) q
+      → (k : ℕ) → has_slot (drop from found) k ≡ is_found v.bodies q k
+  found_viewed law q before found from at e k =
+      ap (λ ks. has_slot ks k) (ap (λ n. drop n found) at ∙ ap (drop (length before)) e ∙ drop-append_seam before (found_of (exact_in bodies o) q))
       ∙ law (map_of bodies) (exact_in bodies o) (exact_held o bodies fats s) q k
       ∙ ap (λ (b : Boxes). is_found b.bodies q k) view
 

@@ -23,7 +23,7 @@ use crate::tree_boxes::TreeBoxes;
 use crate::tree_listing::TreeListing;
 use broad_index::{
     BroadPhase, FEWEST_SOUGHT, Pair, PairSeeker, Query, Seeker, Visitor, holding_laws, join_pieces,
-    keeping_laws, pays_threads, push_rising_slots, settle_pairs,
+    keeping_laws, pays_threads, push_rising_slots, settle_pairs, settle_slots_from,
 };
 use fixed_box::{FBox, NoMemory};
 use slot_lists::SlotMarks;
@@ -112,7 +112,7 @@ impl BoxTree {
     }
 
     /// Does what `hits` does, and answers how many nodes it looked at: the top, and the children of each node whose hull the query
-    /// meets.
+    /// meets. It keeps what it finds in `out`.
     pub fn hits_told(&self, query: &Query, out: &mut Vec<u32>) -> Result<u32, NoMemory>
         ensures ok { OnOk result (out.new.items ≡ out.old.items ++ found self.now.bodies query.now) }
         ensures count { IfOk result (λ n. n ≡ visits_by_in self.now.tree query.now) }
@@ -120,10 +120,17 @@ impl BoxTree {
     {
         holding_laws();
         self.boxes.kept_law();
-        let mut met = Vec::new(*out.allocator());
-        let count = push_hits(&self.boxes.boxed_tree(), query, &mut met)?;
-        push_rising_slots(&mut met, out)?;
-        Ok(count)
+        let before = out.len();
+        match push_hits(&self.boxes.boxed_tree(), query, out) {
+            Ok(count) => {
+                settle_slots_from(before, out);
+                Ok(count)
+            }
+            Err(e) => {
+                out.truncate(before);
+                Err(e)
+            }
+        }
     }
 
     /// The fat box of a slot, and `None` exactly where the slot is absent.

@@ -2,7 +2,9 @@
 use Rattle.std.proofs.Common.{◌≡◌, ℕ, ◌+◌, ◌≤◌, max, true, false, cond, Option, None, Some, List, [], ◌∷◌, ◌++◌}
 use Rattle.std.proofs.Common.{is_some, map, length, get_or, length-append, append_assoc, refl, sym, ap, ◌∙◌, subst, arith, ⊎_elim}
 use Rattle.std.specs.List.{filter}
-use Rattle.std.proofs.lemmas.List.{same_from_push, append-nil, length_push, map-append}
+use Rattle.std.proofs.Common.{take, drop, Result, Ok, Err, OnErr}
+use Rattle.std.proofs.Math.Seq.{take-append_seam}
+use Rattle.std.proofs.lemmas.List.{same_from_push, append-nil, length_push, map-append, take-append-drop}
 use Rattle.std.proofs.lemmas.List.Elements.{filter-append}
 use Rattle.fixed_box.specs.Bounds.{Bounds, encloses, hull as union}
 use Rattle.broad_index.specs.declared.query.Query.{Query}
@@ -14,6 +16,19 @@ use Rattle.tree_nodes.specs.Tree.{Tree, tip, fork, top, leaves, Leaf, height, bo
 use Rattle.tree_search.specs.Descent.{all_leaves, owed, all_owed, views, Wait, Stands, Popped, Laws, met_in, found_at, meets_node}
 use Rattle.tree_search.specs.Visits.{visits_by, visits_by_in}
 use Rattle.tree_search.specs.Exact.{entry_of, exact, exact_in, IsInside, IsLeafInside}
+
+-- what holds anyway holds where memory ran out
+pub anyway : {T E P : Type 0} (r : Result T E) → P → OnErr r P
+anyway (Ok t) p = tt
+anyway (Err e) p = p
+
+-- what was in a list begins it still where more is appended
+pub still : (before now more : List ℕ) → take (length before) now ≡ before → take (length before) (now ++ more) ≡ before
+still before now more begins =
+    let later = drop (length before) now in
+    ap (λ l. take (length before) (l ++ more)) (sym (take-append-drop (length before) now) ∙ ap (λ l. l ++ later) begins)
+    ∙ ap (take (length before)) (append_assoc before later more)
+    ∙ take-append_seam before (later ++ more)
 
 pub found_append : (q : Query) (es fs : List (ℕ × Bounds)) → found_of (es ++ fs) q ≡ found_of es q ++ found_of fs q
 found_append q es fs =

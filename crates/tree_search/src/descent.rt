@@ -1,6 +1,6 @@
 //! A descent from the root with a stack: only below hulls that are met, down to the leaves.
 
-ghost use Rattle.std.specs.Prelude.{◌≡◌, ◌<◌, ◌++◌, Some, OnOk, IfOk, IsSome, length};
+ghost use Rattle.std.specs.Prelude.{◌≡◌, ◌<◌, ◌++◌, Some, OnOk, OnErr, IfOk, IsSome, length, take};
 ghost use Rattle.tree_nodes.specs.Tree.{Tree, IsTree, top, view_in, visits_in};
 ghost use Rattle.broad_index.specs.declared.query.Query.{Query};
 ghost use Rattle.broad_index.specs.declared.query.Query.TheVariants.{Region};
@@ -18,14 +18,15 @@ use fixed_box::{FBox, NoMemory, box_laws};
 use prepared_query::{BoxTest, enclosing_law};
 use tree_nodes::{Nodes, Role, tree_laws};
 
-// Appends the slots of leaves whose exact boxes meet a query, and answers how many nodes it looked at. It passes by what
-// stands below a hull that the query misses. It is compiled for each kind of test, so that no kind is told apart on the way.
+// Appends the slots of leaves whose exact boxes meet a query, and answers how many nodes it looked at. After an `Err` there may be
+// some of them. It passes by what stands below a hull that the query misses. It is compiled for each kind of test, so that no kind is told apart on the way.
 pub(crate) fn descend<T: BoxTest>(
     boxes: &BoxedTree,
     test: &T,
     out: &mut Vec<u32>,
 ) -> Result<u32, NoMemory>
     ensures ok { OnOk result (out.new.items ≡ out.old.items ++ found_of (exact_in boxes.now.bodies boxes.now.tree) (T.asks test.now)) }
+    ensures err { OnErr result (take (length out.old.items) out.new.items ≡ out.old.items) }
     ensures count { IfOk result (λ n. n ≡ visits_by_in boxes.now.tree (T.asks test.now)) }
 {
     boxes.boxed_law();
@@ -60,6 +61,7 @@ fn walk<T: BoxTest>(
 ) -> Result<u32, NoMemory>
     requires { (t : Tree) × (nodes.now ≡ Some t) × (root ≡ top t) × IsTree t × IsInside bodies.now t }
     ensures ok { OnOk result (out.new.items ≡ out.old.items ++ found_of (exact_in bodies.now nodes.now) (T.asks test.now)) }
+    ensures err { OnErr result (take (length out.old.items) out.new.items ≡ out.old.items) }
     ensures count { IfOk result (λ n. n ≡ visits_by_in nodes.now (T.asks test.now)) }
 {
     descent_law();
@@ -123,7 +125,8 @@ fn push_found<T: BoxTest>(
     out: &mut Vec<u32>,
 ) -> Result<(), NoMemory>
     requires { slot < length bodies.now }
-    ensures { OnOk result (out.new.items ≡ out.old.items ++ found_at bodies.now (T.asks test.now) slot) }
+    ensures ok { OnOk result (out.new.items ≡ out.old.items ++ found_at bodies.now (T.asks test.now) slot) }
+    ensures err { OnErr result (out.new.items ≡ out.old.items) }
 {
     if is_found(&bodies[slot as usize], test) {
         out.push(slot)?;

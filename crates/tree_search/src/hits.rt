@@ -1,6 +1,6 @@
 //! A query of each kind asked of a tree: as a box, or as a prepared line.
 
-ghost use Rattle.std.specs.Prelude.{◌≡◌, ◌++◌, IfOk, OnOk};
+ghost use Rattle.std.specs.Prelude.{◌≡◌, ◌++◌, IfOk, OnOk, OnErr, length, take};
 ghost use Rattle.fixed_box.specs.Bounds.{Bounds, holds, meets};
 ghost use Rattle.broad_index.specs.Found.{found_of};
 ghost use Rattle.tree_search.specs.Exact.{exact_in};
@@ -14,9 +14,10 @@ use prepared_query::{CastTest, LineTest};
 
 /// Appends the slots whose boxes meet a query, in the order of the leaves, and answers how many nodes it looked at. What kind it
 /// is is told here, once for all nodes: a region and a spot are asked as boxes, and a cast, and a line whose numbers fit 32 bits, are prepared.
-/// After an `Err` there may be some of them.
+/// After an `Err` there may be some of them behind what was in `out`.
 pub fn push_hits(boxes: &BoxedTree, query: &Query, out: &mut Vec<u32>) -> Result<u32, NoMemory>
     ensures ok { OnOk result (out.new.items ≡ out.old.items ++ found_of (exact_in boxes.now.bodies boxes.now.tree) query.now) }
+    ensures err { OnErr result (take (length out.old.items) out.new.items ≡ out.old.items) }
     ensures count { IfOk result (λ n. n ≡ visits_by_in boxes.now.tree query.now) }
 {
     match query {
@@ -40,6 +41,7 @@ fn flat_box(at: &Point) -> FBox
 fn descend_along(boxes: &BoxedTree, query: &Query, out: &mut Vec<u32>) -> Result<u32, NoMemory>
     ensures count { IfOk result (λ n. n ≡ visits_by_in boxes.now.tree query.now) }
     ensures ok { OnOk result (out.new.items ≡ out.old.items ++ found_of (exact_in boxes.now.bodies boxes.now.tree) query.now) }
+    ensures err { OnErr result (take (length out.old.items) out.new.items ≡ out.old.items) }
 {
     if let Some(line) = LineTest::of(query) {
         return descend(boxes, &line, out);
