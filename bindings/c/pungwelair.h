@@ -47,12 +47,12 @@ extern "C" {
  * another major number is another library. */
 #define PW_VERSION_MAJOR 0
 #define PW_VERSION_MINOR 6
-#define PW_VERSION_PATCH 1
+#define PW_VERSION_PATCH 2
 #define PW_VERSION_QUOTED(major, minor, patch) #major "." #minor "." #patch
 #define PW_VERSION_OF(major, minor, patch) PW_VERSION_QUOTED(major, minor, patch)
 #define PW_VERSION PW_VERSION_OF(PW_VERSION_MAJOR, PW_VERSION_MINOR, PW_VERSION_PATCH)
 
-/* The same as one number, 6001 for 0.6.1, which pw_version tells of the library. */
+/* The same as one number, 6002 for 0.6.2, which pw_version tells of the library. */
 #define PW_VERSION_NUMBER (PW_VERSION_MAJOR * 1000000u + PW_VERSION_MINOR * 1000u + PW_VERSION_PATCH)
 
 /* The most boxes that live at once. Slots are below it, so an array of this length has room for the answer to any question.
@@ -303,8 +303,8 @@ typedef struct pw_bits_64 {
  * library is the one which it was compiled for. */
 uint32_t pw_version(void);
 
-/* Opens a closed world, with no box. It takes some half a megabyte and what the structure takes (at 8,192 boxes: see
- * docs/LIBRARY.md). PW_ARGUMENT: it is open, or there is no such structure. PW_NO_MEMORY: it stays closed. */
+/* Opens a closed world, with no box. It takes some half a megabyte and what the structure takes (measured in
+ * docs/PERFORMANCE.md). PW_ARGUMENT: it is open, or there is no such structure. PW_NO_MEMORY: it stays closed. */
 pw_status pw_open(pw_world *world, uint32_t structure);
 
 /* Closes a world and frees all its memory. It may be opened again. PW_CLOSED: it was closed. */

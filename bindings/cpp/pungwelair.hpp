@@ -319,7 +319,7 @@ struct Calls<pw_reader> {
 
 // The questions, which a World and a Reader answer alike. They are const, and several threads may ask one of them at once. A call of C
 // takes what it asks out of its two words and puts it back, so a lock is held for the whole of each call, and threads take turns. If
-// nobody else asks that costs some 15 nanoseconds. Readers, one for each thread, are for asking side by side.
+// nobody else asks that costs little. Readers, one for each thread, are for asking side by side.
 template <class Asked, class Words>
 class Questions {
     using Call = Calls<Words>;

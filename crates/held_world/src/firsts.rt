@@ -16,8 +16,8 @@ use live_queries::{Axis, Face, FirstHit};
 
 impl HeldRoom {
     /// Tells of the live box that a ray meets first, the first that `entered` would tell: it, where it is met, and by which side. The
-    /// count is 1, or 0 where it meets none. After any status but `OK`, and where the count is 0, `out` is as before, here and below. The
-    /// last answer stays in the room.
+    /// count is 1, or 0 where it meets none. After any status but `OK`, and where the count is 0, `out` is as before, here and below. No
+    /// list of the room that `hits` and the like fill is touched.
     pub fn first_entered(&mut self, world: &AnyWorld, ray: &PwRay, out: &mut PwHit) -> Reply
         ensures answer { let state = state_of world.now in
             AsksFirst (IsFirstEntered state.time.now.table.entries (ray_in ray.now) (groups_in ray.now.mask)) state.spent result out.old out.new }
