@@ -13,7 +13,8 @@
 // Embree and CGAL keep no pairs. Embree's tree over all boxes is refitted, or built anew, if a box moved, and is collided with itself,
 // on one thread; CGAL intersects all boxes anew. Each pair that they tell is tested exactly. Boost's tree is asked alone.
 //
-//     in_process BOXES FRAMES ROUNDS [LOAD or KIND..]   all loads and all kinds of question, or those that are named
+//     in_process BOXES FRAMES ROUNDS [LOAD, KIND or -ENGINE..]
+//         all loads and all kinds of question, or those that are named; without the engines whose names begin so: "-sap" "-tree, a"
 //     in_process SCENE ROUNDS                           a scene of `add`, `move` and `frame` alone, as bench/physics.cpp writes them
 //     in_process count LOAD ENGINE KIND BOXES QUESTIONS
 //         asks one kind of one engine, whose name begins so, and tells no time: for callgrind, which counts what is inside of
@@ -33,6 +34,7 @@
 #include <limits>
 #include <malloc.h>
 #include <memory>
+#include <numeric>
 #include <string>
 #include <utility>
 #include <vector>
@@ -1015,12 +1017,13 @@ int play_scene(const char *name, int rounds) {
     return 0;
 }
 
-int play_load(const Load &load, int boxes, int frames, int rounds, const std::vector<bool> &wanted) {
+// `played` are the places of the engines that are wanted, of which the first is held to be right.
+int play_load(const Load &load, int boxes, int frames, int rounds, const std::vector<bool> &wanted, const std::vector<size_t> &played) {
     Play all = made(load, boxes, frames, load.questions);
     Times times[engine_count];
     for (int r = load.questions ? -1 : 0; r < rounds; r++)
-        for (size_t e = 0; e < engine_count; e++) play(engines[e], all, wanted, r < 0, times[e]);
-    for (size_t e = 0; e < engine_count; e++) {
+        for (size_t e : played) play(engines[e], all, wanted, r < 0, times[e]);
+    for (size_t e : played) {
         if (!engines[e].has_pairs) continue;
         if (times[e].sum != times[0].sum) return std::fprintf(stderr, "%s, %s: other pairs\n", load.name, engines[e].name), 1;
         std::printf("%-8s %-22s %-18s %12.1f\n", load.name, engines[e].name, "frame", double(times[e].frame) / frames / 1000);
@@ -1030,7 +1033,7 @@ int play_load(const Load &load, int boxes, int frames, int rounds, const std::ve
         if (!wanted[k]) continue;
         // One call for all has the answers of single calls, which are the kind before it.
         size_t right = kinds[k].group == Kind::each && wanted[k - 1] ? k - 1 : k;
-        for (size_t e = 0; e < engine_count; e++) {
+        for (size_t e : played) {
             Compared compared = engines[e].of[kinds[k].group];
             if (compared == not_asked) continue;
             if (!is_same(compared, kinds[k].group, times[e], times[0], k, right))
@@ -1235,20 +1238,27 @@ int main(int argc, char **argv) {
     }
     if (argc == 3) return play_scene(argv[1], std::atoi(argv[2]));
     if (argc < 4)
-        return std::fprintf(stderr, "usage: in_process BOXES FRAMES ROUNDS [LOAD or KIND..], in_process SCENE ROUNDS,\n"
+        return std::fprintf(stderr, "usage: in_process BOXES FRAMES ROUNDS [LOAD, KIND or -ENGINE..], in_process SCENE ROUNDS,\n"
                                     "       in_process count LOAD ENGINE KIND BOXES QUESTIONS, in_process world BOXES,\n"
                                     "       in_process calls BOXES ROUNDS, or in_process kinds\n"),
                2;
     int boxes = std::atoi(argv[1]), frames = std::atoi(argv[2]), rounds = std::atoi(argv[3]);
     std::vector<bool> of_kinds(kind_count), of_loads(sizeof loads / sizeof *loads);
+    std::vector<size_t> played(engine_count);
+    std::iota(played.begin(), played.end(), size_t(0));
     for (int i = 4; i < argc; i++) {
         bool is_known = false;
+        // Plain stays: the others are held to it.
+        auto is_left_out = [&](size_t e) { return e > 0 && argv[i][0] == '-' && !std::strncmp(engines[e].name, argv[i] + 1, std::strlen(argv[i]) - 1); };
+        auto rest = std::remove_if(played.begin(), played.end(), is_left_out);
+        is_known |= rest != played.end();
+        played.erase(rest, played.end());
         auto take = [&](const char *name, std::vector<bool>::reference wanted) {
             if (!std::strcmp(argv[i], name)) wanted = is_known = true;
         };
         for (size_t k = 0; k < kind_count; k++) take(kinds[k].name, of_kinds[k]);
         for (size_t l = 0; l < of_loads.size(); l++) take(loads[l].name, of_loads[l]);
-        if (!is_known) return std::fprintf(stderr, "no load and no kind is named %s\n", argv[i]), 2;
+        if (!is_known) return std::fprintf(stderr, "no load, kind or engine is named %s\n", argv[i]), 2;
     }
     auto all_if_none = [](std::vector<bool> &wanted) {
         if (std::find(wanted.begin(), wanted.end(), true) == wanted.end()) wanted.assign(wanted.size(), true);
@@ -1258,7 +1268,7 @@ int main(int argc, char **argv) {
                 frames, rounds);
     std::printf("%-8s %-22s %-18s %12s %9s\n", "load", "engine", "kind", "time", "found");
     for (size_t l = 0; l < of_loads.size(); l++) {
-        int status = of_loads[l] ? play_load(loads[l], boxes, frames, rounds, of_kinds) : 0;
+        int status = of_loads[l] ? play_load(loads[l], boxes, frames, rounds, of_kinds, played) : 0;
         if (status != 0) return status;
     }
 }
