@@ -29,6 +29,13 @@ const BOXES_PER_STEP: u32 = 16;
 // A scan of so many boxes for a region costs about as much as a look at a cell beside it.
 const BOXES_PER_CELL: u64 = 4;
 
+// A scan of a level costs about as much as a look at the boxes in such a part of its cells: in a scan most boxes are passed by in
+// lanes, while those of cells are looked up one by one.
+const SCAN_OF_CELLS: u64 = 24;
+
+// So many cells a place alone may have beside it: of so few a level isn't scanned.
+const FEWEST_SCANNED: u64 = 8;
+
 /// A scan of a level passes by so many boxes in the time of one comparison in a bucket.
 pub const BOXES_PER_SCANNED: usize = 8;
 
@@ -374,7 +381,21 @@ impl GridBoxes {
         requires { level < LEVELS }
     {
         let boxes = u64::from(self.cells.level_len(level));
-        count_beside(level, region).saturating_mul(BOXES_PER_CELL) > boxes
+        let cells = count_beside(level, region);
+        cells.saturating_mul(BOXES_PER_CELL) > boxes || self.is_large_part(level, cells)
+    }
+
+    // Whether so many cells are so large a part of those of a level that a scan of it costs less, where boxes lie evenly.
+    fn is_large_part(&self, level: u8, cells: u64) -> bool
+        requires { level < LEVELS }
+    {
+        match &self.hull {
+            Some(hull) => {
+                cells > FEWEST_SCANNED
+                    && cells.saturating_mul(SCAN_OF_CELLS) > count_beside(level, hull)
+            }
+            None => false,
+        }
     }
 
     // Whether the cells of a level beside a region share the buckets of a heap, so that a scan of the level costs less.

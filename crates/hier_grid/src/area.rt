@@ -46,8 +46,8 @@ fn meets_part(part: &Option<FBox>, body: &FBox) -> bool
     }
 }
 
-// Whether a box lies in another, if there is one.
-fn is_held(hull: &Option<FBox>, body: &FBox) -> bool
+/// Whether a box lies in another, if there is one.
+pub(crate) fn is_held(hull: &Option<FBox>, body: &FBox) -> bool
     ensures { result ≡ is_held hull.now body.now }
 {
     match hull {

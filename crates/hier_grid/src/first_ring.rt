@@ -1,4 +1,4 @@
-//! Where a visitor of a grid is shown boxes first.
+//! Where a visitor of a grid is shown boxes first, and how much farther the rings after that reach.
 
 use broad_index::Visitor;
 use cell_table::LEVELS;
@@ -9,11 +9,14 @@ use grid_cells::count_beside;
 // So often a hull is halved at most: by 2^32 on each axis.
 const MOST_HALVINGS: u32 = 96;
 
-// So often a cell's side is halved at most: all boxes in one cell then lie about two a part.
-const MOST_PARTINGS: u32 = 4;
+// So often a cell's side is halved at most: into more parts than there can be boxes.
+const MOST_PARTINGS: u32 = 6;
+
+// So many parts of a hull come to a box where parts are half as wide as boxes lie apart.
+const PARTS_PER_BOX: u64 = 8;
 
 /// About the place that a visitor prefers among boxes in a hull, a ring that reaches as far as a cell of the level with most boxes, or
-/// less far in a crowd, and how far that is. It is for speed alone.
+/// in a crowd half as far as boxes lie apart, and how far that is. It is for speed alone.
 pub(crate) fn preferred_ring<V: Visitor>(
     kept: &GridBoxes,
     hull: &FBox,
@@ -22,7 +25,8 @@ pub(crate) fn preferred_ring<V: Visitor>(
     let margin = first_margin(kept, hull);
     let mut place = *hull;
     for _ in 0..MOST_HALVINGS {
-        if place.longest_side() <= margin {
+        // a wider place would make the ring's volume twice as large
+        if place.longest_side() <= margin / 2 {
             break;
         }
         place = preferred_half(&place, visitor);
@@ -30,17 +34,27 @@ pub(crate) fn preferred_ring<V: Visitor>(
     (place.fatten(margin), margin)
 }
 
-// As far as a cell of the level with most boxes, halved until a part of a hull that is so wide has fewer than eight of them.
+/// How much farther the ring after one reaches that reaches so far: twice as far in all, or four times after one that had no box, and
+/// as long as it stays within a cell, since cells are looked at whole. It is for speed alone.
+pub(crate) fn step_beyond(kept: &GridBoxes, margin: u32, had_none: bool) -> u32 {
+    if had_none || margin <= cell_side(fullest_level(kept)) / 4 {
+        margin.saturating_mul(3)
+    } else {
+        margin
+    }
+}
+
+// As far as a cell of the level with most boxes, halved until a hull has so many parts that are so wide.
 fn first_margin(kept: &GridBoxes, hull: &FBox) -> u32 {
     let level = fullest_level(kept);
     let mut margin = cell_side(level);
     if level >= LEVELS {
         return margin;
     }
-    let boxes = kept.level_len(level) as u64;
+    let enough = (kept.level_len(level) as u64).saturating_mul(PARTS_PER_BOX);
     let mut parts = count_beside(level, hull);
     for _ in 0..MOST_PARTINGS {
-        if parts > boxes / 8 {
+        if parts > enough {
             break;
         }
         parts = parts.saturating_mul(8);

@@ -5,10 +5,11 @@ ghost use Rattle.std.specs.Prelude.{◌≡◌, ℕ, ◌++◌, Some, List, IsTrue
 ghost use Rattle.std.specs.FinMap as map;
 ghost use Rattle.fixed_box.specs.Bounds.{Bounds, encloses, meets};
 ghost use Rattle.hier_grid.specs.Visits.{entries_in, in_area};
+ghost use Rattle.hier_grid.specs.declared.area.Area.TheVariants.{Rest};
 
-use crate::area::{Area, keep_area};
+use crate::area::{Area, is_held, keep_area};
 use crate::box_cut::cut_at;
-use crate::first_ring::{is_crowded, preferred_ring};
+use crate::first_ring::{is_crowded, preferred_ring, step_beyond};
 use crate::grid::HierGrid;
 use crate::hits::push_hits_in;
 use broad_index::{Query, Visitor, listed_law, show_slots};
@@ -54,22 +55,41 @@ fn show_rings<V: Visitor>(
     ensures kept { OnOk result (V.keeps visitor.old visitor.new) }
 {
     box_laws();
-    grid.kept().sized_law();
     let mut inner = None;
     let (mut ring, mut margin) = preferred_ring(grid.kept(), hull, visitor);
     let mut rings = MOST_RINGS;
     'rings: while rings > 0 && looks_beyond(&ring, hull, visitor) {
         show_area(grid, &Area::Ring { ring, inner }, &ring, slots, visitor)?;
         inner = Some(ring);
-        // twice as wide, or four times if there was nothing
-        let by = if slots.is_empty() {
-            margin.saturating_mul(3)
-        } else {
-            margin
-        };
+        let by = step_beyond(grid.kept(), margin, slots.is_empty());
         ring = ring.fatten(by);
         margin = margin.saturating_add(by);
         rings -= 1;
+    }
+    show_rest(grid, inner, hull, slots, visitor)?;
+    Ok(())
+}
+
+// Shows the boxes that don't meet a ring, except those that need not be shown, as none need where all that the visitor still looks for
+// lies in the ring.
+fn show_rest<V: Visitor>(
+    grid: &HierGrid,
+    inner: Option<FBox>,
+    hull: &FBox,
+    slots: &mut Vec<u32>,
+    visitor: &mut V,
+) -> Result<(), NoMemory>
+    requires { (slot : ℕ) (b : Bounds) → map.get grid.now slot ≡ Some b → IsTrue (encloses hull.now b) }
+    ensures seen { OnOk result ((seen : List (ℕ × Bounds)) → V.saw visitor.old seen
+        → V.saw visitor.new (seen ++ entries_in (in_area (Rest inner)) grid.now)) }
+    ensures kept { OnOk result (V.keeps visitor.old visitor.new) }
+{
+    box_laws();
+    let kept = grid.kept();
+    kept.sized_law();
+    kept.space_law();
+    if is_held(&inner, &visitor.query().region()) {
+        return Ok(());
     }
     show_area(grid, &Area::Rest { inner }, hull, slots, visitor)?;
     Ok(())

@@ -1,10 +1,9 @@
 -- A ring after another is seen, and then what none of them meets.
-use Rattle.std.proofs.Common.{not, ◌&&◌, None, refl, ap, ◌∙◌}
+use Rattle.std.proofs.Common.{not, ◌&&◌, None, refl}
 use Rattle.std.proofs.lemmas.Bool.{and_parts, false≢true}
 use Rattle.fixed_box.specs.Bounds.{meets}
-use Rattle.std.specs.FinMap.{get}
 use Rattle.grid_boxes.specs.Grid.{meets_part}
-use Rattle.hier_grid.proofs.VisitLemmas.{held_meets, saw_all, saw_more, saw_none, inner_left}
+use Rattle.hier_grid.proofs.VisitLemmas.{saw_all, saw_more, saw_none, inner_left}
 use Rattle.hier_grid.proofs.visits.show_rings.Goals as goal
 
 pub rings-init : goal.rings-init
@@ -25,15 +24,12 @@ rings-preserved g c = (
   ),
 )
 
-pub show_area-requires-2 : goal.show_area-requires-2
-show_area-requires-2 g c slot b e h = held_meets c.args.hull.now b (c.sized_law.ensures slot b (ap (λ m. get m slot) c.kept.ensures ∙ e)).ordered (c.requires slot b e)
-
 pub returns-clause-seen : goal.returns-clause-seen
 returns-clause-seen g c =
-    saw_all c.args.grid.now (g.V.Visitor.saw c.args.visitor.now) (g.V.Visitor.saw c.rings.visitor) (g.V.Visitor.saw c.show_area-2.new.visitor)
-    (meets_part c.rings.inner) (λ b. not (meets_part c.rings.inner b)) (g.met.V.Visitor.any_order c.show_area-2.new.visitor)
-    (λ b. refl) c.rings.invariant.0 c.in_ok-show_area-2.ensures.seen
+    saw_all c.args.grid.now (g.V.Visitor.saw c.args.visitor.now) (g.V.Visitor.saw c.rings.visitor) (g.V.Visitor.saw c.show_rest.new.visitor)
+    (meets_part c.rings.inner) (λ b. not (meets_part c.rings.inner b)) (g.met.V.Visitor.any_order c.show_rest.new.visitor)
+    (λ b. refl) c.rings.invariant.0 c.in_ok-show_rest.ensures.seen
 
 pub returns-clause-kept : goal.returns-clause-kept
 returns-clause-kept g c =
-    g.met.V.Visitor.keeps_on c.args.visitor.now c.rings.visitor c.show_area-2.new.visitor c.rings.invariant.1.0 c.in_ok-show_area-2.ensures.kept
+    g.met.V.Visitor.keeps_on c.args.visitor.now c.rings.visitor c.show_rest.new.visitor c.rings.invariant.1.0 c.in_ok-show_rest.ensures.kept
