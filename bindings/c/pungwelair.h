@@ -47,12 +47,12 @@ extern "C" {
  * another major number is another library. */
 #define PW_VERSION_MAJOR 0
 #define PW_VERSION_MINOR 6
-#define PW_VERSION_PATCH 2
+#define PW_VERSION_PATCH 3
 #define PW_VERSION_QUOTED(major, minor, patch) #major "." #minor "." #patch
 #define PW_VERSION_OF(major, minor, patch) PW_VERSION_QUOTED(major, minor, patch)
 #define PW_VERSION PW_VERSION_OF(PW_VERSION_MAJOR, PW_VERSION_MINOR, PW_VERSION_PATCH)
 
-/* The same as one number, 6002 for 0.6.2, which pw_version tells of the library. */
+/* The same as one number, 6003 for 0.6.3, which pw_version tells of the library. */
 #define PW_VERSION_NUMBER (PW_VERSION_MAJOR * 1000000u + PW_VERSION_MINOR * 1000u + PW_VERSION_PATCH)
 
 /* The most boxes that live at once. Slots are below it, so an array of this length has room for the answer to any question.

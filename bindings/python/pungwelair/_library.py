@@ -210,7 +210,7 @@ for _name, _types in ASKS.items():
 
 
 def version() -> int:
-    """The version of the library that runs, as one number: 6002 for 0.6.2."""
+    """The version of the library that runs, as one number: 6003 for 0.6.3."""
     return int(library.pw_version())
 
 
